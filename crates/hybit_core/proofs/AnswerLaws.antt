@@ -1,0 +1,79 @@
+-- Laws of answers: a chain of checks at each return of the code that runs it, and what an accepted chain says. Assumes nothing.
+use mathlib.Core.Path.{_≡_, refl, sym, _∙_, ap}
+use mathlib.Core.Bool.{Bool, true, false}
+use Prim.Native.Nat.{ℕ}
+use borrow.Author.Tests.{eq-eqb, ne-eqb}
+use Rattle.hybit_core.specs.Answer.{Told, plain, lengthsDiffer, Answer, accepted, refused, demand, lengthIs, _andThen_, numberIn, Given, gives, refuses, answers}
+use Rattle.hybit_core.specs.Table.{paper, told}
+use Rattle.hybit_core.specs.declared.Verdict.{Verdict}
+use Rattle.hybit_core.specs.declared.Verdict.the-variants.{Accepted, Refused}
+use Rattle.hybit_core.specs.declared.HybitError.{HybitError}
+
+-- ---- what an accepted chain says of each check
+
+pub demand-accepted : (b : Bool) (n : ℕ) → demand b n ≡ accepted → b ≡ true
+demand-accepted true n e = refl
+demand-accepted false n e = cc
+
+pub then-first : (a b : Answer) → a andThen b ≡ accepted → a ≡ accepted
+then-first accepted b e = refl
+then-first (refused t) b e = cc
+
+pub then-second : (a b : Answer) → a andThen b ≡ accepted → b ≡ accepted
+then-second accepted b e = e
+then-second (refused t) b e = cc
+
+-- ---- one check of a chain, at a return: it fails, or it passes and the rest decides
+
+pub test-fails : (b : Bool) (n : ℕ) (rest : Answer) → false ≡ b → refused (plain n) ≡ demand b n andThen rest
+test-fails b n rest e = rw (← e)
+
+pub test-passes : (b : Bool) (n : ℕ) (a rest : Answer) → true ≡ b → a ≡ rest → a ≡ demand b n andThen rest
+test-passes b n a rest e k = rw (← e) k
+
+pub last-fails : (b : Bool) (n : ℕ) → false ≡ b → refused (plain n) ≡ demand b n
+last-fails b n e = rw (← e)
+
+pub last-passes : (b : Bool) (n : ℕ) → true ≡ b → accepted ≡ demand b n
+last-passes b n e = rw (← e)
+
+pub length-wrong : (e n : ℕ) (b : Answer) → (n ≡ e → ⊥) → refused (lengthsDiffer e n) ≡ lengthIs e n andThen b
+length-wrong e n b h = rw (ne-eqb n e h)
+
+pub length-right : (e n : ℕ) (b c : Answer) → n ≡ e → c ≡ b → c ≡ lengthIs e n andThen b
+length-right e n b c h r = rw (eq-eqb n e h) r
+
+pub last-length-wrong : (e n : ℕ) → (n ≡ e → ⊥) → refused (lengthsDiffer e n) ≡ lengthIs e n
+last-length-wrong e n h = rw (ne-eqb n e h)
+
+pub last-length-right : (e n : ℕ) → n ≡ e → accepted ≡ lengthIs e n
+last-length-right e n h = rw (eq-eqb n e h)
+
+-- a chain whose first part is a call that gave the verdict v
+pub call-refused : (a b : Answer) (v : Verdict) (e : HybitError) → told v ≡ a → v ≡ Refused e → refused (paper e) ≡ a andThen b
+call-refused a b v e h k = let is : a ≡ refused (paper e) = sym h ∙ ap told k in rw is
+
+pub call-accepted : (a b c : Answer) (v : Verdict) → told v ≡ a → v ≡ Accepted → c ≡ b → c ≡ a andThen b
+call-accepted a b c v h k r = let is : a ≡ accepted = sym h ∙ ap told k in rw is r
+
+pub ruleset checks = (test-fails, test-passes, last-fails, last-passes, call-refused, call-accepted, length-wrong, length-right, last-length-wrong, last-length-right)
+
+-- ---- a call whose checks a callee has run, which gave the verdict v
+
+pub accepted-by : (a : Answer) (v : Verdict) → told v ≡ a → v ≡ Accepted → a ≡ accepted
+accepted-by a v h k = sym h ∙ ap told k
+
+pub refused-by : (a : Answer) (v : Verdict) (e : HybitError) → told v ≡ a → v ≡ Refused e → a ≡ refused (paper e)
+refused-by a v e h k = sym h ∙ ap told k
+
+pub number-by : (a : Answer) (v : Verdict) (n : ℕ) → told v ≡ a → n ≡ numberIn (told v) → n ≡ numberIn a
+number-by a v n h e = e ∙ ap numberIn h
+
+-- the result beside it
+pub given-refused : {A : Type 0} (a : Answer) (x : A) (v : Verdict) (e : HybitError) → told v ≡ a → v ≡ Refused e → refuses (paper e) ≡ answers a x
+given-refused a x v e h k = rw (refused-by a v e h k)
+
+pub given-accepted : {A : Type 0} (a : Answer) (x y : A) (v : Verdict) → told v ≡ a → v ≡ Accepted → y ≡ x → gives y ≡ answers a x
+given-accepted a x y v h k r = rw (accepted-by a v h k) (ap gives r)
+
+pub ruleset outcomes = (accepted-by, number-by, given-refused, given-accepted)

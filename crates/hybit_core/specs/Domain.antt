@@ -1,0 +1,18 @@
+-- The limits of document 01's domain.
+use Prim.Native.Nat.{ℕ, _^_}
+use mathlib.Core.Bool.{Bool}
+use lib.Dec.{leb}
+
+-- rows, columns and mask lengths: up to 1,048,576
+abbrev pub maxDimension : ℕ
+maxDimension = 2 ^ 20
+
+-- stored entries, words, tiles and blocks: up to 16,777,216
+abbrev pub maxEntries : ℕ
+maxEntries = 2 ^ 24
+
+abbrev pub few : ℕ → Bool
+few n = leb n maxDimension
+
+abbrev pub many : ℕ → Bool
+many n = leb n maxEntries

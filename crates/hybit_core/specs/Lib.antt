@@ -1,0 +1,4 @@
+pub mod Answer
+pub mod Table
+pub mod Domain
+pub mod Floats

@@ -1,0 +1,140 @@
+-- Laws of lent lists: what they hold while they are cleared or filled, and after a call whose checks gave an answer. Assumes nothing.
+use mathlib.Core.Path.{_≡_, refl, sym, ap, ap₂, _∙_}
+use mathlib.Core.List.{List, [], _∷_, _++_, append-assoc, append-nil}
+use Prim.Native.Nat.{ℕ, zero, suc, _+_, _-_, _≤_, _<_}
+use native.Mathlib.Nat.{sub-zero, add-zero}
+use native.Mathlib.Numerals.{add-one}
+use native.Mathlib.Omega.{arith}
+use lib.ListN.{length, take, drop, getD, set, replicate, length-append, length-replicate, length-set, length-drop, drop-of-length-le, replicate-append-replicate}
+use lib.Seq.{take-all, take-at, take-suc-set, length-take-le, drop-cons, set-at, append-snoc}
+use Rattle.hybit_core.specs.Answer.{Answer, accepted, refused}
+use Rattle.hybit_core.specs.Table.{paper, told}
+use Rattle.hybit_core.specs.declared.Verdict.{Verdict}
+use Rattle.hybit_core.specs.declared.Verdict.the-variants.{Accepted, Refused}
+use Rattle.hybit_core.specs.declared.HybitError.{HybitError}
+use Rattle.hybit_core.proofs.AnswerLaws.{accepted-by, refused-by}
+use Rattle.lent.specs.Lists.{joined, each}
+use Rattle.lent.specs.Lent.{padded, built, kept, handed, Appended}
+use Rattle.lent.proofs.ListLaws.{length-each}
+
+-- ---- padded
+
+module _ {A : Type 0} (z : A) where
+  -- nothing written: all zeros
+  pub padded-none : (n : ℕ) → padded z n [] ≡ replicate n z
+  unfolding padded
+  padded-none n = ap (λ (k : ℕ). replicate k z) (sub-zero n)
+
+  pub length-padded : (n : ℕ) (l : List A) → length l ≤ n → length (padded z n l) ≡ n
+  unfolding padded
+  length-padded n l h = simp (length-append, length-replicate) (omega arith)
+
+  -- no place is left
+  pub padded-full : (n : ℕ) (l : List A) → length l ≡ n → padded z n l ≡ l
+  unfolding padded
+  padded-full n l e = let s : n - length l ≡ 0 = omega arith in rw (s, append-nil)
+
+  -- one place more
+  pub padded-suc : (n : ℕ) (l : List A) → length l ≤ n → padded z (n + 1) l ≡ padded z n l ++ (z ∷ [])
+  unfolding padded
+  padded-suc n l h =
+      let s : n + 1 - length l ≡ n - length l + 1 = omega arith in
+      rw (s, ← replicate-append-replicate (n - length l) 1 z) (sym (append-assoc l (replicate (n - length l) z) (z ∷ [])))
+
+  -- a store in the used part
+  pub padded-set : (n k : ℕ) (l : List A) (v : A) → k < length l → set (padded z n l) k v ≡ padded z n (set l k v)
+  unfolding padded
+  padded-set n k l v h = set-front l (replicate (n - length l) z) k h ∙ ap (λ (m : ℕ). set l k v ++ replicate (n - m) z) (sym (length-set l k v))
+    where
+      set-front : (a b : List A) (i : ℕ) → i < length a → set (a ++ b) i v ≡ set a i v ++ b
+      set-front [] b i l = absurd (omega arith)
+      set-front (x ∷ a) b zero l = refl
+      set-front (x ∷ a) b (suc i) l = ap (λ (t : List A). x ∷ t) (set-front a b i (omega arith))
+
+-- what an accepted build left, handed on by its used part, is the result
+pub handed-used : {A : Type 0} (z : A) (n : ℕ) (a : Answer) (used : ℕ) (l : List A) → a ≡ accepted → length l ≡ used → handed z n a used l ≡ l
+unfolding padded
+handed-used z n a used l e u = ap (λ (b : Answer). handed z n b used l) e ∙ take-at l (replicate (n - length l) z) used u
+
+-- ---- clearing from a place on: i is the next to be cleared
+
+pub record Cleared {A : Type 0} (z : A) (from : ℕ) (old : List A) (i : ℕ) (new : List A) : Type 0 where
+  pub after : from ≤ i
+  pub inside : i ≤ length old
+  pub same : length new ≡ length old
+  pub front : take i new ≡ padded z i (take from old)
+
+module _ {A : Type 0} (z : A) (from : ℕ) (old : List A) where
+  pub cleared-past : length old ≤ from → old ≡ padded z (length old) (take from old)
+  cleared-past h = let all : take from old ≡ old = take-all from old h in sym (ap (padded z (length old)) all ∙ padded-full z (length old) old refl)
+
+  pub cleared-none : from ≤ length old → Cleared z from old from old
+  cleared-none h = record {
+    after = omega arith;
+    inside = h;
+    same = refl;
+    front = sym (padded-full z from (take from old) (length-take-le from old h));
+  }
+
+  module _ (i : ℕ) (new : List A) (inv : Cleared z from old i new) where
+    pub cleared-more : i < length new → Cleared z from old (i + 1) (set new i z)
+    cleared-more h =
+        let short : length (take from old) ≤ i = rw (length-take-le from old (omega (arith, inv .after, inv .inside))) (inv .after) in
+        record {
+          after = omega (arith, inv .after);
+          inside = omega (arith, inv .same);
+          same = length-set new i z ∙ inv .same;
+          front = rw (padded-suc z i (take from old) short, ← inv .front, add-one) (take-suc-set new i z h);
+        }
+
+    pub cleared-done : length new ≤ i → new ≡ padded z (length old) (take from old)
+    cleared-done h =
+        let e : i ≡ length old = omega (arith, inv .inside, inv .same) in
+        sym (take-all i new h) ∙ inv .front ∙ ap (λ (n : ℕ). padded z n (take from old)) e
+
+-- ---- filling from the front, one store a turn: the first r are f's, and the others as they were
+
+pub record Filled {A : Type 0} (f : ℕ → A) (old : List A) (r : ℕ) (new : List A) : Type 0 where
+  pub is : new ≡ each f r ++ drop r old
+
+module _ {A : Type 0} (f : ℕ → A) (old : List A) where
+  pub filled-none : Filled f old 0 old
+  unfolding each joined
+  filled-none = record { is = refl }
+
+  module _ (r : ℕ) (new : List A) (inv : Filled f old r new) where
+    pub filled-length : r ≤ length old → length new ≡ length old
+    filled-length h = ap length (inv .is) ∙ simp (length-append, length-each, length-drop) (omega arith)
+
+    each-suc : each f (r + 1) ≡ each f r ++ (f r ∷ [])
+    unfolding each joined
+    each-suc = ap (each f) (add-one r)
+
+    pub filled-more : (v : A) → v ≡ f r → r < length old → Filled f old (r + 1) (set new r v)
+    filled-more v e h =
+        let front : List A = each f r in
+        let rest : List A = drop (suc r) old in
+        let was : new ≡ front ++ getD old r v ∷ rest = inv .is ∙ rw (drop-cons old r v) in
+        let then : each f (r + 1) ++ drop (r + 1) old ≡ front ++ v ∷ rest = rw (each-suc, add-one, append-snoc, ← e) in
+        record { is = ap (λ (t : List A). set t r v) was ∙ set-at front (getD old r v) rest v r (length-each f r) ∙ sym then }
+
+    pub filled-done : (n : ℕ) → length old ≡ n → r ≤ n → n ≤ r → new ≡ each f n
+    filled-done n h o o′ =
+        let same : r ≡ n = omega arith in
+        let all : length old ≤ r = omega arith in
+        inv .is ∙ rw (drop-of-length-le, append-nil, same)
+
+-- ---- what a list holds after a call whose checks gave the verdict v
+
+module _ {A : Type 0} (a : Answer) (v : Verdict) (h : told v ≡ a) where
+  pub kept-refused : (e : HybitError) (new old : List A) → v ≡ Refused e → old ≡ kept a new old
+  kept-refused e new old k = rw (refused-by a v e h k)
+
+  pub kept-accepted : (new old out : List A) → v ≡ Accepted → out ≡ new → out ≡ kept a new old
+  kept-accepted new old out k r = rw (accepted-by a v h k) r
+
+  pub built-refused : (z : A) (n : ℕ) (e : HybitError) (new out : List A) → v ≡ Refused e → out ≡ padded z n [] → out ≡ built z n a new
+  built-refused z n e new out k r = rw (refused-by a v e h k) r
+
+  pub built-accepted : (z : A) (n : ℕ) (new out : List A) → v ≡ Accepted → out ≡ padded z n new → out ≡ built z n a new
+  built-accepted z n new out k r = rw (accepted-by a v h k) r

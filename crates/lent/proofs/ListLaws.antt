@@ -1,0 +1,208 @@
+-- Laws of lists made row after row, and of tests over lists. Assumes nothing.
+use mathlib.Core.Bool.{Bool, true, false, not, cond, _&&_, _||_, true≢false, false≢true}
+use mathlib.Core.List.{List, [], _∷_, _++_, map, zip, zipWith, foldl, append-assoc, append-nil}
+use mathlib.Core.Path.{_≡_, refl, sym, ap, ap₂, _∙_, subst}
+use Prim.Native.Nat.{ℕ, zero, suc, _+_, _-_, _≤_, _<_}
+use native.Mathlib.Nat.{add-zero, add-suc, suc-add, zero-add, sub-zero, le-refl, not-suc-le-zero}
+use native.Mathlib.Numerals.{add-one}
+use native.Mathlib.Decide.{le-ind, decLt}
+use native.Mathlib.Omega.{arith}
+use lib.Dec.{leb, eqb, ltb}
+use lib.ListN.{length, getD, take, drop, length-append, length-map, List·getD-append}
+use lib.Seq.{slice, take-at, drop-at, getD-at, getD-append-add, getD-append-seam}
+use Rattle.hybit_core.proofs.BoolLaws.{and-left, and-right, and-both}
+use Rattle.lent.specs.Lists.{joined, each, starts, part, consIf, only, every, some, first, spread}
+
+module _ {A : Type 0} where
+  slice-mid : (a b c : List A) (i j : ℕ) → i ≡ length a → j ≡ length a + length b → slice i j ((a ++ b) ++ c) ≡ b
+  slice-mid a b c i j p q =
+      let e : length (a ++ b) ≡ j = length-append a b ∙ sym q in
+      ap (drop i) (take-at (a ++ b) c j e) ∙ drop-at a b i (sym p)
+
+  -- the rows before r, row r, and the rest
+  pub joined-split : (f : ℕ → List A) (r n : ℕ) → r ≤ n → (rest : List A) × (joined f n ≡ joined f r ++ rest)
+  unfolding joined
+  joined-split f r n h =
+      le-ind (λ (k : ℕ). (rest : List A) × (joined f k ≡ joined f r ++ rest)) ([], sym (append-nil (joined f r)))
+      (λ k l e. (e .0 ++ f k, ap (λ (s : List A). s ++ f k) (e .1) ∙ append-assoc (joined f r) (e .0) (f k))) n h
+
+  pub joined-at : (f : ℕ → List A) (r n : ℕ) → r < n → (rest : List A) × (joined f n ≡ (joined f r ++ f r) ++ rest)
+  unfolding joined
+  joined-at f r n h = joined-split f (suc r) n h
+
+  pub length-joined-suc : (f : ℕ → List A) (r : ℕ) → length (joined f (suc r)) ≡ length (joined f r) + length (f r)
+  unfolding joined
+  length-joined-suc f r = length-append (joined f r) (f r)
+
+  pub getD-joined : (f : ℕ → List A) (r n k : ℕ) (d : A) → r < n → k < length (f r) → getD (joined f n) (length (joined f r) + k) d ≡ getD (f r) k d
+  getD-joined f r n k d h l =
+      let s = joined-at f r n h in
+      ap (λ (t : List A). getD t (length (joined f r) + k) d) (s .1 ∙ append-assoc (joined f r) (f r) (s .0))
+      ∙ getD-append-add (joined f r) (f r ++ s .0) k d ∙ List·getD-append (f r) (s .0) d k l
+
+  pub length-joined-le : (f : ℕ → List A) (r n : ℕ) → r ≤ n → length (joined f r) ≤ length (joined f n)
+  length-joined-le f r n h = let s = joined-split f r n h in omega (arith, ap length (s .1), length-append (joined f r) (s .0))
+
+  -- f 0, f 1, ..
+
+  pub length-each : (f : ℕ → A) (n : ℕ) → length (each f n) ≡ n
+  unfolding each joined
+  length-each f zero = refl
+  length-each f (suc n) = length-append (joined (λ k. f k ∷ []) n) (f n ∷ []) ∙ ap (λ (m : ℕ). m + 1) (length-each f n) ∙ add-one n
+
+  pub getD-each : (f : ℕ → A) (n k : ℕ) (d : A) → k < n → getD (each f n) k d ≡ f k
+  unfolding each
+  getD-each f n k d h =
+      let e : length (joined (λ k. f k ∷ []) k) + 0 ≡ k = omega (arith, length-each f k) in
+      ap (λ (m : ℕ). getD (joined (λ k. f k ∷ []) n) m d) (sym e) ∙ getD-joined (λ k. f k ∷ []) k n 0 d h (omega arith)
+
+module _ {A : Type 0} where
+  pub getD-starts : (f : ℕ → List A) (n r : ℕ) → r ≤ n → getD (starts f n) r 0 ≡ length (joined f r)
+  unfolding starts
+  getD-starts f n r h = getD-each (λ r. length (joined f r)) (suc n) r 0 (omega arith)
+
+  pub length-starts : (f : ℕ → List A) (n : ℕ) → length (starts f n) ≡ suc n
+  unfolding starts
+  length-starts f n = length-each (λ r. length (joined f r)) (suc n)
+
+module _ {A B : Type 0} where
+  pub joined-lengths : (f : ℕ → List A) (g : ℕ → List B) (n : ℕ) → ((r : ℕ) → length (f r) ≡ length (g r)) → length (joined f n) ≡ length (joined g n)
+  unfolding joined
+  joined-lengths f g zero h = refl
+  joined-lengths f g (suc n) h = omega (arith, length-append (joined f n) (f n), length-append (joined g n) (g n), joined-lengths f g n h, h n)
+
+  -- row r of a list made row after row, by pointers of rows of the same lengths
+  pub part-joined : (g : ℕ → List B) (f : ℕ → List A) (n r : ℕ) → ((r : ℕ) → length (f r) ≡ length (g r)) → r < n → part (starts g n) (joined f n) r ≡ f r
+  unfolding part
+  part-joined g f n r same h =
+      let s = joined-at f r n h in
+      let i : getD (starts g n) r 0 ≡ length (joined f r) = getD-starts g n r (omega arith) ∙ sym (joined-lengths f g r same) in
+      let j : getD (starts g n) (r + 1) 0 ≡ length (joined f r) + length (f r) =
+      getD-starts g n (r + 1) (omega arith) ∙ ap (λ (m : ℕ). length (joined g m)) (add-one r) ∙ sym (joined-lengths f g (suc r) same) ∙ length-joined-suc f r in
+      ap (slice (getD (starts g n) r 0) (getD (starts g n) (r + 1) 0)) (s .1) ∙ slice-mid (joined f r) (f r) (s .0) (getD (starts g n) r 0) (getD (starts g n) (r + 1) 0) i j
+
+  pub zip-maps : {C : Type 0} (f : C → A) (g : C → B) (l : List C) → zip (map f l) (map g l) ≡ map (λ c. (f c, g c)) l
+  unfolding zip zipWith
+  zip-maps f g [] = refl
+  zip-maps f g (c ∷ l) = ap (λ (t : List (A × B)). (f c, g c) ∷ t) (zip-maps f g l)
+
+  pub foldl-map : {C : Type 0} (f : C → A → C) (g : B → A) (s : C) (l : List B) → foldl f s (map g l) ≡ foldl (λ (t : C) (b : B). f t (g b)) s l
+  foldl-map f g s [] = refl
+  foldl-map f g s (b ∷ l) = foldl-map f g (f s (g b)) l
+
+  pub getD-map-lt : (f : A → B) (l : List A) (k : ℕ) (d : A) (e : B) → k < length l → getD (map f l) k e ≡ f (getD l k d)
+  getD-map-lt f [] k d e h = absurd (not-suc-le-zero h)
+  getD-map-lt f (a ∷ l) zero d e h = refl
+  getD-map-lt f (a ∷ l) (suc k) d e h = getD-map-lt f l k d e (omega arith)
+
+pub map-id : {A : Type 0} (l : List A) → map (λ a. a) l ≡ l
+map-id [] = refl
+map-id (a ∷ l) = ap (λ (t : List _). a ∷ t) (map-id l)
+
+-- ---- tests over lists
+
+module _ {A : Type 0} where
+  -- elements in p are all in q: keeping q first changes nothing
+  pub only-only : (p q : A → Bool) (l : List A) → every (λ a. not (p a) || q a) l ≡ true → only p (only q l) ≡ only p l
+  unfolding only every
+  only-only p q [] e = refl
+  only-only p q (a ∷ l) e = go (p a) (q a) refl e (only-only p q l (and-right (not (p a) || q a) (every (λ a. not (p a) || q a) l) e))
+    where
+      go : (s t : Bool) → p a ≡ s → ((not s || t) && every (λ a. not (p a) || q a) l) ≡ true → only p (only q l) ≡ only p l
+          → only p (consIf t a (only q l)) ≡ consIf s a (only p l)
+      go true true x e h = ap (λ (b : Bool). consIf b a (only p (only q l))) x ∙ ap (λ (m : List A). a ∷ m) h
+      go true false x e h = absurd (false≢true e)
+      go false true x e h = ap (λ (b : Bool). consIf b a (only p (only q l))) x ∙ h
+      go false false x e h = h
+
+  pub every-all : (p : A → Bool) (l : List A) → ((a : A) → p a ≡ true) → every p l ≡ true
+  unfolding every
+  every-all p [] h = refl
+  every-all p (a ∷ l) h = and-both (p a) (every p l) (h a) (every-all p l h)
+
+  pub length-only : (p : A → Bool) (l : List A) → length (only p l) ≤ length l
+  unfolding only
+  length-only p [] = le-refl 0
+  length-only p (a ∷ l) = go (p a) (length-only p l)
+    where
+      go : (t : Bool) → length (only p l) ≤ length l → length (consIf t a (only p l)) ≤ suc (length l)
+      go true h = omega arith
+      go false h = omega arith
+
+  pub every-only : (p q : A → Bool) (l : List A) → every p l ≡ true → every p (only q l) ≡ true
+  unfolding only every
+  every-only p q [] e = refl
+  every-only p q (a ∷ l) e = go (q a) (every-only p q l (and-right (p a) (every p l) e))
+    where
+      go : (t : Bool) → every p (only q l) ≡ true → every p (consIf t a (only q l)) ≡ true
+      go true h = and-both (p a) (every p (only q l)) (and-left (p a) (every p l) e) h
+      go false h = h
+
+  pub every-append : (p : A → Bool) (l m : List A) → every p l ≡ true → every p m ≡ true → every p (l ++ m) ≡ true
+  unfolding every
+  every-append p [] m d e = e
+  every-append p (a ∷ l) m d e = and-both (p a) (every p (l ++ m)) (and-left (p a) (every p l) d) (every-append p l m (and-right (p a) (every p l) d) e)
+
+  pub every-joined : (p : A → Bool) (f : ℕ → List A) (n : ℕ) → ((r : ℕ) → r < n → every p (f r) ≡ true) → every p (joined f n) ≡ true
+  unfolding every joined
+  every-joined p f zero h = refl
+  every-joined p f (suc n) h = every-append p (joined f n) (f n) (every-joined p f n (λ r l. h r (omega arith))) (h n (omega arith))
+
+pub every-map : {A B : Type 0} (p : B → Bool) (f : A → B) (l : List A) → every p (map f l) ≡ every (λ a. p (f a)) l
+unfolding every
+every-map p f [] = refl
+every-map p f (a ∷ l) = ap (λ (t : Bool). p (f a) && t) (every-map p f l)
+
+pub every-getD : {A : Type 0} (p : A → Bool) (l : List A) (k : ℕ) (d : A) → every p l ≡ true → k < length l → p (getD l k d) ≡ true
+unfolding every
+every-getD p [] k d e h = absurd (not-suc-le-zero h)
+every-getD p (a ∷ l) zero d e h = and-left (p a) (every p l) e
+every-getD p (a ∷ l) (suc k) d e h = every-getD p l k d (and-right (p a) (every p l) e) (omega arith)
+
+pub joined-cong : {A : Type 0} (f g : ℕ → List A) (n : ℕ) → ((r : ℕ) → r < n → f r ≡ g r) → joined f n ≡ joined g n
+unfolding joined
+joined-cong f g zero h = refl
+joined-cong f g (suc n) h = ap₂ (λ (s t : List _). s ++ t) (joined-cong f g n (λ r l. h r (omega arith))) (h n (omega arith))
+
+pub joined-le : {A B : Type 0} (f : ℕ → List A) (g : ℕ → List B) (n : ℕ) → ((r : ℕ) → r < n → length (f r) ≤ length (g r)) → length (joined f n) ≤ length (joined g n)
+unfolding joined
+joined-le f g zero h = le-refl 0
+joined-le f g (suc n) h = omega (arith, length-append (joined f n) (f n), length-append (joined g n) (g n), joined-le f g n (λ r l. h r (omega arith)), h n (omega arith))
+
+pub every-drop : {A : Type 0} (p : A → Bool) (k : ℕ) (l : List A) → every p l ≡ true → every p (drop k l) ≡ true
+unfolding every
+every-drop p zero l e = e
+every-drop p (suc k) [] e = refl
+every-drop p (suc k) (a ∷ l) e = every-drop p k l (and-right (p a) (every p l) e)
+
+pub every-take : {A : Type 0} (p : A → Bool) (k : ℕ) (l : List A) → every p l ≡ true → every p (take k l) ≡ true
+unfolding every
+every-take p zero l e = refl
+every-take p (suc k) [] e = refl
+every-take p (suc k) (a ∷ l) e = and-both (p a) (every p (take k l)) (and-left (p a) (every p l) e) (every-take p k l (and-right (p a) (every p l) e))
+
+pub every-part : {A : Type 0} (p : A → Bool) (ptr : List ℕ) (l : List A) (r : ℕ) → every p l ≡ true → every p (part ptr l r) ≡ true
+unfolding part
+every-part p ptr l r e = every-drop p (getD ptr r 0) (take (getD ptr (r + 1) 0) l) (every-take p (getD ptr (r + 1) 0) l e)
+
+pub every-zip : {A B : Type 0} (p : A → Bool) (q : B → Bool) (l : List A) (m : List B) → every p l ≡ true → every q m ≡ true → every (λ (e : A × B). p (e .0) && q (e .1)) (zip l m) ≡ true
+unfolding every zip zipWith
+every-zip p q [] m d e = refl
+every-zip p q (a ∷ l) [] d e = refl
+every-zip p q (a ∷ l) (b ∷ m) d e =
+    and-both (p a && q b) (every (λ (e : _ × _). p (e .0) && q (e .1)) (zip l m)) (and-both (p a) (q b) (and-left (p a) (every p l) d) (and-left (q b) (every q m) e))
+    (every-zip p q l m (and-right (p a) (every p l) d) (and-right (q b) (every q m) e))
+
+pub spread-append : {A B : Type 0} (f : A → List B) (l m : List A) → spread f (l ++ m) ≡ spread f l ++ spread f m
+unfolding spread
+spread-append f [] m = refl
+spread-append f (a ∷ l) m = ap (λ (t : List _). f a ++ t) (spread-append f l m) ∙ sym (append-assoc (f a) (spread f l) (spread f m))
+
+pub only-append : {A : Type 0} (p : A → Bool) (l m : List A) → only p (l ++ m) ≡ only p l ++ only p m
+unfolding only
+only-append p [] m = refl
+only-append p (a ∷ l) m = go (p a) (only-append p l m)
+  where
+    go : (t : Bool) → only p (l ++ m) ≡ only p l ++ only p m → consIf t a (only p (l ++ m)) ≡ consIf t a (only p l) ++ only p m
+    go true e = ap (λ (s : List _). a ∷ s) e
+    go false e = e

@@ -161,15 +161,17 @@ module _ {A : Type 0} where
 
 -- ---- what a list holds after a call whose checks gave the verdict v
 
-module _ {A : Type 0} (a : Answer) (v : Verdict) (h : told v ≡ a) where
-  pub kept-refused : (e : HybitError) (new old : List A) → v ≡ Refused e → old ≡ kept a new old
-  kept-refused e new old k = rw (refused-by a v e h k)
+module _ {A : Type 0} where
+  pub kept-refused : (a : Answer) (v : Verdict) (e : HybitError) (new old : List A) → told v ≡ a → v ≡ Refused e → old ≡ kept a new old
+  kept-refused a v e new old h k = rw (refused-by a v e h k)
 
-  pub kept-accepted : (new old out : List A) → v ≡ Accepted → out ≡ new → out ≡ kept a new old
-  kept-accepted new old out k r = rw (accepted-by a v h k) r
+  pub kept-accepted : (a : Answer) (v : Verdict) (new old out : List A) → told v ≡ a → v ≡ Accepted → out ≡ new → out ≡ kept a new old
+  kept-accepted a v new old out h k r = rw (accepted-by a v h k) r
 
-  pub built-refused : (z : A) (n : ℕ) (e : HybitError) (new out : List A) → v ≡ Refused e → out ≡ padded z n [] → out ≡ built z n a new
-  built-refused z n e new out k r = rw (refused-by a v e h k) r
+  pub built-refused : (z : A) (n : ℕ) (a : Answer) (v : Verdict) (e : HybitError) (new out : List A) → told v ≡ a → v ≡ Refused e → out ≡ padded z n [] → out ≡ built z n a new
+  built-refused z n a v e new out h k r = rw (refused-by a v e h k) r
 
-  pub built-accepted : (z : A) (n : ℕ) (new out : List A) → v ≡ Accepted → out ≡ padded z n new → out ≡ built z n a new
-  built-accepted z n new out k r = rw (accepted-by a v h k) r
+  pub built-accepted : (z : A) (n : ℕ) (a : Answer) (v : Verdict) (new out : List A) → told v ≡ a → v ≡ Accepted → out ≡ padded z n new → out ≡ built z n a new
+  built-accepted z n a v new out h k r = rw (accepted-by a v h k) r
+
+pub ruleset lists = (kept-refused, kept-accepted, built-refused, built-accepted)

@@ -7,15 +7,19 @@ use native.Mathlib.Nat.{zero-add}
 use native.Mathlib.Numerals.{add-one}
 use native.Mathlib.Decide.{decLt, ℕ-discrete}
 use native.Mathlib.Omega.{arith}
-use borrow.Author.Tests.{eq-eqb, ne-eqb, eqb-true, lt-ltb, le-ltb, ltb-true}
+use borrow.Author.Tests.{eq-eqb, ne-eqb, eqb-true, lt-ltb, le-ltb, ltb-true, leb-true}
 use lib.Count.{trailingZeros}
-use lib.Dec.{eqb, ltb, lit<}
-use lib.ListN.{length, getD, take, set, replicate}
+use lib.Dec.{eqb, ltb, leb, lit<}
+use lib.ListN.{length, getD, take, set, replicate, length-set}
 use lib.Seq.{take-suc, take-all}
+use Rattle.hybit_core.specs.Answer.{Answer, accepted, demand, lengthIs, _andThen_}
+use Rattle.hybit_core.specs.Domain.{few}
+use Rattle.hybit_core.proofs.AnswerLaws.{demand-accepted, then-first, then-second, length-accepted}
+use Rattle.hybit_core.proofs.BoolLaws.{and-left, and-right}
 use Rattle.lent.specs.Lists.{each, every, some}
-use Rattle.lent.specs.Lent.{padded, Appended}
+use Rattle.lent.specs.Lent.{padded, built, Appended}
 use Rattle.lent.proofs.ListLaws.{each-set, each-cong, each-same, every-getD, some-snoc, some-none}
-use Rattle.lent.proofs.LentLaws.{padded-zeros, padded-set, getD-padded, length-padded, appended-join, appended-cleared}
+use Rattle.lent.proofs.LentLaws.{Filled, filled-none, filled-more, filled-next, filled-done, padded-zeros, padded-set, getD-padded, length-padded, appended-join, appended-cleared}
 use Rattle.word.specs.Bits.{has, below, count, both, within, wordOf, members, maskOf, ceil64}
 use Rattle.word.specs.Word.{combined}
 use Rattle.word.specs.declared.Operation.{Operation}
@@ -24,9 +28,9 @@ use Rattle.word.proofs.BelowLaws.{below-zero, below-block, length-below-mono, b
 use Rattle.word.proofs.BitLaws.{has-none, has-mask-of, count-cong, within-cong, within-in, number-lt}
 use Rattle.word.proofs.LowestLaws.{none, lowest-has, lowest-lt}
 use Rattle.word.proofs.OpLaws.{word-is, word-cong, has-word}
-use Rattle.mask.specs.Mask.{asMask, bitAt, active, maskWords}
-use Rattle.mask.specs.Calls.{listed, changed, joinedWord}
-use Rattle.mask.proofs.MaskLaws.{Valid, bit-in, active-is, word-bit, active-within, words-are, members-are, length-words, word-of-words}
+use Rattle.mask.specs.Mask.{asMask, bitAt, active, maskWords, maskRules, maskAnswer}
+use Rattle.mask.specs.Calls.{newAnswer, fromIndicesAnswer, listed, setAnswer, changed, indicesAnswer, pairAnswer, joinedWord}
+use Rattle.mask.proofs.MaskLaws.{Valid, valid, rules-valid, bit-in, active-is, word-bit, active-within, words-are, members-are, length-words, word-of-words}
 
 -- ---- counting: the ones of the first k words
 
@@ -62,6 +66,24 @@ pub ones-are : (n : ℕ) (ws : List ℕ) (r : ℕ) → Valid n ws → r ≡ coun
 ones-are n ws r ok e = e ∙ sym (ap length (members-are n ws ok))
 
 -- ---- one bit put to a value
+
+pub value-on : (w k r : ℕ) (v : Bool) → v ≡ true → r ≡ wordOf (λ i. has w i || eqb i k) → r ≡ wordOf (λ i. cond (eqb i k) v (has w i))
+value-on w k r v e h = h ∙ word-cong _ _ (λ i b. swap (has w i) (eqb i k) ∙ ap (λ (t : Bool). cond (eqb i k) t (has w i)) (sym e))
+  where
+    swap : (s t : Bool) → (s || t) ≡ cond t true s
+    swap true true = refl
+    swap true false = refl
+    swap false true = refl
+    swap false false = refl
+
+pub value-off : (w k r : ℕ) (v : Bool) → v ≡ false → r ≡ wordOf (λ i. has w i && not (eqb i k)) → r ≡ wordOf (λ i. cond (eqb i k) v (has w i))
+value-off w k r v e h = h ∙ word-cong _ _ (λ i b. drop-it (has w i) (eqb i k) ∙ ap (λ (t : Bool). cond (eqb i k) t (has w i)) (sym e))
+  where
+    drop-it : (s t : Bool) → (s && not t) ≡ cond t false s
+    drop-it true true = refl
+    drop-it true false = refl
+    drop-it false true = refl
+    drop-it false false = refl
 
 words-cong : (p q : ℕ → Bool) (n : ℕ) → ((c : ℕ) → c < n → p c ≡ q c) → maskWords p n ≡ maskWords q n
 unfolding maskWords maskOf
@@ -264,7 +286,27 @@ module _ (n : ℕ) (ws old : List ℕ) (at : ℕ) (out : List ℕ) (ok : Valid n
   pub indices-list : (last : List ℕ) → length out ≡ length old → last ≡ padded 0 (length out) (take at out) → last ≡ padded 0 (length old) (below (active (asMask n ws)) n)
   indices-list last s e = appended-cleared 0 (below (bitAt ws) (64 * length ws)) at old out last a s e ∙ ap (padded 0 (length old)) (sym (members-are n ws ok))
 
--- ---- two masks, word by word
+-- ---- two masks, word by word: the first k words are combined
+
+pub record Combining (o : Operation) (ws us : List ℕ) (k : ℕ) (out : List ℕ) : Type 0 where
+  pub inside : k ≤ length ws
+  pub same : length out ≡ length ws
+  pub filled : Filled (λ w. wordOf (λ i. combined o (has (getD ws w 0) i) (has (getD us w 0) i))) ws k out
+
+module _ (o : Operation) (ws us : List ℕ) where
+  pub combining-none : Combining o ws us 0 ws
+  combining-none = record { inside = omega arith; same = refl; filled = filled-none _ ws }
+
+  module _ (k : ℕ) (out : List ℕ) (inv : Combining o ws us k out) where
+    pub combining-more : (r : ℕ) → k < length ws → r ≡ wordOf (λ i. combined o (has (getD out k 0) i) (has (getD us k 0) i)) → Combining o ws us (k + 1) (set out k r)
+    combining-more r h e = record {
+      inside = omega arith;
+      same = length-set out k r ∙ inv .same;
+      filled = filled-more _ ws k out (inv .filled) r (e ∙ ap (λ (m : ℕ). wordOf (λ i. combined o (has m i) (has (getD us k 0) i))) (filled-next _ ws k out (inv .filled) 0 h)) h;
+    }
+
+    pub combining-done : length ws ≤ k → out ≡ each (λ w. wordOf (λ i. combined o (has (getD ws w 0) i) (has (getD us w 0) i))) (length ws)
+    combining-done h = filled-done _ ws k out (inv .filled) (length ws) refl (inv .inside) h
 
 combined-none : (o : Operation) → combined o false false ≡ false
 combined-none Union = refl
@@ -339,3 +381,96 @@ module _ (ws us : List ℕ) where
   apart-done k inv h =
       let q : k ≡ length ws = omega (arith, inv .inside) in
       sym (ap not (eq-eqb _ 0 (ap (λ (m : ℕ). count (both (bitAt ws) (bitAt us)) (64 * m)) (sym q) ∙ inv .none)))
+
+-- ---- what the answers say where they accept
+
+module _ (n : ℕ) (ws : List ℕ) (i : ℕ) (ok : setAnswer (asMask n ws) i ≡ accepted) where
+  pub set-valid : Valid n ws
+  unfolding setAnswer
+  set-valid = valid n ws (then-first (maskAnswer (asMask n ws)) (demand (ltb i n) 7) ok)
+
+  pub set-inside : i < n
+  unfolding setAnswer
+  set-inside = ltb-true i n (demand-accepted (ltb i n) 7 (then-second (maskAnswer (asMask n ws)) (demand (ltb i n) 7) ok))
+
+  pub set-place : i / 64 < length ws
+  set-place = omega (arith, set-inside, set-valid .counted)
+
+module _ (n : ℕ) (ws : List ℕ) (room : ℕ) (ok : indicesAnswer (asMask n ws) room ≡ accepted) where
+  pub indices-valid : Valid n ws
+  unfolding indicesAnswer
+  indices-valid = valid n ws (then-first (maskAnswer (asMask n ws)) (demand (leb (count (active (asMask n ws)) n) room) 13) ok)
+
+  pub indices-fit : count (bitAt ws) (64 * length ws) ≤ room
+  unfolding indicesAnswer
+  indices-fit =
+      omega (
+        arith,
+        leb-true (count (active (asMask n ws)) n) room (demand-accepted (leb (count (active (asMask n ws)) n) room) 13 (then-second (maskAnswer (asMask n ws)) (demand (leb (count (active (asMask n ws)) n) room) 13) ok)),
+        ap length (members-are n ws indices-valid),
+      )
+
+module _ (n : ℕ) (ws : List ℕ) (m : ℕ) (us : List ℕ) (ok : pairAnswer (asMask n ws) (asMask m us) ≡ accepted) where
+  rest : demand (maskRules (asMask n ws)) 5 andThen demand (maskRules (asMask m us)) 5 andThen lengthIs n m ≡ accepted
+  unfolding pairAnswer
+  rest = then-second (demand (few n && few m) 1) (demand (maskRules (asMask n ws)) 5 andThen demand (maskRules (asMask m us)) 5 andThen lengthIs n m) ok
+
+  small : (few n && few m) ≡ true
+  unfolding pairAnswer
+  small = demand-accepted (few n && few m) 1 (then-first (demand (few n && few m) 1) (demand (maskRules (asMask n ws)) 5 andThen demand (maskRules (asMask m us)) 5 andThen lengthIs n m) ok)
+
+  last : demand (maskRules (asMask m us)) 5 andThen lengthIs n m ≡ accepted
+  last = then-second (demand (maskRules (asMask n ws)) 5) (demand (maskRules (asMask m us)) 5 andThen lengthIs n m) rest
+
+  pub pair-same : m ≡ n
+  pair-same = length-accepted n m (then-second (demand (maskRules (asMask m us)) 5) (lengthIs n m) last)
+
+  pub pair-first : Valid n ws
+  pair-first =
+      rules-valid n ws (leb-true n (2 ^ 20) (and-left (few n) (few m) small))
+      (demand-accepted (maskRules (asMask n ws)) 5 (then-first (demand (maskRules (asMask n ws)) 5) (demand (maskRules (asMask m us)) 5 andThen lengthIs n m) rest))
+
+  pub pair-second : Valid m us
+  pair-second =
+      rules-valid m us (leb-true m (2 ^ 20) (and-right (few n) (few m) small))
+      (demand-accepted (maskRules (asMask m us)) 5 (then-first (demand (maskRules (asMask m us)) 5) (lengthIs n m) last))
+
+  pub pair-lengths : length us ≡ length ws
+  pair-lengths = pair-second .counted ∙ ap ceil64 pair-same ∙ sym (pair-first .counted)
+
+  pub pair-combined : (o : Operation) → each (λ w. wordOf (λ i. combined o (has (getD ws w 0) i) (has (getD us w 0) i))) (length ws) ≡ maskWords (λ c. combined o (active (asMask n ws) c) (active (asMask m us) c)) n
+  pair-combined o =
+      combine-are n ws us pair-first (subst (λ (k : ℕ). Valid k us) pair-same pair-second) o
+      ∙ ap (λ (k : ℕ). maskWords (λ c. combined o (active (asMask n ws) c) (active (asMask k us) c)) n) (sym pair-same)
+
+  pub pair-meets : (r : Bool) → r ≡ not (eqb (count (both (bitAt ws) (bitAt us)) (64 * length ws)) 0) → r ≡ not (eqb (count (both (active (asMask n ws)) (active (asMask m us))) n) 0)
+  pair-meets r e =
+      e
+      ∙ ap (λ (k : ℕ). not (eqb k 0))
+      (sym (meet-are n ws us pair-first (subst (λ (k : ℕ). Valid k us) pair-same pair-second)) ∙ ap (λ (k : ℕ). count (both (active (asMask n ws)) (active (asMask k us))) n) (sym pair-same))
+
+module _ (n : ℕ) (is : List ℕ) (room : ℕ) (ok : fromIndicesAnswer n is room ≡ accepted) where
+  pub from-indices-below : every (λ i. ltb i n) is ≡ true
+  unfolding fromIndicesAnswer
+  from-indices-below =
+      demand-accepted (every (λ i. ltb i n) is) 7
+      (then-first (demand (every (λ i. ltb i n) is) 7) (demand (leb (ceil64 n) room) 13)
+      (then-second (demand (few n) 1) (demand (every (λ i. ltb i n) is) 7 andThen demand (leb (ceil64 n) room) 13) ok))
+
+  pub from-indices-room : ceil64 n ≤ room
+  unfolding fromIndicesAnswer
+  from-indices-room =
+      leb-true (ceil64 n) room
+      (demand-accepted (leb (ceil64 n) room) 13
+      (then-second (demand (every (λ i. ltb i n) is) 7) (demand (leb (ceil64 n) room) 13)
+      (then-second (demand (few n) 1) (demand (every (λ i. ltb i n) is) 7 andThen demand (leb (ceil64 n) room) 13) ok)))
+
+-- new leaves zeros, accepted or refused
+pub new-list : (n room : ℕ) (out : List ℕ) → out ≡ padded 0 room [] → out ≡ built 0 room (newAnswer n room) (maskWords (λ c. false) n)
+unfolding newAnswer
+new-list n room out e = go (few n) (leb (ceil64 n) room) refl
+  where
+    go : (s t : Bool) → leb (ceil64 n) room ≡ t → out ≡ built 0 room (demand s 1 andThen demand t 13) (maskWords (λ c. false) n)
+    go true true q = e ∙ new-is n room (leb-true (ceil64 n) room q)
+    go true false q = e
+    go false t q = e

@@ -39,6 +39,20 @@ pub bit-past : (ws : List ℕ) (c : ℕ) → length ws ≤ c / 64 → bitAt ws c
 unfolding bitAt
 bit-past ws c h = ap (λ (m : ℕ). has m (c % 64)) (List·getD-eq-default ws 0 h) ∙ has-none (c % 64)
 
+-- ---- membership, as the code tests it
+
+pub past-length : (n : ℕ) (ws : List ℕ) (c : ℕ) → n ≤ c → false ≡ active (asMask n ws) c
+unfolding active
+past-length n ws c h = sym (ap (λ (t : Bool). t && bitAt ws c) (le-ltb c n h))
+
+pub past-words : (n : ℕ) (ws : List ℕ) (c : ℕ) → length ws ≤ c / 64 → false ≡ active (asMask n ws) c
+unfolding active
+past-words n ws c h = sym (ap (λ (t : Bool). ltb c n && t) (bit-past ws c h) ∙ and-false (ltb c n))
+
+pub in-words : (n : ℕ) (ws : List ℕ) (c : ℕ) (r : Bool) → c < n → r ≡ has (getD ws (c / 64) 0) (c % 64) → r ≡ active (asMask n ws) c
+unfolding active bitAt
+in-words n ws c r h e = e ∙ sym (ap (λ (t : Bool). t && has (getD ws (c / 64) 0) (c % 64)) (lt-ltb c n h))
+
 -- ---- the facts of a mask in which 1 and 5 find nothing
 
 pub record Valid (n : ℕ) (ws : List ℕ) : Type 0 where

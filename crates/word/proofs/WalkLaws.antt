@@ -7,17 +7,31 @@ use native.Mathlib.Numerals.{add-one}
 use native.Mathlib.Omega.{arith}
 use lib.Bits.{bitAnd}
 use lib.Count.{trailingZeros}
-use lib.ListN.{length, getD, take, drop, set, length-map, length-set}
+use lib.ListN.{length, getD, take, drop, set, length-map, length-set, length-drop}
 use lib.Seq.{take-suc-set}
 use Rattle.lent.specs.Lent.{Appended}
 use Rattle.word.specs.Bits.{members}
-use Rattle.word.proofs.LowestLaws.{members-walk, members-none}
+use Rattle.word.proofs.LowestLaws.{members-walk, members-none, lowest-lt}
+
+-- a word that is not 0 has a member, and its lowest is below 64
+module _ (b : ℕ) (h : b < 2 ^ 64) (some : b ≡ 0 → ⊥) where
+  walk-of : members b ≡ trailingZeros 64 b ∷ members (bitAnd b (b - 1))
+  walk-of = members-walk b (omega arith) h
+
+  pub some-members : 0 < length (members b)
+  some-members = omega (arith, ap length walk-of)
+
+  pub lowest-small : (low : ℕ) → low ≡ getD (members b) 0 64 → low < 64
+  lowest-small low l = omega (arith, l ∙ ap (λ (s : List ℕ). getD s 0 64) walk-of, lowest-lt 64 64 b (omega arith) h)
+
+  pub walk-less : (r : ℕ) → members r ≡ drop 1 (members b) → length (members r) < length (members b)
+  walk-less r e = omega (arith, some-members, ap length e, length-drop 1 (members b))
 
 -- b with its lowest member `low`, and r without it
 module _ (b low r : ℕ) (h : b < 2 ^ 64) (some : b ≡ 0 → ⊥) (l : low ≡ getD (members b) 0 64) (e : members r ≡ drop 1 (members b)) where
   pub walk-step : members b ≡ low ∷ members r
   walk-step =
-      let w : members b ≡ trailingZeros 64 b ∷ members (bitAnd b (b - 1)) = members-walk b (omega arith) h in
+      let w : members b ≡ trailingZeros 64 b ∷ members (bitAnd b (b - 1)) = walk-of b h some in
       let t : low ≡ trailingZeros 64 b = l ∙ ap (λ (s : List ℕ). getD s 0 64) w in
       let d : members r ≡ members (bitAnd b (b - 1)) = e ∙ ap (drop 1) w in
       w ∙ sym (λ i. t i ∷ d i)
@@ -37,22 +51,22 @@ module _ {A : Type 0} (f : ℕ → A) (w from : ℕ) (old : List A) where
   walking-start h = record { fits = h; same = refl; places = refl; list = refl }
 
   module _ (b at : ℕ) (out : List A) (inv : Walking f w from old b at out) where
-    module _ (low r : ℕ) (some : b ≡ 0 → ⊥) (l : low ≡ getD (members b) 0 64) (e : members r ≡ drop 1 (members b)) (room : from + length (members w) ≤ length old) where
-      pub walking-room : at < length out
-      walking-room = omega (arith, inv .places, inv .same, walk-length b low r (inv .fits) some l e)
+    pub walking-room : (b ≡ 0 → ⊥) → from + length (members w) ≤ length old → at < length out
+    walking-room some room = omega (arith, inv .places, inv .same, some-members b (inv .fits) some)
 
-      pub walking-more : (v : A) → v ≡ f low → r < 2 ^ 64 → Walking f w from old r (at + 1) (set out at v)
-      walking-more v q h = record {
-        fits = h;
-        same = length-set out at v ∙ inv .same;
-        places = omega (arith, inv .places, walk-length b low r (inv .fits) some l e);
-        list =
-            ap (λ (s : List A). s ++ map f (members r))
-            (ap (λ (n : ℕ). take n (set out at v)) (add-one at) ∙ take-suc-set out at v walking-room ∙ ap (λ (x : A). take at out ++ x ∷ []) q)
-            ∙ append-assoc (take at out) (f low ∷ []) (map f (members r))
-            ∙ ap (λ (s : List ℕ). take at out ++ map f s) (sym (walk-step b low r (inv .fits) some l e))
-            ∙ inv .list;
-      }
+    pub walking-more : (low r : ℕ) (v : A) → (b ≡ 0 → ⊥) → from + length (members w) ≤ length old → low ≡ getD (members b) 0 64 → members r ≡ drop 1 (members b) → v ≡ f low → r < 2 ^ 64
+        → Walking f w from old r (at + 1) (set out at v)
+    walking-more low r v some room l e q h = record {
+      fits = h;
+      same = length-set out at v ∙ inv .same;
+      places = omega (arith, inv .places, walk-length b low r (inv .fits) some l e);
+      list =
+          ap (λ (s : List A). s ++ map f (members r))
+          (ap (λ (n : ℕ). take n (set out at v)) (add-one at) ∙ take-suc-set out at v (walking-room some room) ∙ ap (λ (x : A). take at out ++ x ∷ []) q)
+          ∙ append-assoc (take at out) (f low ∷ []) (map f (members r))
+          ∙ ap (λ (s : List ℕ). take at out ++ map f s) (sym (walk-step b low r (inv .fits) some l e))
+          ∙ inv .list;
+    }
 
     pub walking-done : b ≡ 0 → Appended (map f (members w)) from at old out
     walking-done z =

@@ -267,41 +267,61 @@ fn show_f64(s: &[f64]) {
     end();
 }
 
+fn lend_u32(s: &mut [u32], n: usize, from: usize) {
+    if s.len() < n {
+        return;
+    }
+    lent::clear_from_u32(&mut s[..n], from);
+    show_u32(s);
+}
+
 fn clear_u32(n: usize, from: usize) {
     let mut s = [11u32, 0, 4294967295, 44, 55, 66];
-    if n <= s.len() {
-        lent::clear_from_u32(&mut s[..n], from);
-    }
     head(b"clear_from_u32", n, from);
-    show_u32(&s);
+    lend_u32(&mut s, n, from);
+}
+
+fn lend_u64(s: &mut [u64], n: usize, from: usize) {
+    if s.len() < n {
+        return;
+    }
+    lent::clear_from_u64(&mut s[..n], from);
+    show_u64(s);
 }
 
 fn clear_u64(n: usize, from: usize) {
     let mut s = [11u64, 0, 18446744073709551615, 44, 55, 66];
-    if n <= s.len() {
-        lent::clear_from_u64(&mut s[..n], from);
-    }
     head(b"clear_from_u64", n, from);
-    show_u64(&s);
+    lend_u64(&mut s, n, from);
+}
+
+fn lend_usize(s: &mut [usize], n: usize, from: usize) {
+    if s.len() < n {
+        return;
+    }
+    lent::clear_from_usize(&mut s[..n], from);
+    show_usize(s);
 }
 
 fn clear_usize(n: usize, from: usize) {
     let mut s = [11usize, 0, 18446744073709551615, 44, 55, 66];
-    if n <= s.len() {
-        lent::clear_from_usize(&mut s[..n], from);
-    }
     head(b"clear_from_usize", n, from);
-    show_usize(&s);
+    lend_usize(&mut s, n, from);
+}
+
+fn lend_f64(s: &mut [f64], n: usize, from: usize) {
+    if s.len() < n {
+        return;
+    }
+    lent::clear_from_f64(&mut s[..n], from);
+    show_f64(s);
 }
 
 // 0.0 replaces a -0.0, an infinity and a NaN too.
 fn clear_f64(n: usize, from: usize) {
     let mut s = [1.5f64, -0.0, 1.0 / 0.0, 0.0 / 0.0, -2.5, 6.0];
-    if n <= s.len() {
-        lent::clear_from_f64(&mut s[..n], from);
-    }
     head(b"clear_from_f64", n, from);
-    show_f64(&s);
+    lend_f64(&mut s, n, from);
 }
 
 fn clear_case(n: usize, from: usize) {

@@ -365,13 +365,17 @@ fn builds_in(len: usize, room: usize, a: &mut [u64]) {
     builds(len, &mut a[..room]);
 }
 
-fn builds_of(len: usize, a: &mut [u64]) {
-    let n = ceil64(len);
-    builds_in(len, n, a);
-    if n > 0 {
-        builds_in(len, n - 1, a);
+fn builds_short(len: usize, a: &mut [u64]) {
+    if len == 0 {
+        return;
     }
-    builds_in(len, after(after(n)), a);
+    builds_in(len, before(ceil64(len)), a);
+}
+
+fn builds_of(len: usize, a: &mut [u64]) {
+    builds_in(len, ceil64(len), a);
+    builds_short(len, a);
+    builds_in(len, after(after(ceil64(len))), a);
 }
 
 // The questions to one mask.
@@ -499,6 +503,9 @@ fn sets(len: usize, kind: Kind, words: &mut [u64]) {
     set_on(len, kind, words, 0, true);
     set_on(len, kind, words, before(len), true);
     set_on(len, kind, words, before(len), false);
+}
+
+fn more_sets(len: usize, kind: Kind, words: &mut [u64]) {
     set_on(len, kind, words, 63, true);
     set_on(len, kind, words, 64, true);
     set_on(len, kind, words, len, true);
@@ -653,9 +660,14 @@ fn pairs(len: usize, kind: Kind, words: &mut [u64], b: &mut [u64]) {
 }
 
 // Other masks that bring a refusal: another length, damage, both, and over size with words that are far too few.
-fn bad_pairs(len: usize, kind: Kind, words: &mut [u64], b: &mut [u64]) {
+
+fn lengths_differ(len: usize, kind: Kind, words: &mut [u64], b: &mut [u64]) {
     pair(len, kind, words, after(len), Kind::Sparse, b);
     pair(len, kind, words, before(len), Kind::Sparse, b);
+}
+
+fn bad_pairs(len: usize, kind: Kind, words: &mut [u64], b: &mut [u64]) {
+    lengths_differ(len, kind, words, b);
     pair(len, kind, words, len, Kind::Few, b);
     pair(len, kind, words, len, Kind::AtLength, b);
     pair(len, kind, words, after(len), Kind::Many, b);
@@ -683,6 +695,7 @@ fn asked(len: usize, kind: Kind, a: &mut [u64], out: &mut [usize]) {
 
 fn change(len: usize, kind: Kind, words: &mut [u64]) {
     sets(len, kind, words);
+    more_sets(len, kind, words);
     joins(len, kind, words);
 }
 
@@ -722,11 +735,14 @@ fn over_paired(len: usize, kind: Kind, a: &mut [u64], b: &mut [u64]) {
     pair(len, kind, &mut a[..n], 1048577, Kind::Sparse, b);
 }
 
-fn asked_all(len: usize, a: &mut [u64], out: &mut [usize]) {
+fn asked_good(len: usize, a: &mut [u64], out: &mut [usize]) {
     asked(len, Kind::Empty, a, out);
     asked(len, Kind::Sparse, a, out);
     asked(len, Kind::Mixed, a, out);
     asked(len, Kind::Full, a, out);
+}
+
+fn asked_bad(len: usize, a: &mut [u64], out: &mut [usize]) {
     asked(len, Kind::Few, a, out);
     asked(len, Kind::Many, a, out);
     asked(len, Kind::Longer, a, out);
@@ -751,20 +767,28 @@ fn paired_all(len: usize, a: &mut [u64], b: &mut [u64]) {
 
 fn length(len: usize, a: &mut [u64], b: &mut [u64], out: &mut [usize]) {
     builds_of(len, a);
-    asked_all(len, a, out);
+    asked_good(len, a, out);
+    asked_bad(len, a, out);
     changed_all(len, a);
     paired_all(len, a, b);
 }
 
 // A length over size refuses everything, so a few kinds do.
-fn over_size(a: &mut [u64], b: &mut [u64], out: &mut [usize]) {
+
+fn over_size(a: &mut [u64], out: &mut [usize]) {
     builds_of(1048577, a);
     asked(1048577, Kind::Sparse, a, out);
     asked(1048577, Kind::Few, a, out);
     asked(1048577, Kind::AtLength, a, out);
+}
+
+fn over_size_changed(a: &mut [u64], b: &mut [u64]) {
     changed(1048577, Kind::Sparse, a);
     changed(1048577, Kind::Many, a);
     badly_paired(1048577, Kind::Sparse, a, b);
+}
+
+fn over_size_paired(a: &mut [u64], b: &mut [u64]) {
     over_paired(65, Kind::Mixed, a, b);
     over_paired(65, Kind::Many, a, b);
     over_paired(1048577, Kind::Mixed, a, b);
@@ -786,20 +810,30 @@ fn largest(a: &mut [u64], b: &mut [u64], out: &mut [usize]) {
     largest_on(&mut a[..3], b, out);
 }
 
-fn small(a: &mut [u64], b: &mut [u64], out: &mut [usize]) {
+fn one_word(a: &mut [u64], b: &mut [u64], out: &mut [usize]) {
     length(0, a, b, out);
     length(1, a, b, out);
     length(63, a, b, out);
     length(64, a, b, out);
+}
+
+fn two_words(a: &mut [u64], b: &mut [u64], out: &mut [usize]) {
     length(65, a, b, out);
     length(127, a, b, out);
     length(128, a, b, out);
 }
 
-fn all(a: &mut [u64], b: &mut [u64], out: &mut [usize]) {
-    small(a, b, out);
+fn many_words(a: &mut [u64], b: &mut [u64], out: &mut [usize]) {
     length(1048576, a, b, out);
-    over_size(a, b, out);
+    over_size(a, out);
+    over_size_changed(a, b);
+    over_size_paired(a, b);
+}
+
+fn all(a: &mut [u64], b: &mut [u64], out: &mut [usize]) {
+    one_word(a, b, out);
+    two_words(a, b, out);
+    many_words(a, b, out);
     largest(a, b, out);
 }
 

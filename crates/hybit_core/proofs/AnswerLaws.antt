@@ -1,9 +1,11 @@
 -- Laws of answers: a chain of checks at each return of the code that runs it, and what an accepted chain says. Assumes nothing.
 use mathlib.Core.Path.{_≡_, refl, sym, _∙_, ap}
-use mathlib.Core.Bool.{Bool, true, false}
-use Prim.Native.Nat.{ℕ}
-use borrow.Author.Tests.{eq-eqb, ne-eqb}
-use Rattle.hybit_core.specs.Answer.{Told, plain, lengthsDiffer, Answer, accepted, refused, demand, lengthIs, _andThen_, numberIn, Given, gives, refuses, answers}
+use mathlib.Core.Bool.{Bool, true, false, not}
+use Prim.Native.Nat.{ℕ, _≤_, _^_}
+use lib.Dec.{eqb}
+use borrow.Author.Tests.{eq-eqb, ne-eqb, leb-true, eqb-true, not-false}
+use Rattle.hybit_core.specs.Answer.{Told, plain, lengthsDiffer, Answer, accepted, refused, demand, demandLength, lengthIs, _andThen_, numberIn, Given, gives, refuses, answers}
+use Rattle.hybit_core.specs.Domain.{few}
 use Rattle.hybit_core.specs.Table.{paper, told}
 use Rattle.hybit_core.specs.declared.Verdict.{Verdict}
 use Rattle.hybit_core.specs.declared.Verdict.the-variants.{Accepted, Refused}
@@ -22,6 +24,17 @@ then-first (refused t) b e = cc
 pub then-second : (a b : Answer) → a andThen b ≡ accepted → b ≡ accepted
 then-second accepted b e = e
 then-second (refused t) b e = cc
+
+pub length-accepted : (e n : ℕ) → lengthIs e n ≡ accepted → n ≡ e
+length-accepted e n h = eqb-true n e (go (eqb n e) h)
+  where
+    go : (t : Bool) → demandLength t e n ≡ accepted → t ≡ true
+    go true q = refl
+    go false q = cc
+
+-- a dimension that lies in the domain, as a callee's flag r says
+pub dimension-small : (n : ℕ) (r : Bool) → r ≡ few n → not r ≡ false → n ≤ 2 ^ 20
+dimension-small n r e h = leb-true n (2 ^ 20) (sym e ∙ not-false r h)
 
 -- ---- one check of a chain, at a return: it fails, or it passes and the rest decides
 
@@ -66,6 +79,12 @@ accepted-by a v h k = sym h ∙ ap told k
 pub refused-by : (a : Answer) (v : Verdict) (e : HybitError) → told v ≡ a → v ≡ Refused e → a ≡ refused (paper e)
 refused-by a v e h k = sym h ∙ ap told k
 
+pub answer-accepted : (a : Answer) (v : Verdict) → told v ≡ a → v ≡ Accepted → accepted ≡ a
+answer-accepted a v h k = sym (accepted-by a v h k)
+
+pub answer-refused : (a : Answer) (v : Verdict) (e : HybitError) → told v ≡ a → v ≡ Refused e → refused (paper e) ≡ a
+answer-refused a v e h k = sym (refused-by a v e h k)
+
 pub number-by : (a : Answer) (v : Verdict) (n : ℕ) → told v ≡ a → n ≡ numberIn (told v) → n ≡ numberIn a
 number-by a v n h e = e ∙ ap numberIn h
 
@@ -76,4 +95,4 @@ given-refused a x v e h k = rw (refused-by a v e h k)
 pub given-accepted : {A : Type 0} (a : Answer) (x y : A) (v : Verdict) → told v ≡ a → v ≡ Accepted → y ≡ x → gives y ≡ answers a x
 given-accepted a x y v h k r = rw (accepted-by a v h k) (ap gives r)
 
-pub ruleset outcomes = (accepted-by, number-by, given-refused, given-accepted)
+pub ruleset outcomes = (accepted-by, answer-accepted, answer-refused, number-by, given-refused, given-accepted)

@@ -5,8 +5,8 @@ use Prim.Native.Nat.{ℕ, zero, suc, _+_, _-_, _≤_, _<_}
 use native.Mathlib.Nat.{sub-zero, add-zero}
 use native.Mathlib.Numerals.{add-one}
 use native.Mathlib.Omega.{arith}
-use lib.ListN.{length, take, drop, getD, set, replicate, length-append, length-replicate, length-set, length-drop, drop-of-length-le, replicate-append-replicate}
-use lib.Seq.{take-all, take-at, take-suc-set, length-take-le, drop-cons, set-at, append-snoc}
+use lib.ListN.{List·getD-append, length, take, drop, getD, set, replicate, length-append, length-replicate, length-set, length-drop, drop-of-length-le, replicate-append-replicate}
+use lib.Seq.{getD-drop, getD-append-add, take-all, take-at, take-suc-set, length-take-le, drop-cons, set-at, append-snoc}
 use Rattle.hybit_core.specs.Answer.{Answer, accepted, refused}
 use Rattle.hybit_core.specs.Table.{paper, told}
 use Rattle.hybit_core.specs.declared.Verdict.{Verdict}
@@ -40,6 +40,18 @@ module _ {A : Type 0} (z : A) where
   padded-suc n l h =
       let s : n + 1 - length l ≡ n - length l + 1 = omega arith in
       rw (s, ← replicate-append-replicate (n - length l) 1 z) (sym (append-assoc l (replicate (n - length l) z) (z ∷ [])))
+
+  -- zeros are as good as nothing
+  pub padded-zeros : (n m : ℕ) → m ≤ n → padded z n (replicate m z) ≡ padded z n []
+  unfolding padded
+  padded-zeros n m h =
+      let e : m + (n - length (replicate m z)) ≡ n - 0 = omega (arith, length-replicate m z) in
+      replicate-append-replicate m (n - length (replicate m z)) z ∙ ap (λ (k : ℕ). replicate k z) e
+
+  -- a place of the used part
+  pub getD-padded : (n k : ℕ) (l : List A) (d : A) → k < length l → getD (padded z n l) k d ≡ getD l k d
+  unfolding padded
+  getD-padded n k l d h = List·getD-append l (replicate (n - length l) z) d k h
 
   -- a store in the used part
   pub padded-set : (n k : ℕ) (l : List A) (v : A) → k < length l → set (padded z n l) k v ≡ padded z n (set l k v)
@@ -118,23 +130,48 @@ module _ {A : Type 0} (f : ℕ → A) (old : List A) where
         let then : each f (r + 1) ++ drop (r + 1) old ≡ front ++ v ∷ rest = rw (each-suc, add-one, append-snoc, ← e) in
         record { is = ap (λ (t : List A). set t r v) was ∙ set-at front (getD old r v) rest v r (length-each f r) ∙ sym then }
 
+    -- the next place is as it was
+    pub filled-next : (d : A) → r < length old → getD new r d ≡ getD old r d
+    filled-next d h =
+        let place : length (each f r) + 0 ≡ r = omega (arith, length-each f r) in
+        ap (λ (k : ℕ). getD new k d) (sym place) ∙ ap (λ (t : List A). getD t (length (each f r) + 0) d) (inv .is)
+        ∙ getD-append-add (each f r) (drop r old) 0 d ∙ getD-drop r old 0 d ∙ ap (λ (k : ℕ). getD old k d) (add-zero r)
+
     pub filled-done : (n : ℕ) → length old ≡ n → r ≤ n → n ≤ r → new ≡ each f n
     filled-done n h o o′ =
         let same : r ≡ n = omega arith in
         let all : length old ≤ r = omega arith in
         inv .is ∙ rw (drop-of-length-le, append-nil, same)
 
+-- ---- writing from a place on, part after part
+
+module _ {A : Type 0} where
+  pub appended-none : (at : ℕ) (out : List A) → Appended {A = A} [] at at out out
+  appended-none at out = record { next = sym (add-zero at); list = sym (append-nil (take at out)) }
+
+  pub appended-join : (new more : List A) (from mid to : ℕ) (old out last : List A) → Appended new from mid old out → Appended more mid to out last → Appended (new ++ more) from to old last
+  appended-join new more from mid to old out last a b = record {
+    next = omega (arith, a .next, b .next, length-append new more);
+    list = b .list ∙ ap (λ (t : List A). t ++ more) (a .list) ∙ append-assoc (take from old) new more;
+  }
+
+  -- written from 0 on, and cleared past it
+  pub appended-cleared : (z : A) (new : List A) (to : ℕ) (old out last : List A) → Appended new 0 to old out → length out ≡ length old → last ≡ padded z (length out) (take to out) → last ≡ padded z (length old) new
+  appended-cleared z new to old out last a s e = e ∙ ap₂ (λ (n : ℕ) (l : List A). padded z n l) s (a .list)
+
 -- ---- what a list holds after a call whose checks gave the verdict v
 
-module _ {A : Type 0} (a : Answer) (v : Verdict) (h : told v ≡ a) where
-  pub kept-refused : (e : HybitError) (new old : List A) → v ≡ Refused e → old ≡ kept a new old
-  kept-refused e new old k = rw (refused-by a v e h k)
+module _ {A : Type 0} where
+  pub kept-refused : (a : Answer) (v : Verdict) (e : HybitError) (new old : List A) → told v ≡ a → v ≡ Refused e → old ≡ kept a new old
+  kept-refused a v e new old h k = rw (refused-by a v e h k)
 
-  pub kept-accepted : (new old out : List A) → v ≡ Accepted → out ≡ new → out ≡ kept a new old
-  kept-accepted new old out k r = rw (accepted-by a v h k) r
+  pub kept-accepted : (a : Answer) (v : Verdict) (new old out : List A) → told v ≡ a → v ≡ Accepted → out ≡ new → out ≡ kept a new old
+  kept-accepted a v new old out h k r = rw (accepted-by a v h k) r
 
-  pub built-refused : (z : A) (n : ℕ) (e : HybitError) (new out : List A) → v ≡ Refused e → out ≡ padded z n [] → out ≡ built z n a new
-  built-refused z n e new out k r = rw (refused-by a v e h k) r
+  pub built-refused : (z : A) (n : ℕ) (a : Answer) (v : Verdict) (e : HybitError) (new out : List A) → told v ≡ a → v ≡ Refused e → out ≡ padded z n [] → out ≡ built z n a new
+  built-refused z n a v e new out h k r = rw (refused-by a v e h k) r
 
-  pub built-accepted : (z : A) (n : ℕ) (new out : List A) → v ≡ Accepted → out ≡ padded z n new → out ≡ built z n a new
-  built-accepted z n new out k r = rw (accepted-by a v h k) r
+  pub built-accepted : (z : A) (n : ℕ) (a : Answer) (v : Verdict) (new out : List A) → told v ≡ a → v ≡ Accepted → out ≡ padded z n new → out ≡ built z n a new
+  built-accepted z n a v new out h k r = rw (accepted-by a v h k) r
+
+pub ruleset lists = (kept-refused, kept-accepted, built-refused, built-accepted)

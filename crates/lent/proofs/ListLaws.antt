@@ -1,5 +1,5 @@
 -- Laws of lists made row after row, and of tests over lists. Assumes nothing.
-use mathlib.Core.Bool.{Bool, true, false, not, cond, _&&_, _||_, true≢false, false≢true}
+use mathlib.Core.Bool.{Bool, true, false, not, cond, _&&_, _||_, or-false, true≢false, false≢true}
 use mathlib.Core.List.{List, [], _∷_, _++_, map, zip, zipWith, foldl, append-assoc, append-nil}
 use mathlib.Core.Path.{_≡_, refl, sym, ap, ap₂, _∙_, subst}
 use Prim.Native.Nat.{ℕ, zero, suc, _+_, _-_, _≤_, _<_}
@@ -8,8 +8,8 @@ use native.Mathlib.Numerals.{add-one}
 use native.Mathlib.Decide.{le-ind, decLt}
 use native.Mathlib.Omega.{arith}
 use lib.Dec.{leb, eqb, ltb}
-use lib.ListN.{length, getD, take, drop, length-append, length-map, List·getD-append}
-use lib.Seq.{slice, take-at, drop-at, getD-at, getD-append-add, getD-append-seam}
+use lib.ListN.{length, getD, take, drop, set, replicate, length-set, length-replicate, drop-of-length-le, length-append, length-map, List·getD-append}
+use lib.Seq.{ext-getD, getD-set-same, getD-set-other, drop-cons, slice, take-at, drop-at, getD-at, getD-append-add, getD-append-seam}
 use Rattle.hybit_core.proofs.BoolLaws.{and-left, and-right, and-both}
 use Rattle.lent.specs.Lists.{joined, each, starts, part, consIf, only, every, some, first, spread}
 
@@ -206,3 +206,75 @@ only-append p (a ∷ l) m = go (p a) (only-append p l m)
     go : (t : Bool) → only p (l ++ m) ≡ only p l ++ only p m → consIf t a (only p (l ++ m)) ≡ consIf t a (only p l) ++ only p m
     go true e = ap (λ (s : List _). a ∷ s) e
     go false e = e
+
+-- ---- f 0, f 1, .. with one place stored to, and place by place
+
+pub each-set : {A : Type 0} (d : A) (f g : ℕ → A) (n i : ℕ) (l : List A) (a : A) → l ≡ each f n → i < n → a ≡ g i → ((j : ℕ) → j < n → (j ≡ i → ⊥) → g j ≡ f j) → set l i a ≡ each g n
+each-set {A} d f g n i l a e h ea s = ext-getD d (set l i a) (each g n) (length-set l i a ∙ size ∙ sym (length-each g n)) places
+  where
+    size : length l ≡ n
+    size = ap length e ∙ length-each f n
+
+    other : (j : ℕ) → j < n → (j ≡ i → ⊥) → getD (set l i a) j d ≡ getD (each g n) j d
+    other j b q = getD-set-other l i j a d q ∙ ap (λ (t : List A). getD t j d) e ∙ getD-each f n j d b ∙ sym (s j b q) ∙ sym (getD-each g n j d b)
+
+    places : (j : ℕ) → j < length (set l i a) → getD (set l i a) j d ≡ getD (each g n) j d
+    places j b = go (decLt j i) (decLt i j)
+      where
+        bn : j < n
+        bn = omega (arith, length-set l i a, size)
+
+        go : Dec (j < i) → Dec (i < j) → getD (set l i a) j d ≡ getD (each g n) j d
+        go (yes x) y = other j bn (λ q. omega arith)
+        go (no x) (yes y) = other j bn (λ q. omega arith)
+        go (no x) (no y) =
+            let q : j ≡ i = omega arith in
+            ap (λ (k : ℕ). getD (set l i a) k d) q ∙ getD-set-same l i a d (omega (arith, size)) ∙ ea ∙ sym (ap (λ (k : ℕ). getD (each g n) k d) q ∙ getD-each g n i d h)
+
+pub each-cong : {A : Type 0} (f g : ℕ → A) (n : ℕ) → ((k : ℕ) → k < n → f k ≡ g k) → each f n ≡ each g n
+unfolding each
+each-cong f g n h = joined-cong (λ k. f k ∷ []) (λ k. g k ∷ []) n (λ k l. ap (λ (a : _). a ∷ []) (h k l))
+
+-- a list is the list of its places
+pub each-is : {A : Type 0} (d : A) (f : ℕ → A) (n : ℕ) (l : List A) → length l ≡ n → ((k : ℕ) → k < n → getD l k d ≡ f k) → l ≡ each f n
+each-is d f n l e h = ext-getD d l (each f n) (e ∙ sym (length-each f n)) (λ k b. h k (omega arith) ∙ sym (getD-each f n k d (omega arith)))
+
+pub each-same : {A : Type 0} (z : A) (n : ℕ) → each (λ k. z) n ≡ replicate n z
+each-same z n = sym (each-is z (λ k. z) n (replicate n z) (length-replicate n z) (λ k h. getD-replicate k n h))
+  where
+    getD-replicate : (k n : ℕ) → k < n → getD (replicate n z) k z ≡ z
+    getD-replicate k zero h = absurd (not-suc-le-zero h)
+    getD-replicate zero (suc n) h = refl
+    getD-replicate (suc k) (suc n) h = getD-replicate k n (omega arith)
+
+-- ---- every element of a list passes, as a loop over it finds: what is left decides
+
+module _ {A : Type 0} (p : A → Bool) (l : List A) (i : ℕ) (inv : every p l ≡ every p (drop i l)) where
+  every-step : (d : A) → i < length l → every p l ≡ (p (getD l i d) && every p (drop (i + 1) l))
+  unfolding every
+  every-step d h = inv ∙ rw (add-one, drop-cons l i d)
+
+  pub every-more : (d : A) → i < length l → true ≡ p (getD l i d) → every p l ≡ every p (drop (i + 1) l)
+  every-more d h e = every-step d h ∙ rw (← e)
+
+  pub every-fails : (d : A) → i < length l → false ≡ p (getD l i d) → false ≡ every p l
+  every-fails d h e = sym (every-step d h ∙ rw (← e))
+
+  pub every-done : length l ≤ i → true ≡ every p l
+  unfolding every
+  every-done h = sym (inv ∙ rw drop-of-length-le)
+
+-- ---- some element of a list passes: one element more
+
+pub some-none : {A : Type 0} (p : A → Bool) → some p [] ≡ false
+unfolding some
+some-none p = refl
+
+pub some-snoc : {A : Type 0} (p : A → Bool) (l : List A) (a : A) → some p (l ++ (a ∷ [])) ≡ (some p l || p a)
+unfolding some
+some-snoc p [] a = or-false (p a)
+some-snoc p (b ∷ l) a = ap (λ (t : Bool). p b || t) (some-snoc p l a) ∙ sym (or-assoc (p b) (some p l) (p a))
+  where
+    or-assoc : (s t u : Bool) → ((s || t) || u) ≡ (s || (t || u))
+    or-assoc true t u = refl
+    or-assoc false t u = refl

@@ -158,6 +158,16 @@ fn examine_indices(len: usize, indices: &[usize], room: usize) -> Verdict
     Verdict::Accepted
 }
 
+fn with_value(bits: u64, offset: usize, value: bool) -> u64
+    ensures { λ r. ⌜ r ≡ wordOf (λ i. cond (eqb i offset) value (has bits i)) ⌝ }
+{
+    if value {
+        word::with_bit(bits, offset)
+    } else {
+        word::without_bit(bits, offset)
+    }
+}
+
 // Sets the bit of each index in words that are all 0.
 fn set_all(len: usize, indices: &[usize], words: &mut [u64])
     requires { ⌜ every (λ i. ltb i len) (now indices) ≡ true ⌝ }
@@ -169,7 +179,7 @@ fn set_all(len: usize, indices: &[usize], words: &mut [u64])
     while k < indices.len() {
         let index = indices[k];
         let at = index / 64;
-        words[at] = word::with_bit(words[at], index % 64);
+        words[at] = with_value(words[at], index % 64, true);
         k += 1;
     }
 }
@@ -186,16 +196,6 @@ pub fn from_indices(len: usize, indices: &[usize], words: &mut [u64]) -> Verdict
     }
     set_all(len, indices, words);
     Verdict::Accepted
-}
-
-fn with_value(bits: u64, offset: usize, value: bool) -> u64
-    ensures { λ r. ⌜ r ≡ wordOf (λ i. cond (eqb i offset) value (has bits i)) ⌝ }
-{
-    if value {
-        word::with_bit(bits, offset)
-    } else {
-        word::without_bit(bits, offset)
-    }
 }
 
 fn examine_set(len: usize, words: &[u64], index: usize) -> Verdict

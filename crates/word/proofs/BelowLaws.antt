@@ -236,6 +236,12 @@ below-at-rank p n i h e =
     first : (p : ℕ → Bool) (i n : ℕ) → i < n → p i ≡ true → between p i n ≡ i ∷ between p (suc i) n
     first p i n h e = between-cons p i n h ∙ ap (λ (t : Bool). consIf t i (between p (suc i) n)) e
 
+-- ---- the numbers below k, and then a block of d from k on, of a test that is q there
+pub below-block : (p q : ℕ → Bool) (k d : ℕ) → ((i : ℕ) → i < d → p (k + i) ≡ q i) → below p (k + d) ≡ below p k ++ map (λ (n : ℕ). k + n) (below q d)
+below-block p q k d h =
+    below-between p (k + d) ∙ between-split p 0 k (k + d) zero-le (omega arith)
+    ∙ ap₂ (λ (s t : List ℕ). s ++ t) (sym (below-between p k)) (between-block p q k d h)
+
 -- ---- the count of a block of d positions from k on
 pub length-block : (p : ℕ → Bool) (k d : ℕ) → length (below p (k + d)) ≡ length (below p k) + length (below (λ i. p (k + i)) d)
 length-block p k d =

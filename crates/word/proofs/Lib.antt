@@ -6,3 +6,4 @@ pub mod LowestLaws
 pub mod WordLaws
 pub mod OpLaws
 pub mod RankLaws
+pub mod WalkLaws

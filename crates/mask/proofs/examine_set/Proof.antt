@@ -1,0 +1,32 @@
+-- `mask::examine_set` meets its contract. Assumes nothing.
+use borrow.Author.Needs.{needs}
+use Rattle.hybit_core.proofs.AnswerLaws.{checks}
+use Rattle.hybit_core.proofs.BoolLaws.{tests}
+use Rattle.mask.specs.Calls.{setAnswer}
+use Rattle.mask.proofs.examine_set.Statement.{statement}
+use Rattle.mask.proofs.examine_set.Tie as tie
+
+check-requires : tie.Need-check-requires
+check-requires c κs = search needs
+
+enum-known-v : tie.Need-enum-known-v
+enum-known-v c = search needs
+
+returns : tie.Need-returns
+unfolding setAnswer
+returns c = search (checks, tests, needs)
+
+enum-told : tie.Need-enum-told
+enum-told c = search needs
+
+returns-2 : tie.Need-returns-2
+unfolding setAnswer
+returns-2 c = search (checks, tests, needs)
+
+returns-3 : tie.Need-returns-3
+unfolding setAnswer
+returns-3 c = search (checks, tests, needs)
+
+pub examine-set-spec : {M : Type 1} → statement M
+examine-set-spec =
+    tie.close (tie.spec check-requires enum-known-v returns enum-told returns-2 returns-3)

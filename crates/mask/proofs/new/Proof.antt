@@ -1,0 +1,21 @@
+-- `mask::new` meets its contract. Assumes nothing.
+use borrow.Author.Needs.{needs}
+use mathlib.Core.Path.{_∙_}
+use Rattle.mask.proofs.CallLaws.{new-list}
+use Rattle.mask.proofs.new.Statement.{statement}
+use Rattle.mask.proofs.new.Tie as tie
+
+examine-new-requires : tie.Need-examine-new-requires
+examine-new-requires c κs = search needs
+
+clear-from-u64-requires : tie.Need-clear-from-u64-requires
+clear-from-u64-requires c κs = search needs
+
+same-length : tie.Need-same-length
+same-length c = search needs
+
+returns : tie.Need-returns
+returns c = (c .before .examine-new .ensures, new-list _ _ _ (c .clear-from-u64 .ensures))
+
+pub new-spec : {M : Type 1} → statement M
+new-spec = tie.close (tie.spec examine-new-requires clear-from-u64-requires same-length returns)

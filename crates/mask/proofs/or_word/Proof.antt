@@ -1,0 +1,81 @@
+-- `mask::or_word` meets its contract. Assumes nothing.
+use borrow.Author.Needs.{needs}
+use Rattle.hybit_core.proofs.AnswerLaws.{outcomes, accepted-by}
+use Rattle.lent.proofs.LentLaws.{kept-refused, kept-accepted}
+use Rattle.mask.proofs.MaskLaws.{valid}
+use Rattle.mask.proofs.CallLaws.{or-past, or-is}
+use Rattle.mask.proofs.or_word.Statement.{statement}
+use Rattle.mask.proofs.or_word.Tie as tie
+
+check-requires : tie.Need-check-requires
+check-requires c κs = search needs
+
+enum-known-v : tie.Need-enum-known-v
+enum-known-v c = search needs
+
+same-length : tie.Need-same-length
+same-length c = search needs
+
+returns : tie.Need-returns
+returns c = search (outcomes, kept-refused, needs)
+
+enum-told : tie.Need-enum-told
+enum-told c = search needs
+
+same-length-2 : tie.Need-same-length-2
+same-length-2 c = search needs
+
+returns-2 : tie.Need-returns-2
+returns-2 c = ?
+
+mul-trimmed : tie.Need-mul-trimmed
+mul-trimmed c = ?
+
+sub-trimmed : tie.Need-sub-trimmed
+sub-trimmed c = ?
+
+trimmed-requires : tie.Need-trimmed-requires
+trimmed-requires c κs = search needs
+
+mul-union : tie.Need-mul-union
+mul-union c = search needs
+
+slice-read-union : tie.Need-slice-read-union
+slice-read-union c = search needs
+
+union-requires : tie.Need-union-requires
+union-requires c κs = search needs
+
+mul-words : tie.Need-mul-words
+mul-words c = search needs
+
+slice-write-words : tie.Need-slice-write-words
+slice-write-words c = search needs
+
+same-length-3 : tie.Need-same-length-3
+same-length-3 c = search needs
+
+returns-3 : tie.Need-returns-3
+returns-3 c = ?
+
+pub or-word-spec : {M : Type 1} → statement M
+or-word-spec =
+    tie.close
+    (tie.spec
+    check-requires
+    enum-known-v
+    same-length
+    returns
+    enum-told
+    same-length-2
+    returns-2
+    mul-trimmed
+    sub-trimmed
+    trimmed-requires
+    mul-union
+    slice-read-union
+    union-requires
+    mul-words
+    slice-write-words
+    same-length-3
+    returns-3)

@@ -1,0 +1,60 @@
+-- `mask::set` meets its contract. Assumes nothing.
+use borrow.Author.Needs.{needs}
+use Rattle.hybit_core.proofs.AnswerLaws.{outcomes, accepted-by}
+use Rattle.lent.proofs.LentLaws.{kept-refused, kept-accepted}
+use Rattle.mask.proofs.CallLaws.{set-valid, set-inside, set-place, set-is}
+use Rattle.mask.proofs.set.Statement.{statement}
+use Rattle.mask.proofs.set.Tie as tie
+
+examine-set-requires : tie.Need-examine-set-requires
+examine-set-requires c κs = search needs
+
+enum-known-v : tie.Need-enum-known-v
+enum-known-v c = search needs
+
+same-length : tie.Need-same-length
+same-length c = search needs
+
+returns : tie.Need-returns
+returns c = search (outcomes, kept-refused, needs)
+
+enum-told : tie.Need-enum-told
+enum-told c = search needs
+
+mul-with-value : tie.Need-mul-with-value
+mul-with-value c = search needs
+
+slice-read-with-value : tie.Need-slice-read-with-value
+slice-read-with-value c = search (set-place, accepted-by, needs)
+
+with-value-requires : tie.Need-with-value-requires
+with-value-requires c κs = search needs
+
+mul-words : tie.Need-mul-words
+mul-words c = search needs
+
+slice-write-words : tie.Need-slice-write-words
+slice-write-words c = search (set-place, accepted-by, needs)
+
+same-length-2 : tie.Need-same-length-2
+same-length-2 c = search needs
+
+returns-2 : tie.Need-returns-2
+returns-2 c = ?
+
+pub set-spec : {M : Type 1} → statement M
+set-spec =
+    tie.close
+    (tie.spec
+    examine-set-requires
+    enum-known-v
+    same-length
+    returns
+    enum-told
+    mul-with-value
+    slice-read-with-value
+    with-value-requires
+    mul-words
+    slice-write-words
+    same-length-2
+    returns-2)

@@ -1,0 +1,21 @@
+-- `mask::with_value` meets its contract. Assumes nothing.
+use borrow.Author.Needs.{needs}
+use mathlib.Core.Path.{_≡_}
+use Rattle.mask.proofs.CallLaws.{value-on, value-off}
+use Rattle.mask.proofs.with_value.Statement.{statement}
+use Rattle.mask.proofs.with_value.Tie as tie
+
+with-bit-requires : tie.Need-with-bit-requires
+with-bit-requires c κs = search needs
+
+without-bit-requires : tie.Need-without-bit-requires
+without-bit-requires c κs = search needs
+
+returns : tie.Need-returns
+returns c = search (value-on, needs)
+
+returns-2 : tie.Need-returns-2
+returns-2 c = search (value-off, needs)
+
+pub with-value-spec : {M : Type 1} → statement M
+with-value-spec = tie.close (tie.spec with-bit-requires without-bit-requires returns returns-2)

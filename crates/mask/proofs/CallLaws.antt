@@ -7,7 +7,7 @@ use native.Mathlib.Nat.{zero-add}
 use native.Mathlib.Numerals.{add-one}
 use native.Mathlib.Decide.{decLt, ℕ-discrete}
 use native.Mathlib.Omega.{arith}
-use borrow.Author.Tests.{eq-eqb, ne-eqb, eqb-true, lt-ltb, le-ltb, ltb-true, leb-true}
+use borrow.Author.Tests.{eq-eqb, ne-eqb, eqb-true, lt-ltb, le-ltb, ltb-true, leb-true, le-leb, lt-leb}
 use lib.Count.{trailingZeros}
 use lib.Dec.{eqb, ltb, leb, lit<}
 use lib.ListN.{length, getD, take, set, replicate, length-set}
@@ -464,6 +464,28 @@ module _ (n : ℕ) (is : List ℕ) (room : ℕ) (ok : fromIndicesAnswer n is roo
       (demand-accepted (leb (ceil64 n) room) 13
       (then-second (demand (every (λ i. ltb i n) is) 7) (demand (leb (ceil64 n) room) 13)
       (then-second (demand (few n) 1) (demand (every (λ i. ltb i n) is) 7 andThen demand (leb (ceil64 n) room) 13) ok)))
+
+-- a list that was cleared whole
+module _ (room : ℕ) (out : List ℕ) (e : out ≡ padded 0 room []) where
+  pub cleared-length : length out ≡ room
+  cleared-length = ap length e ∙ length-padded 0 room [] (omega arith)
+
+  pub cleared-room : (m : ℕ) → m ≤ room → m ≤ length out
+  cleared-room m h = omega (arith, cleared-length)
+
+  pub cleared-self : out ≡ padded 0 (length out) []
+  cleared-self = e ∙ ap (λ (n : ℕ). padded 0 n []) (sym cleared-length)
+
+  pub cleared-then : (last l : List ℕ) → last ≡ padded 0 (length out) l → last ≡ padded 0 room l
+  cleared-then last l h = h ∙ ap (λ (n : ℕ). padded 0 n l) cleared-length
+
+-- the members fit, or not, as the code counts them
+module _ (n : ℕ) (ws : List ℕ) (room r : ℕ) (ok : Valid n ws) (e : r ≡ count (bitAt ws) (64 * length ws)) where
+  pub room-short : room < r → false ≡ leb (count (active (asMask n ws)) n) room
+  room-short h = sym (lt-leb (count (active (asMask n ws)) n) room (omega (arith, ones-are n ws r ok e)))
+
+  pub room-enough : r ≤ room → true ≡ leb (count (active (asMask n ws)) n) room
+  room-enough h = sym (le-leb (count (active (asMask n ws)) n) room (omega (arith, ones-are n ws r ok e)))
 
 -- new leaves zeros, accepted or refused
 pub new-list : (n room : ℕ) (out : List ℕ) → out ≡ padded 0 room [] → out ≡ built 0 room (newAnswer n room) (maskWords (λ c. false) n)

@@ -2,6 +2,7 @@
 use borrow.Author.Needs.{needs}
 use mathlib.Core.Path.{_≡_, refl}
 use Prim.Native.Nat.{_-_}
+use native.Mathlib.Omega.{arith}
 use lib.ListN.{length}
 use Rattle.mask.proofs.CallLaws.{Combining, combining-none, combining-more, combining-done}
 use Rattle.mask.proofs.combine_words.Statement.{statement}
@@ -50,7 +51,7 @@ same-length : tie.Need-same-length Inv-loop μ-loop
 same-length c = search needs
 
 returns : tie.Need-returns Inv-loop μ-loop
-returns c = search (combining-done, needs)
+returns c = combining-done _ _ _ _ _ (c .before .loop .inv .1) (omega arith)
 
 pub combine-words-spec : {M : Type 1} → statement M
 combine-words-spec =

@@ -15,7 +15,7 @@ unfolding newAnswer
 returns c = search (checks, tests, needs)
 
 add-if2 : tie.Need-add-if2
-add-if2 c = omega (arith, dimension-small _ _ (c .before .dimension-fits .ensures) (c .if1 .left))
+add-if2 c = omega (arith, dimension-small (c .before .before .args .len) _ (c .before .dimension-fits .ensures) (c .if1 .left))
 
 returns-2 : tie.Need-returns-2
 unfolding newAnswer

@@ -28,7 +28,7 @@ unfolding pairAnswer
 returns-3 c = search (checks, tests, needs)
 
 rules-hold-requires-2 : tie.Need-rules-hold-requires-2
-rules-hold-requires-2 c κs = search (dimension-small, needs)
+rules-hold-requires-2 c κs = dimension-small _ _ (c .before .before .before .dimension-fits2 .ensures) (c .before .before .if2 .left)
 
 returns-4 : tie.Need-returns-4
 unfolding pairAnswer

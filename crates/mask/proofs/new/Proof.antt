@@ -1,6 +1,5 @@
 -- `mask::new` meets its contract. Assumes nothing.
 use borrow.Author.Needs.{needs}
-use mathlib.Core.Path.{_∙_}
 use Rattle.mask.proofs.CallLaws.{new-list}
 use Rattle.mask.proofs.new.Statement.{statement}
 use Rattle.mask.proofs.new.Tie as tie
@@ -15,7 +14,7 @@ same-length : tie.Need-same-length
 same-length c = search needs
 
 returns : tie.Need-returns
-returns c = (c .before .examine-new .ensures, new-list _ _ _ (c .clear-from-u64 .ensures))
+returns c = (c .before .before .before .before .examine-new .ensures, new-list _ _ _ (c .before .before .clear-from-u64 .ensures))
 
 pub new-spec : {M : Type 1} → statement M
 new-spec = tie.close (tie.spec examine-new-requires clear-from-u64-requires same-length returns)

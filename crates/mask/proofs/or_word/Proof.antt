@@ -1,6 +1,7 @@
 -- `mask::or_word` meets its contract. Assumes nothing.
 use borrow.Author.Needs.{needs}
-use Rattle.hybit_core.proofs.AnswerLaws.{outcomes, accepted-by}
+use native.Mathlib.Omega.{arith}
+use Rattle.hybit_core.proofs.AnswerLaws.{outcomes, accepted-by, answer-accepted}
 use Rattle.lent.proofs.LentLaws.{kept-refused, kept-accepted}
 use Rattle.mask.proofs.MaskLaws.{valid}
 use Rattle.mask.proofs.CallLaws.{or-past, or-is}
@@ -26,13 +27,16 @@ same-length-2 : tie.Need-same-length-2
 same-length-2 c = search needs
 
 returns-2 : tie.Need-returns-2
-returns-2 c = ?
+returns-2 c =
+    let e = c .before .before .before .check .ensures in
+    let t = c .before .enum-told .given .1 in
+    (answer-accepted _ _ e t, kept-accepted _ _ _ _ _ e t (or-past _ _ (valid _ _ (accepted-by _ _ (c .before .before .before .check .ensures) (c .before .enum-told .given .1))) (λ k. c .before .before .before .before .before .slice-known .given k .fits) _ _ (c .if1 .taken)))
 
 mul-trimmed : tie.Need-mul-trimmed
-mul-trimmed c = ?
+mul-trimmed c = let ok = valid _ _ (accepted-by _ _ (c .before .before .before .check .ensures) (c .before .enum-told .given .1)) in omega (arith, ok .small, ok .counted)
 
 sub-trimmed : tie.Need-sub-trimmed
-sub-trimmed c = ?
+sub-trimmed c = let ok = valid _ _ (accepted-by _ _ (c .before .before .before .check .ensures) (c .before .enum-told .given .1)) in omega (arith, ok .small, ok .counted)
 
 trimmed-requires : tie.Need-trimmed-requires
 trimmed-requires c κs = search needs
@@ -56,7 +60,10 @@ same-length-3 : tie.Need-same-length-3
 same-length-3 c = search needs
 
 returns-3 : tie.Need-returns-3
-returns-3 c = ?
+returns-3 c =
+    let e = c .before .before .before .before .before .before .check .ensures in
+    let t = c .before .before .before .before .enum-told .given .1 in
+    (answer-accepted _ _ e t, kept-accepted _ _ _ _ _ e t (or-is _ _ (valid _ _ (accepted-by _ _ (c .before .before .before .before .before .before .check .ensures) (c .before .before .before .before .enum-told .given .1))) (λ k. c .before .slice-known2 .given k .fits) _ _ _ _ (c .before .before .before .if1 .left) (c .before .before .trimmed .ensures) (c .union .ensures)))
 
 pub or-word-spec : {M : Type 1} → statement M
 or-word-spec =

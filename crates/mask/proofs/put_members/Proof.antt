@@ -16,7 +16,7 @@ abbrev μ-loop : tie.MeasureT-loop
 μ-loop word base from out₀ bits₀ at₀ out bits at = length (members bits)
 
 loop-holds : tie.Need-loop-holds Inv-loop μ-loop
-loop-holds c = walking-start _ _ _ _ (c .before .before .fits .word .fits)
+loop-holds c = walking-start _ _ _ _ (c .before .fits .word .fits)
 
 lowest-requires : tie.Need-lowest-requires Inv-loop μ-loop
 lowest-requires c κs = search needs
@@ -40,7 +40,7 @@ loop-less : tie.Need-loop-less Inv-loop μ-loop
 loop-less c = walk-less _ (c .before .before .before .loop .inv .fits) (c .before .before .loop-test .taken) _ (c .without-lowest .ensures)
 
 loop-again : tie.Need-loop-again Inv-loop μ-loop
-loop-again c = walking-more _ _ _ _ _ _ _ (c .before .before .before .loop .inv) _ _ _ (c .before .before .loop-test .taken) (c .before .before .before .before .before .pre .1) (c .before .lowest .ensures) (c .without-lowest .ensures) refl (c .without-lowest .ok .fits)
+loop-again c = walking-more _ _ _ _ _ _ _ (c .before .before .before .loop .inv) _ _ _ (c .before .before .loop-test .taken) (c .before .before .before .before .before .pre .1) (c .before .lowest .ensures) (c .without-lowest .ensures) refl (c .without-lowest .ok)
 
 same-length : tie.Need-same-length Inv-loop μ-loop
 same-length c = search needs

@@ -1,6 +1,7 @@
 -- `mask::set_all` meets its contract. Assumes nothing.
 use borrow.Author.Needs.{needs}
 use Prim.Native.Nat.{_-_}
+use native.Mathlib.Omega.{arith}
 use lib.ListN.{length}
 use Rattle.mask.proofs.CallLaws.{Setting, setting-none, setting-more, setting-length, setting-done, index-word}
 use Rattle.mask.proofs.set_all.Statement.{statement}
@@ -22,7 +23,7 @@ shared-slice-read-index : tie.Need-shared-slice-read-index Inv-loop μ-loop
 shared-slice-read-index c = search needs
 
 mul-with-value : tie.Need-mul-with-value Inv-loop μ-loop
-mul-with-value c = search needs
+mul-with-value c = omega (arith, c .shared-slice-known2 .given (c .before .before .loop .k))
 
 slice-read-with-value : tie.Need-slice-read-with-value Inv-loop μ-loop
 slice-read-with-value c = search (index-word, needs)
@@ -31,7 +32,7 @@ with-value-requires : tie.Need-with-value-requires Inv-loop μ-loop
 with-value-requires c κs = search needs
 
 mul-words : tie.Need-mul-words Inv-loop μ-loop
-mul-words c = search needs
+mul-words c = omega (arith, c .before .before .shared-slice-known2 .given (c .before .before .before .before .loop .k))
 
 slice-write-words : tie.Need-slice-write-words Inv-loop μ-loop
 slice-write-words c = search (index-word, needs)

@@ -1,0 +1,35 @@
+-- `mask::is_empty` meets its contract. Assumes nothing.
+use borrow.Author.Needs.{needs}
+use mathlib.Core.Path.{ap}
+use Prim.Native.Nat.{ℕ}
+use lib.Dec.{eqb}
+use Rattle.hybit_core.proofs.AnswerLaws.{outcomes, accepted-by, given-accepted}
+use Rattle.mask.proofs.MaskLaws.{valid, few-words}
+use Rattle.mask.proofs.CallLaws.{ones-are}
+use Rattle.mask.proofs.is_empty.Statement.{statement}
+use Rattle.mask.proofs.is_empty.Tie as tie
+
+check-requires : tie.Need-check-requires
+check-requires c κs = search needs
+
+enum-known-v : tie.Need-enum-known-v
+enum-known-v c = search needs
+
+returns : tie.Need-returns
+returns c = search (outcomes, needs)
+
+enum-told : tie.Need-enum-told
+enum-told c = search needs
+
+ones-requires : tie.Need-ones-requires
+ones-requires c κs = few-words _ _ (valid _ _ (accepted-by _ _ (c .before .before .check .ensures) (c .enum-told .given .1)))
+
+returns-2 : tie.Need-returns-2
+returns-2 c =
+    let e = c .before .before .before .check .ensures in
+    let t = c .before .enum-told .given .1 in
+    given-accepted _ _ _ _ e t (ap (λ (n : ℕ). eqb n 0) (ones-are _ _ _ (valid _ _ (accepted-by _ _ (c .before .before .before .check .ensures) (c .before .enum-told .given .1))) (c .ones .ensures)))
+
+pub is-empty-spec : {M : Type 1} → statement M
+is-empty-spec =
+    tie.close (tie.spec check-requires enum-known-v returns enum-told ones-requires returns-2)

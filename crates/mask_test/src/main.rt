@@ -830,6 +830,7 @@ fn many_words(a: &mut [u64], b: &mut [u64], out: &mut [usize]) {
     over_size_paired(a, b);
 }
 
+// The long lists come late: `rt try` interprets all before them within its limit of steps, and runs them compiled.
 fn all(a: &mut [u64], b: &mut [u64], out: &mut [usize]) {
     one_word(a, b, out);
     two_words(a, b, out);

@@ -205,7 +205,7 @@ fn examine_set(len: usize, words: &[u64], index: usize) -> Verdict
     if let Verdict::Refused(e) = v {
         return Verdict::Refused(e);
     }
-    if index >= len {
+    if len <= index {
         return Verdict::Refused(HybitError::NoSuchPlace);
     }
     Verdict::Accepted
@@ -261,9 +261,10 @@ fn put_all(words: &[u64], out: &mut [usize]) -> usize
     requires { ⌜ (length (now words) ≤ 2 ^ 14) × (count (bitAt (now words)) (64 * length (now words)) ≤ length (now out)) ⌝ }
     ensures { λ r. ⌜ Appended (below (bitAt (now (words .entry))) (64 * length (now (words .entry)))) 0 r (now (out .entry)) (now (out .exit)) ⌝ }
 {
+    let n = words.len();
     let mut at: usize = 0;
     let mut k: usize = 0;
-    while k < words.len() {
+    while k < n {
         at = put_members(words[k], k * 64, at, out);
         k += 1;
     }
@@ -299,26 +300,23 @@ pub fn indices(len: usize, words: &[u64], out: &mut [usize]) -> CountAnswer
 }
 
 // The Rust's `ensure_same_len`, after the checks of both masks.
-fn examine_pair(len: usize, words: &[u64], other_len: usize, other: &[u64]) -> Verdict
-    ensures { λ r. ⌜ told r ≡ pairAnswer (asMask len (now (words .entry))) (asMask «other_len» (now (other .entry))) ⌝ }
+fn examine_pair(expected: usize, words: &[u64], actual: usize, other: &[u64]) -> Verdict
+    ensures { λ r. ⌜ told r ≡ pairAnswer (asMask expected (now (words .entry))) (asMask actual (now (other .entry))) ⌝ }
 {
-    if !hybit_core::dimension_fits(len) {
+    if !hybit_core::dimension_fits(expected) {
         return Verdict::Refused(HybitError::SizeOverflow);
     }
-    if !hybit_core::dimension_fits(other_len) {
+    if !hybit_core::dimension_fits(actual) {
         return Verdict::Refused(HybitError::SizeOverflow);
     }
-    if !rules_hold(len, words) {
+    if !rules_hold(expected, words) {
         return Verdict::Refused(HybitError::BadMask);
     }
-    if !rules_hold(other_len, other) {
+    if !rules_hold(actual, other) {
         return Verdict::Refused(HybitError::BadMask);
     }
-    if other_len != len {
-        return Verdict::Refused(HybitError::DimensionMismatch {
-            expected: len,
-            actual: other_len,
-        });
+    if actual != expected {
+        return Verdict::Refused(HybitError::DimensionMismatch { expected, actual });
     }
     Verdict::Accepted
 }
@@ -327,9 +325,9 @@ fn combine_words(operation: Operation, words: &mut [u64], other: &[u64])
     requires { ⌜ length (now other) ≡ length (now words) ⌝ }
     ensures { λ _. ⌜ now (words .exit) ≡ each (λ w. wordOf (λ i. combined operation (has (getD (now (words .entry)) w 0) i) (has (getD (now (other .entry)) w 0) i))) (length (now (words .entry))) ⌝ }
 {
-    let n = words.len();
+    let count = words.len();
     let mut k: usize = 0;
-    while k < n {
+    while k < count {
         words[k] = word::combine(operation, words[k], other[k]);
         k += 1;
     }

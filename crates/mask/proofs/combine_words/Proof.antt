@@ -9,10 +9,10 @@ use Rattle.mask.proofs.combine_words.Statement.{statement}
 use Rattle.mask.proofs.combine_words.Tie as tie
 
 abbrev Inv-loop : tie.InvT-loop
-Inv-loop operation words₀ other n k₀ words k = (n ≡ length words₀) × Combining operation words₀ other k words
+Inv-loop operation words₀ other count k₀ words k = (count ≡ length words₀) × Combining operation words₀ other k words
 
 abbrev μ-loop : tie.MeasureT-loop
-μ-loop operation words₀ other n k₀ words k = n - k
+μ-loop operation words₀ other count k₀ words k = count - k
 
 loop-holds : tie.Need-loop-holds Inv-loop μ-loop
 loop-holds c = (refl, combining-none _ _ _)

@@ -1,5 +1,6 @@
 -- `mask::put_all` meets its contract. Assumes nothing.
 use borrow.Author.Needs.{needs}
+use mathlib.Core.Path.{_≡_, refl}
 use Prim.Native.Nat.{_-_}
 use native.Mathlib.Omega.{arith}
 use lib.ListN.{length}
@@ -8,13 +9,13 @@ use Rattle.mask.proofs.put_all.Statement.{statement}
 use Rattle.mask.proofs.put_all.Tie as tie
 
 abbrev Inv-loop : tie.InvT-loop
-Inv-loop words out₀ at₀ k₀ out at k = Listing words out₀ k at out
+Inv-loop words out₀ n at₀ k₀ out at k = (n ≡ length words) × Listing words out₀ k at out
 
 abbrev μ-loop : tie.MeasureT-loop
-μ-loop words out₀ at₀ k₀ out at k = length words - k
+μ-loop words out₀ n at₀ k₀ out at k = n - k
 
 loop-holds : tie.Need-loop-holds Inv-loop μ-loop
-loop-holds c = listing-none _ _
+loop-holds c = (refl, listing-none _ _)
 
 mul-put-members : tie.Need-mul-put-members Inv-loop μ-loop
 mul-put-members c = search needs
@@ -26,7 +27,7 @@ mul-put-members-2 : tie.Need-mul-put-members-2 Inv-loop μ-loop
 mul-put-members-2 c = search needs
 
 put-members-requires : tie.Need-put-members-requires Inv-loop μ-loop
-put-members-requires c κs = (omega arith, listing-room _ _ _ _ _ (c .before .before .before .loop .inv) (c .before .before .loop-test .taken) (c .before .before .before .before .before .before .pre .1))
+put-members-requires c κs = (omega arith, listing-room _ _ _ _ _ (c .before .before .before .loop .inv .1) (omega arith) (c .before .before .before .before .before .before .pre .1))
 
 add-k : tie.Need-add-k Inv-loop μ-loop
 add-k c = search needs
@@ -35,13 +36,13 @@ loop-less : tie.Need-loop-less Inv-loop μ-loop
 loop-less c = search needs
 
 loop-again : tie.Need-loop-again Inv-loop μ-loop
-loop-again c = listing-more _ _ _ _ _ (c .before .before .before .before .before .before .loop .inv) _ _ (c .before .before .before .before .before .loop-test .taken) (c .before .before .put-members .kept .1 .1 .1 .0) (c .before .before .put-members .ensures)
+loop-again c = (c .before .before .before .before .before .before .loop .inv .0, listing-more _ _ _ _ _ (c .before .before .before .before .before .before .loop .inv .1) _ _ (omega arith) (c .before .before .put-members .kept .1 .1 .1 .0) (c .before .before .put-members .ensures))
 
 same-length : tie.Need-same-length Inv-loop μ-loop
 same-length c = search needs
 
 returns : tie.Need-returns Inv-loop μ-loop
-returns c = listing-done _ _ _ _ _ (c .before .loop .inv) (search needs)
+returns c = listing-done _ _ _ _ _ (c .before .loop .inv .1) (omega arith)
 
 pub put-all-spec : {M : Type 1} → statement M
 put-all-spec =

@@ -23,7 +23,7 @@ kept (refused t) new old = old
 abbrev pub handed : {A : Type 0} → A → ℕ → Answer → ℕ → List A → List A
 handed z n a used l = take used (built z n a l)
 
--- new is written from place `from` on: the next place, what then stands before it, and the list's length as it was
+-- new is written from place `from` on: the next place, and what then stands before it
 pub record Appended {A : Type 0} (new : List A) (from to : ℕ) (old out : List A) : Type 0 where
   pub next : to ≡ from + length new
   pub list : take to out ≡ take from old ++ new

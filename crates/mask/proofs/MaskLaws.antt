@@ -13,7 +13,10 @@ use lib.Pow.{pow-pos, pow-mono}
 use native.Mathlib.Nat.{div-le-self}
 use Rattle.hybit_core.specs.Answer.{Answer, accepted, demand, _andThen_}
 use Rattle.hybit_core.specs.Domain.{few}
-use Rattle.hybit_core.proofs.AnswerLaws.{demand-accepted, then-first, then-second}
+use Rattle.hybit_core.specs.Table.{told}
+use Rattle.hybit_core.specs.declared.Verdict.{Verdict}
+use Rattle.hybit_core.specs.declared.Verdict.the-variants.{Accepted}
+use Rattle.hybit_core.proofs.AnswerLaws.{demand-accepted, then-first, then-second, accepted-by}
 use Rattle.hybit_core.proofs.BoolLaws.{and-left, and-right, and-both, same-test}
 use Rattle.lent.specs.Lists.{each}
 use Rattle.lent.proofs.ListLaws.{length-each, getD-each, each-is}
@@ -80,6 +83,10 @@ unfolding maskAnswer
 valid n ws ok =
     rules-valid n ws (leb-true n (2 ^ 20) (demand-accepted (few n) 1 (then-first (demand (few n) 1) (demand (maskRules (asMask n ws)) 5) ok)))
     (demand-accepted (maskRules (asMask n ws)) 5 (then-second (demand (few n) 1) (demand (maskRules (asMask n ws)) 5) ok))
+
+-- the same where `check` gave the verdict v
+pub checked : (n : ℕ) (ws : List ℕ) (v : Verdict) → told v ≡ maskAnswer (asMask n ws) → v ≡ Accepted → Valid n ws
+checked n ws v e t = valid n ws (accepted-by (maskAnswer (asMask n ws)) v e t)
 
 -- ---- the rules, as the code tests them
 

@@ -187,7 +187,9 @@ fn set_all(len: usize, indices: &[usize], words: &mut [u64])
 // The mask whose members are the indices, in any order and with repeats. The used part is ceil(len / 64) words.
 pub fn from_indices(len: usize, indices: &[usize], words: &mut [u64]) -> Verdict
     ensures answer { λ r. ⌜ told r ≡ fromIndicesAnswer len (now (indices .entry)) (length (now (words .entry))) ⌝ }
-    ensures list { λ _. ⌜ now (words .exit) ≡ built 0 (length (now (words .entry))) (fromIndicesAnswer len (now (indices .entry)) (length (now (words .entry)))) (maskWords (listed (now (indices .entry))) len) ⌝ }
+    ensures list { λ _. ⌜ now (words .exit) ≡ built 0 (length (now (words .entry)))
+        (fromIndicesAnswer len (now (indices .entry)) (length (now (words .entry))))
+        (maskWords (listed (now (indices .entry))) len) ⌝ }
 {
     let v = examine_indices(len, indices, words.len());
     lent::clear_from_u64(words, 0);
@@ -213,7 +215,8 @@ fn examine_set(len: usize, words: &[u64], index: usize) -> Verdict
 
 pub fn set(len: usize, words: &mut [u64], index: usize, value: bool) -> Verdict
     ensures answer { λ r. ⌜ told r ≡ setAnswer (asMask len (now (words .entry))) index ⌝ }
-    ensures list { λ _. ⌜ now (words .exit) ≡ kept (setAnswer (asMask len (now (words .entry))) index) (maskWords (changed (active (asMask len (now (words .entry)))) index value) len) (now (words .entry)) ⌝ }
+    ensures list { λ _. ⌜ now (words .exit) ≡ kept (setAnswer (asMask len (now (words .entry))) index)
+        (maskWords (changed (active (asMask len (now (words .entry)))) index value) len) (now (words .entry)) ⌝ }
 {
     let v = examine_set(len, words, index);
     if let Verdict::Refused(e) = v {
@@ -227,7 +230,8 @@ pub fn set(len: usize, words: &mut [u64], index: usize, value: bool) -> Verdict
 // Joins `bits` into word `word_index`, the last word trimmed to the length; a word number past the end does nothing.
 pub fn or_word(len: usize, words: &mut [u64], word_index: usize, bits: u64) -> Verdict
     ensures answer { λ r. ⌜ told r ≡ maskAnswer (asMask len (now (words .entry))) ⌝ }
-    ensures list { λ _. ⌜ now (words .exit) ≡ kept (maskAnswer (asMask len (now (words .entry)))) (maskWords (joinedWord (active (asMask len (now (words .entry)))) «word_index» bits) len) (now (words .entry)) ⌝ }
+    ensures list { λ _. ⌜ now (words .exit) ≡ kept (maskAnswer (asMask len (now (words .entry))))
+        (maskWords (joinedWord (active (asMask len (now (words .entry)))) «word_index» bits) len) (now (words .entry)) ⌝ }
 {
     let v = check(len, words);
     if let Verdict::Refused(e) = v {
@@ -286,8 +290,12 @@ fn examine_room(len: usize, words: &[u64], room: usize) -> Verdict
 
 // The members, ascending; answers how many, which is the used part.
 pub fn indices(len: usize, words: &[u64], out: &mut [usize]) -> CountAnswer
-    ensures answer { λ r. ⌜ toldCount r ≡ answers (indicesAnswer (asMask len (now (words .entry))) (length (now (out .entry)))) (count (active (asMask len (now (words .entry)))) len) ⌝ }
-    ensures list { λ _. ⌜ now (out .exit) ≡ built 0 (length (now (out .entry))) (indicesAnswer (asMask len (now (words .entry))) (length (now (out .entry)))) (below (active (asMask len (now (words .entry)))) len) ⌝ }
+    ensures answer { λ r. ⌜ toldCount r ≡ answers
+        (indicesAnswer (asMask len (now (words .entry))) (length (now (out .entry))))
+        (count (active (asMask len (now (words .entry)))) len) ⌝ }
+    ensures list { λ _. ⌜ now (out .exit) ≡ built 0 (length (now (out .entry)))
+        (indicesAnswer (asMask len (now (words .entry))) (length (now (out .entry))))
+        (below (active (asMask len (now (words .entry)))) len) ⌝ }
 {
     let v = examine_room(len, words, out.len());
     if let Verdict::Refused(e) = v {
@@ -323,7 +331,9 @@ fn examine_pair(expected: usize, words: &[u64], actual: usize, other: &[u64]) ->
 
 fn combine_words(operation: Operation, words: &mut [u64], other: &[u64])
     requires { ⌜ length (now other) ≡ length (now words) ⌝ }
-    ensures { λ _. ⌜ now (words .exit) ≡ each (λ w. wordOf (λ i. combined operation (has (getD (now (words .entry)) w 0) i) (has (getD (now (other .entry)) w 0) i))) (length (now (words .entry))) ⌝ }
+    ensures { λ _. ⌜ now (words .exit) ≡ each
+        (λ w. wordOf (λ i. combined operation (has (getD (now (words .entry)) w 0) i) (has (getD (now (other .entry)) w 0) i)))
+        (length (now (words .entry))) ⌝ }
 {
     let count = words.len();
     let mut k: usize = 0;
@@ -341,7 +351,10 @@ fn combine_assign(
     other: &[u64],
 ) -> Verdict
     ensures answer { λ r. ⌜ told r ≡ pairAnswer (asMask len (now (words .entry))) (asMask «other_len» (now (other .entry))) ⌝ }
-    ensures list { λ _. ⌜ now (words .exit) ≡ kept (pairAnswer (asMask len (now (words .entry))) (asMask «other_len» (now (other .entry)))) (maskWords (λ c. combined operation (active (asMask len (now (words .entry))) c) (active (asMask «other_len» (now (other .entry))) c)) len) (now (words .entry)) ⌝ }
+    ensures list { λ _. ⌜ now (words .exit) ≡ kept
+        (pairAnswer (asMask len (now (words .entry))) (asMask «other_len» (now (other .entry))))
+        (maskWords (λ c. combined operation (active (asMask len (now (words .entry))) c) (active (asMask «other_len» (now (other .entry))) c)) len)
+        (now (words .entry)) ⌝ }
 {
     let v = examine_pair(len, words, other_len, other);
     if let Verdict::Refused(e) = v {
@@ -354,7 +367,10 @@ fn combine_assign(
 // Joins the other mask's members to this one's.
 pub fn union_assign(len: usize, words: &mut [u64], other_len: usize, other: &[u64]) -> Verdict
     ensures answer { λ r. ⌜ told r ≡ pairAnswer (asMask len (now (words .entry))) (asMask «other_len» (now (other .entry))) ⌝ }
-    ensures list { λ _. ⌜ now (words .exit) ≡ kept (pairAnswer (asMask len (now (words .entry))) (asMask «other_len» (now (other .entry)))) (maskWords (λ c. active (asMask len (now (words .entry))) c || active (asMask «other_len» (now (other .entry))) c) len) (now (words .entry)) ⌝ }
+    ensures list { λ _. ⌜ now (words .exit) ≡ kept
+        (pairAnswer (asMask len (now (words .entry))) (asMask «other_len» (now (other .entry))))
+        (maskWords (λ c. active (asMask len (now (words .entry))) c || active (asMask «other_len» (now (other .entry))) c) len)
+        (now (words .entry)) ⌝ }
 {
     combine_assign(Operation::Union, len, words, other_len, other)
 }
@@ -362,7 +378,10 @@ pub fn union_assign(len: usize, words: &mut [u64], other_len: usize, other: &[u6
 // Keeps the members that the other mask has too.
 pub fn intersect_assign(len: usize, words: &mut [u64], other_len: usize, other: &[u64]) -> Verdict
     ensures answer { λ r. ⌜ told r ≡ pairAnswer (asMask len (now (words .entry))) (asMask «other_len» (now (other .entry))) ⌝ }
-    ensures list { λ _. ⌜ now (words .exit) ≡ kept (pairAnswer (asMask len (now (words .entry))) (asMask «other_len» (now (other .entry)))) (maskWords (λ c. active (asMask len (now (words .entry))) c && active (asMask «other_len» (now (other .entry))) c) len) (now (words .entry)) ⌝ }
+    ensures list { λ _. ⌜ now (words .exit) ≡ kept
+        (pairAnswer (asMask len (now (words .entry))) (asMask «other_len» (now (other .entry))))
+        (maskWords (λ c. active (asMask len (now (words .entry))) c && active (asMask «other_len» (now (other .entry))) c) len)
+        (now (words .entry)) ⌝ }
 {
     combine_assign(Operation::Intersection, len, words, other_len, other)
 }
@@ -370,7 +389,10 @@ pub fn intersect_assign(len: usize, words: &mut [u64], other_len: usize, other: 
 // Keeps the members that the other mask does not have.
 pub fn and_not_assign(len: usize, words: &mut [u64], other_len: usize, other: &[u64]) -> Verdict
     ensures answer { λ r. ⌜ told r ≡ pairAnswer (asMask len (now (words .entry))) (asMask «other_len» (now (other .entry))) ⌝ }
-    ensures list { λ _. ⌜ now (words .exit) ≡ kept (pairAnswer (asMask len (now (words .entry))) (asMask «other_len» (now (other .entry)))) (maskWords (λ c. active (asMask len (now (words .entry))) c && not (active (asMask «other_len» (now (other .entry))) c)) len) (now (words .entry)) ⌝ }
+    ensures list { λ _. ⌜ now (words .exit) ≡ kept
+        (pairAnswer (asMask len (now (words .entry))) (asMask «other_len» (now (other .entry))))
+        (maskWords (λ c. active (asMask len (now (words .entry))) c && not (active (asMask «other_len» (now (other .entry))) c)) len)
+        (now (words .entry)) ⌝ }
 {
     combine_assign(Operation::AndNot, len, words, other_len, other)
 }
@@ -391,7 +413,9 @@ fn words_meet(words: &[u64], other: &[u64]) -> bool
 
 // Whether the masks share a member.
 pub fn intersects(len: usize, words: &[u64], other_len: usize, other: &[u64]) -> BoolAnswer
-    ensures { λ r. ⌜ toldBool r ≡ answers (pairAnswer (asMask len (now (words .entry))) (asMask «other_len» (now (other .entry)))) (not (eqb (count (both (active (asMask len (now (words .entry)))) (active (asMask «other_len» (now (other .entry))))) len) 0)) ⌝ }
+    ensures { λ r. ⌜ toldBool r ≡ answers
+        (pairAnswer (asMask len (now (words .entry))) (asMask «other_len» (now (other .entry))))
+        (not (eqb (count (both (active (asMask len (now (words .entry)))) (active (asMask «other_len» (now (other .entry))))) len) 0)) ⌝ }
 {
     let v = examine_pair(len, words, other_len, other);
     if let Verdict::Refused(e) = v {

@@ -1,7 +1,7 @@
 -- `mask::examine_room` meets its contract. Assumes nothing.
 use borrow.Author.Needs.{needs}
-use Rattle.hybit_core.proofs.AnswerLaws.{checks, accepted-by, call-accepted, last-fails, last-passes}
-use Rattle.mask.proofs.MaskLaws.{valid, few-words}
+use Rattle.hybit_core.proofs.AnswerLaws.{checks, call-accepted, last-fails, last-passes}
+use Rattle.mask.proofs.MaskLaws.{checked, few-words}
 use Rattle.mask.specs.Calls.{indicesAnswer}
 use Rattle.mask.proofs.CallLaws.{room-short, room-enough}
 use Rattle.mask.proofs.examine_room.Statement.{statement}
@@ -21,15 +21,21 @@ enum-told : tie.Need-enum-told
 enum-told c = search needs
 
 ones-requires : tie.Need-ones-requires
-ones-requires c κs = few-words _ _ (valid _ _ (accepted-by _ _ (c .before .before .check .ensures) (c .enum-told .given .1)))
+ones-requires c κs = few-words _ _ (checked _ _ _ (c .before .before .check .ensures) (c .enum-told .given .1))
 
 returns-2 : tie.Need-returns-2
 unfolding indicesAnswer
-returns-2 c = call-accepted _ _ _ _ (c .before .before .before .before .check .ensures) (c .before .before .enum-told .given .1) (last-fails _ _ (room-short _ _ _ _ (valid _ _ (accepted-by _ _ (c .before .before .before .before .check .ensures) (c .before .before .enum-told .given .1))) (c .before .ones .ensures) (c .if1 .taken)))
+returns-2 c =
+    let e = c .before .before .before .before .check .ensures in
+    let t = c .before .before .enum-told .given .1 in
+    call-accepted _ _ _ _ e t (last-fails _ _ (room-short _ _ _ _ (checked _ _ _ e t) (c .before .ones .ensures) (c .if1 .taken)))
 
 returns-3 : tie.Need-returns-3
 unfolding indicesAnswer
-returns-3 c = call-accepted _ _ _ _ (c .before .before .before .before .check .ensures) (c .before .before .enum-told .given .1) (last-passes _ _ (room-enough _ _ _ _ (valid _ _ (accepted-by _ _ (c .before .before .before .before .check .ensures) (c .before .before .enum-told .given .1))) (c .before .ones .ensures) (c .if1 .left)))
+returns-3 c =
+    let e = c .before .before .before .before .check .ensures in
+    let t = c .before .before .enum-told .given .1 in
+    call-accepted _ _ _ _ e t (last-passes _ _ (room-enough _ _ _ _ (checked _ _ _ e t) (c .before .ones .ensures) (c .if1 .left)))
 
 pub examine-room-spec : {M : Type 1} → statement M
 examine-room-spec =

@@ -3,8 +3,8 @@ use borrow.Author.Needs.{needs}
 use mathlib.Core.Path.{ap}
 use Prim.Native.Nat.{ℕ}
 use lib.Dec.{eqb}
-use Rattle.hybit_core.proofs.AnswerLaws.{outcomes, accepted-by, given-accepted}
-use Rattle.mask.proofs.MaskLaws.{valid, few-words}
+use Rattle.hybit_core.proofs.AnswerLaws.{outcomes, given-accepted}
+use Rattle.mask.proofs.MaskLaws.{checked, few-words}
 use Rattle.mask.proofs.CallLaws.{ones-are}
 use Rattle.mask.proofs.is_empty.Statement.{statement}
 use Rattle.mask.proofs.is_empty.Tie as tie
@@ -22,13 +22,13 @@ enum-told : tie.Need-enum-told
 enum-told c = search needs
 
 ones-requires : tie.Need-ones-requires
-ones-requires c κs = few-words _ _ (valid _ _ (accepted-by _ _ (c .before .before .check .ensures) (c .enum-told .given .1)))
+ones-requires c κs = few-words _ _ (checked _ _ _ (c .before .before .check .ensures) (c .enum-told .given .1))
 
 returns-2 : tie.Need-returns-2
 returns-2 c =
     let e = c .before .before .before .check .ensures in
     let t = c .before .enum-told .given .1 in
-    given-accepted _ _ _ _ e t (ap (λ (n : ℕ). eqb n 0) (ones-are _ _ _ (valid _ _ (accepted-by _ _ (c .before .before .before .check .ensures) (c .before .enum-told .given .1))) (c .ones .ensures)))
+    given-accepted _ _ _ _ e t (ap (λ (n : ℕ). eqb n 0) (ones-are _ _ _ (checked _ _ _ e t) (c .ones .ensures)))
 
 pub is-empty-spec : {M : Type 1} → statement M
 is-empty-spec =

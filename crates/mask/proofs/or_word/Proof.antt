@@ -1,9 +1,9 @@
 -- `mask::or_word` meets its contract. Assumes nothing.
 use borrow.Author.Needs.{needs}
 use native.Mathlib.Omega.{arith}
-use Rattle.hybit_core.proofs.AnswerLaws.{outcomes, accepted-by, answer-accepted}
+use Rattle.hybit_core.proofs.AnswerLaws.{outcomes, answer-accepted}
 use Rattle.lent.proofs.LentLaws.{kept-refused, kept-accepted}
-use Rattle.mask.proofs.MaskLaws.{valid}
+use Rattle.mask.proofs.MaskLaws.{checked}
 use Rattle.mask.proofs.CallLaws.{or-past, or-is}
 use Rattle.mask.proofs.or_word.Statement.{statement}
 use Rattle.mask.proofs.or_word.Tie as tie
@@ -30,13 +30,17 @@ returns-2 : tie.Need-returns-2
 returns-2 c =
     let e = c .before .before .before .check .ensures in
     let t = c .before .enum-told .given .1 in
-    (answer-accepted _ _ e t, kept-accepted _ _ _ _ _ e t (or-past _ _ (valid _ _ (accepted-by _ _ (c .before .before .before .check .ensures) (c .before .enum-told .given .1))) (λ k. c .before .before .before .before .before .slice-known .given k .fits) _ _ (c .if1 .taken)))
+    (answer-accepted _ _ e t, kept-accepted _ _ _ _ _ e t (or-past _ _ (checked _ _ _ e t) (λ k. c .before .before .before .before .before .slice-known .given k .fits) _ _ (c .if1 .taken)))
 
 mul-trimmed : tie.Need-mul-trimmed
-mul-trimmed c = let ok = valid _ _ (accepted-by _ _ (c .before .before .before .check .ensures) (c .before .enum-told .given .1)) in omega (arith, ok .small, ok .counted)
+mul-trimmed c =
+    let ok = checked _ _ _ (c .before .before .before .check .ensures) (c .before .enum-told .given .1) in
+    omega (arith, ok .small, ok .counted)
 
 sub-trimmed : tie.Need-sub-trimmed
-sub-trimmed c = let ok = valid _ _ (accepted-by _ _ (c .before .before .before .check .ensures) (c .before .enum-told .given .1)) in omega (arith, ok .small, ok .counted)
+sub-trimmed c =
+    let ok = checked _ _ _ (c .before .before .before .check .ensures) (c .before .enum-told .given .1) in
+    omega (arith, ok .small, ok .counted)
 
 trimmed-requires : tie.Need-trimmed-requires
 trimmed-requires c κs = search needs
@@ -63,7 +67,9 @@ returns-3 : tie.Need-returns-3
 returns-3 c =
     let e = c .before .before .before .before .before .before .check .ensures in
     let t = c .before .before .before .before .enum-told .given .1 in
-    (answer-accepted _ _ e t, kept-accepted _ _ _ _ _ e t (or-is _ _ (valid _ _ (accepted-by _ _ (c .before .before .before .before .before .before .check .ensures) (c .before .before .before .before .enum-told .given .1))) (λ k. c .before .slice-known2 .given k .fits) _ _ _ _ (c .before .before .before .if1 .left) (c .before .before .trimmed .ensures) (c .union .ensures)))
+    let known = c .before .slice-known2 .given in
+    let inside = c .before .before .before .if1 .left in
+    (answer-accepted _ _ e t, kept-accepted _ _ _ _ _ e t (or-is _ _ (checked _ _ _ e t) (λ k. known k .fits) _ _ _ _ inside (c .before .before .trimmed .ensures) (c .union .ensures)))
 
 pub or-word-spec : {M : Type 1} → statement M
 or-word-spec =

@@ -36,7 +36,10 @@ loop-less : tie.Need-loop-less Inv-loop μ-loop
 loop-less c = search needs
 
 loop-again : tie.Need-loop-again Inv-loop μ-loop
-loop-again c = (c .before .before .before .before .before .before .loop .inv .0, listing-more _ _ _ _ _ (c .before .before .before .before .before .before .loop .inv .1) _ _ (omega arith) (c .before .before .put-members .kept .1 .1 .1 .0) (c .before .before .put-members .ensures))
+loop-again c =
+    let inv = c .before .before .before .before .before .before .loop .inv in
+    let p = c .before .before .put-members in
+    (inv .0, listing-more _ _ _ _ _ (inv .1) _ _ (omega arith) (p .kept .1 .1 .1 .0) (p .ensures))
 
 same-length : tie.Need-same-length Inv-loop μ-loop
 same-length c = search needs

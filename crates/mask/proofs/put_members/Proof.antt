@@ -40,7 +40,11 @@ loop-less : tie.Need-loop-less Inv-loop μ-loop
 loop-less c = walk-less _ (c .before .before .before .loop .inv .fits) (c .before .before .loop-test .taken) _ (c .without-lowest .ensures)
 
 loop-again : tie.Need-loop-again Inv-loop μ-loop
-loop-again c = walking-more _ _ _ _ _ _ _ (c .before .before .before .loop .inv) _ _ _ (c .before .before .loop-test .taken) (c .before .before .before .before .before .pre .1) (c .before .lowest .ensures) (c .without-lowest .ensures) refl (c .without-lowest .ok)
+loop-again c =
+    let some = c .before .before .loop-test .taken in
+    let room = c .before .before .before .before .before .pre .1 in
+    let r = c .without-lowest in
+    walking-more _ _ _ _ _ _ _ (c .before .before .before .loop .inv) _ _ _ some room (c .before .lowest .ensures) (r .ensures) refl (r .ok)
 
 same-length : tie.Need-same-length Inv-loop μ-loop
 same-length c = search needs

@@ -4,7 +4,7 @@ ghost use mathlib.Core.Path.{_≡_};
 ghost use mathlib.Core.Bool.{Bool, true, false, not, cond, _&&_, _||_};
 ghost use mathlib.Core.List.{[], map};
 ghost use Prim.Native.Nat.{ℕ, _+_, _*_, _≤_, _^_};
-ghost use lib.Dec.{eqb, ltb};
+ghost use lib.Dec.{eqb, ltb, leb};
 ghost use lib.ListN.{length, getD};
 ghost use Rattle.hybit_core.specs.Answer.{answers};
 ghost use Rattle.hybit_core.specs.Table.{told, toldCount, toldBool};
@@ -108,13 +108,21 @@ pub fn is_empty(len: usize, words: &[u64]) -> BoolAnswer
     BoolAnswer::Is(ones(words) == 0)
 }
 
+// Whether a list of `room` words holds a mask of this length.
+fn words_fit(len: usize, room: usize) -> bool
+    requires { ⌜ len ≤ 2 ^ 20 ⌝ }
+    ensures { λ r. ⌜ r ≡ leb (ceil64 len) room ⌝ }
+{
+    (len + 63) / 64 <= room
+}
+
 fn examine_new(len: usize, room: usize) -> Verdict
     ensures { λ r. ⌜ told r ≡ newAnswer len room ⌝ }
 {
     if !hybit_core::dimension_fits(len) {
         return Verdict::Refused(HybitError::SizeOverflow);
     }
-    if room < (len + 63) / 64 {
+    if !words_fit(len, room) {
         return Verdict::Refused(HybitError::ShortList);
     }
     Verdict::Accepted
@@ -152,7 +160,7 @@ fn examine_indices(len: usize, indices: &[usize], room: usize) -> Verdict
     if !all_below(indices, len) {
         return Verdict::Refused(HybitError::NoSuchPlace);
     }
-    if room < (len + 63) / 64 {
+    if !words_fit(len, room) {
         return Verdict::Refused(HybitError::ShortList);
     }
     Verdict::Accepted

@@ -1,6 +1,5 @@
 -- `mask::examine_indices` meets its contract. Assumes nothing.
 use borrow.Author.Needs.{needs}
-use native.Mathlib.Omega.{arith}
 use Rattle.hybit_core.proofs.AnswerLaws.{checks, dimension-small}
 use Rattle.hybit_core.proofs.BoolLaws.{tests}
 use Rattle.mask.specs.Calls.{fromIndicesAnswer}
@@ -21,8 +20,8 @@ returns-2 : tie.Need-returns-2
 unfolding fromIndicesAnswer
 returns-2 c = search (checks, tests, needs)
 
-add-if3 : tie.Need-add-if3
-add-if3 c = omega (arith, dimension-small (c .before .before .before .before .before .args .len) _ (c .before .before .before .dimension-fits .ensures) (c .before .before .if1 .left))
+words-fit-requires : tie.Need-words-fit-requires
+words-fit-requires c κs = search (dimension-small, needs)
 
 returns-3 : tie.Need-returns-3
 unfolding fromIndicesAnswer
@@ -40,6 +39,6 @@ examine-indices-spec =
     returns
     all-below-requires
     returns-2
-    add-if3
+    words-fit-requires
     returns-3
     returns-4)

@@ -1,6 +1,5 @@
 -- `mask::examine_new` meets its contract. Assumes nothing.
 use borrow.Author.Needs.{needs}
-use native.Mathlib.Omega.{arith}
 use Rattle.hybit_core.proofs.AnswerLaws.{checks, dimension-small}
 use Rattle.hybit_core.proofs.BoolLaws.{tests}
 use Rattle.mask.specs.Calls.{newAnswer}
@@ -14,8 +13,8 @@ returns : tie.Need-returns
 unfolding newAnswer
 returns c = search (checks, tests, needs)
 
-add-if2 : tie.Need-add-if2
-add-if2 c = omega (arith, dimension-small (c .before .before .args .len) _ (c .before .dimension-fits .ensures) (c .if1 .left))
+words-fit-requires : tie.Need-words-fit-requires
+words-fit-requires c κs = search (dimension-small, needs)
 
 returns-2 : tie.Need-returns-2
 unfolding newAnswer
@@ -26,4 +25,5 @@ unfolding newAnswer
 returns-3 c = search (checks, tests, needs)
 
 pub examine-new-spec : {M : Type 1} → statement M
-examine-new-spec = tie.close (tie.spec dimension-fits-requires returns add-if2 returns-2 returns-3)
+examine-new-spec =
+    tie.close (tie.spec dimension-fits-requires returns words-fit-requires returns-2 returns-3)

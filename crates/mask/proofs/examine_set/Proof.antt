@@ -1,7 +1,8 @@
 -- `mask::examine_set` meets its contract. Assumes nothing.
 use borrow.Author.Needs.{needs}
-use Rattle.hybit_core.proofs.AnswerLaws.{checks}
-use Rattle.hybit_core.proofs.BoolLaws.{tests}
+use native.Mathlib.Omega.{arith}
+use Rattle.hybit_core.proofs.AnswerLaws.{checks, call-accepted, last-fails, last-passes}
+use Rattle.hybit_core.proofs.BoolLaws.{tests, is-below, is-not-below}
 use Rattle.mask.specs.Calls.{setAnswer}
 use Rattle.mask.proofs.examine_set.Statement.{statement}
 use Rattle.mask.proofs.examine_set.Tie as tie
@@ -21,11 +22,15 @@ enum-told c = search needs
 
 returns-2 : tie.Need-returns-2
 unfolding setAnswer
-returns-2 c = search (checks, tests, needs)
+returns-2 c =
+    let a = c .before .before .before .before .before .args in
+    call-accepted _ _ _ _ (c .before .before .before .check .ensures) (c .before .enum-told .given .1) (last-fails _ _ (is-not-below (a .index) (a .len) (omega arith)))
 
 returns-3 : tie.Need-returns-3
 unfolding setAnswer
-returns-3 c = search (checks, tests, needs)
+returns-3 c =
+    let a = c .before .before .before .before .before .args in
+    call-accepted _ _ _ _ (c .before .before .before .check .ensures) (c .before .enum-told .given .1) (last-passes _ _ (is-below (a .index) (a .len) (omega arith)))
 
 pub examine-set-spec : {M : Type 1} → statement M
 examine-set-spec =

@@ -1,12 +1,14 @@
 -- `mask::is_member` meets its contract. Assumes nothing.
 use borrow.Author.Needs.{needs}
-use mathlib.Core.Path.{sym, ap, _∙_}
+use native.Mathlib.Omega.{arith}
 use Rattle.mask.proofs.MaskLaws.{past-length, past-words, in-words}
 use Rattle.mask.proofs.is_member.Statement.{statement}
 use Rattle.mask.proofs.is_member.Tie as tie
 
 returns : tie.Need-returns
-returns c = past-length _ _ _ (c .if1 .taken)
+returns c =
+    let a = c .before .before .args in
+    past-length (a .len) _ (a .index) (omega arith)
 
 returns-2 : tie.Need-returns-2
 returns-2 c = past-words _ _ _ (c .if2 .taken)

@@ -21,6 +21,10 @@ map-consIf : (t : Bool) (i : ℕ) (l : List ℕ) → consIf t (suc i) (map suc l
 map-consIf true i l = refl
 map-consIf false i l = refl
 
+pub byte-le : (t : Bool) → boolByte t ≤ 1
+byte-le true = omega arith
+byte-le false = omega arith
+
 -- ---- one position more, at the end
 
 from-snoc : (p : ℕ → Bool) (b d : ℕ) → from p b (suc d) ≡ from p b d ++ consIf (p (b + d)) (b + d) []
@@ -74,11 +78,7 @@ below-same p q n h = ap (λ (r : ℕ → Bool). below r n) (λ k i. h i k)
 
 pub length-below-le : (p : ℕ → Bool) (n : ℕ) → length (below p n) ≤ n
 length-below-le p zero = omega (arith, ap length (below-zero p))
-length-below-le p (suc n) = omega (arith, length-below-suc p n, length-below-le p n, byte (p n))
-  where
-    byte : (t : Bool) → boolByte t ≤ 1
-    byte true = omega arith
-    byte false = omega arith
+length-below-le p (suc n) = omega (arith, length-below-suc p n, length-below-le p n, byte-le (p n))
 
 -- ---- ranks: the count below i grows with i, and a member's rank is below the count
 
@@ -210,12 +210,8 @@ selects p (suc n) k h = pick (decLt k (length (below p n))) (selects p n k)
         (record { bound = omega (arith, r .bound); member = r .member; ranked = r .ranked })
     pick (no f) ih =
         let c : length (below p (suc n)) ≡ length (below p n) + boolByte (p n) = length-below-suc p n in
-        let b : boolByte (p n) ≤ 1 = byte (p n) in
+        let b : boolByte (p n) ≤ 1 = byte-le (p n) in
         subst (λ (s : List ℕ). Selects p (suc n) k (getD s k 0)) (sym (below-snoc p n)) (here (p n) refl (omega arith) (omega arith))
-      where
-        byte : (t : Bool) → boolByte t ≤ 1
-        byte true = omega arith
-        byte false = omega arith
 
 -- the list rises
 pub below-rising : (p : ℕ → Bool) (n j k : ℕ) → j < k → k < length (below p n) → getD (below p n) j 0 < getD (below p n) k 0

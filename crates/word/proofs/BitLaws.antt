@@ -11,16 +11,12 @@ use lib.ListN.{length, getD}
 use lib.Pow.{pow-pos}
 use mir.Val.{boolByte}
 use borrow.Author.Tests.{lt-ltb, le-ltb, eq-eqb, ne-eqb, ltb-true, ltb-false, le-leb, leb-true, eqb-true, eqb-false}
-use Rattle.word.specs.Bits.{has, from, below, between, both, within, number, maskOf, ceil64, wordsOf}
+use Rattle.word.specs.Bits.{has, from, below, between, both, within, number, members, maskOf, ceil64, wordsOf}
 use Rattle.lent.specs.Lists.{consIf, first, every, climbs}
-use Rattle.word.proofs.BelowLaws.{below-cong, below-same, below-zero, below-snoc, below-at-rank, below-trim, rank-lt, length-below-suc, length-block}
+use Rattle.word.proofs.BelowLaws.{byte-le, below-cong, below-same, below-zero, below-snoc, below-at-rank, below-trim, rank-lt, length-below-suc, length-block}
 use Rattle.word.proofs.HasLaws.{has-zero, has-suc, has-past, has-ext}
-use Rattle.hybit_core.proofs.BoolLaws.{and-left, and-right, and-both}
+use Rattle.hybit_core.proofs.BoolLaws.{and-left, and-right, and-both, same-test}
 use Rattle.lent.proofs.ListLaws.{every-append, every-getD}
-
-byte-le : (t : Bool) → boolByte t ≤ 1
-byte-le true = omega arith
-byte-le false = omega arith
 
 byte-odd : (t : Bool) (n : ℕ) → eqb ((boolByte t + 2 * n) % 2) 1 ≡ t
 byte-odd true n = eq-eqb ((1 + 2 * n) % 2) 1 (omega arith)
@@ -142,6 +138,22 @@ every-below t q (suc n) h =
 pub every-below-at : (t q : ℕ → Bool) (n c : ℕ) → every t (below q n) ≡ true → c < n → q c ≡ true → t c ≡ true
 unfolding every
 every-below-at t q n c e h l = ap t (sym (below-at-rank q n c h l)) ∙ every-getD t (below q n) (length (below q c)) 0 e (rank-lt q c n h l)
+
+-- equal lists, equal tests
+pub below-fixes : (p q : ℕ → Bool) (n : ℕ) → below p n ≡ below q n → (i : ℕ) → i < n → p i ≡ q i
+below-fixes p q n e i h = same-test (p i) (q i) (one p q e) (one q p (sym e))
+  where
+    one : (s t : ℕ → Bool) → below s n ≡ below t n → s i ≡ true → t i ≡ true
+    one s t e x = every-below-at t s n i (ap (every t) e ∙ every-below t t n (λ c l y. y)) h x
+
+-- a word is fixed by its members
+pub members-fix : (a b : ℕ) → a < 2 ^ 64 → b < 2 ^ 64 → members a ≡ members b → a ≡ b
+unfolding members
+members-fix a b ha hb e = has-ext 64 a b ha hb (λ i. go i (decLt i 64))
+  where
+    go : (i : ℕ) → Dec (i < 64) → has a i ≡ has b i
+    go i (yes l) = below-fixes (has a) (has b) 64 e i l
+    go i (no l) = has-past 64 a i ha (omega arith) ∙ sym (has-past 64 b i hb (omega arith))
 
 -- ascending lists climb
 

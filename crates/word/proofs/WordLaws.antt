@@ -99,9 +99,6 @@ no-columns : (w : ℕ) → columnsIn w 0 ≡ []
 unfolding below
 no-columns w = ap (map (λ i. 64 * w + i)) (from-none (has 0) 0 64 (λ i l u. has-none i))
 
-and-none : (m : ℕ) → bitAnd 0 m ≡ 0
-and-none m = and-zero-l m
-
 pub mask-none : (p : ℕ → Bool) (n w : ℕ) → not (eqb (maskOf p n w) 0) ≡ false → maskOf p n w ≡ 0
 mask-none p n w e = eqb-true (maskOf p n w) 0 (off (eqb (maskOf p n w) 0) e)
   where
@@ -121,7 +118,7 @@ active-by-words p a n =
     below-blocks (both p a) n
     ∙ joined-cong (λ w. columnsIn w (maskOf (both p a) n w)) (λ w. columnsIn w (bitAnd (maskOf p n w) (maskOf a n w))) (ceil64 n) (λ w l. ap (columnsIn w) (mask-both p a n w))
     ∙ joined-spread (λ w. columnsIn w (bitAnd (maskOf p n w) (maskOf a n w))) (λ w. not (eqb (maskOf p n w) 0)) (ceil64 n)
-    (λ w e. ap (λ (m : ℕ). columnsIn w (bitAnd m (maskOf a n w))) (mask-none p n w e) ∙ ap (columnsIn w) (and-none (maskOf a n w)) ∙ no-columns w)
+    (λ w e. ap (λ (m : ℕ). columnsIn w (bitAnd m (maskOf a n w))) (mask-none p n w e) ∙ ap (columnsIn w) (and-zero-l (maskOf a n w)) ∙ no-columns w)
 
 -- the active words: the listed words with `mask & active` not 0
 pub active-words : (p a : ℕ → Bool) (n : ℕ) → wordsOf (both p a) n ≡ only (λ w. not (eqb (bitAnd (maskOf p n w) (maskOf a n w)) 0)) (wordsOf p n)
@@ -134,4 +131,4 @@ active-words p a n =
   where
     go : (w : ℕ) (b : Bool) → not (eqb (maskOf p n w) 0) ≡ b → not (eqb (bitAnd (maskOf p n w) (maskOf a n w)) 0) ≡ (b && not (eqb (bitAnd (maskOf p n w) (maskOf a n w)) 0))
     go w true e = refl
-    go w false e = ap not (eq-eqb (bitAnd (maskOf p n w) (maskOf a n w)) 0 (ap (λ (m : ℕ). bitAnd m (maskOf a n w)) (mask-none p n w e) ∙ and-none (maskOf a n w)))
+    go w false e = ap not (eq-eqb (bitAnd (maskOf p n w) (maskOf a n w)) 0 (ap (λ (m : ℕ). bitAnd m (maskOf a n w)) (mask-none p n w e) ∙ and-zero-l (maskOf a n w)))

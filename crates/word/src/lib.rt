@@ -47,9 +47,9 @@ pub fn ones_below(mask: u64, offset: usize) -> usize
     ensures { λ r. ⌜ r ≡ count (has mask) offset ⌝ }
 {
     if offset < 64 {
-        u64::count_ones(mask & ((1u64 << offset) - 1)) as usize
+        popcount(mask & ((1u64 << offset) - 1))
     } else {
-        u64::count_ones(mask) as usize
+        popcount(mask)
     }
 }
 

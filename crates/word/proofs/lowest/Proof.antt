@@ -5,7 +5,7 @@ use Rattle.word.proofs.lowest.Statement.{statement}
 use Rattle.word.proofs.lowest.Tie as tie
 
 cast-result : tie.Need-cast-result
-cast-result c = lowest-fits (c .args .bits)
+cast-result c = lowest-fits _
 
 returns : tie.Need-returns
 returns c = lowest-is (c .args .bits) (c .fits .bits .fits)

@@ -67,14 +67,14 @@ ones-are n ws r ok e = e ∙ sym (ap length (members-are n ws ok))
 
 -- ---- one bit put to a value
 
+or-as-cond : (s t : Bool) → (s || t) ≡ cond t true s
+or-as-cond true true = refl
+or-as-cond true false = refl
+or-as-cond false true = refl
+or-as-cond false false = refl
+
 pub value-on : (w k r : ℕ) (v : Bool) → v ≡ true → r ≡ wordOf (λ i. has w i || eqb i k) → r ≡ wordOf (λ i. cond (eqb i k) v (has w i))
-value-on w k r v e h = h ∙ word-cong _ _ (λ i b. swap (has w i) (eqb i k) ∙ ap (λ (t : Bool). cond (eqb i k) t (has w i)) (sym e))
-  where
-    swap : (s t : Bool) → (s || t) ≡ cond t true s
-    swap true true = refl
-    swap true false = refl
-    swap false true = refl
-    swap false false = refl
+value-on w k r v e h = h ∙ word-cong _ _ (λ i b. or-as-cond (has w i) (eqb i k) ∙ ap (λ (t : Bool). cond (eqb i k) t (has w i)) (sym e))
 
 pub value-off : (w k r : ℕ) (v : Bool) → v ≡ false → r ≡ wordOf (λ i. has w i && not (eqb i k)) → r ≡ wordOf (λ i. cond (eqb i k) v (has w i))
 value-off w k r v e h = h ∙ word-cong _ _ (λ i b. drop-it (has w i) (eqb i k) ∙ ap (λ (t : Bool). cond (eqb i k) t (has w i)) (sym e))
@@ -151,13 +151,7 @@ listed-none c = some-none (eqb c)
 listed-more : (is : List ℕ) (k c : ℕ) → k < length is → listed (take (k + 1) is) c ≡ changed (listed (take k is)) (getD is k 0) true c
 unfolding listed
 listed-more is k c h =
-    ap (λ (n : ℕ). some (eqb c) (take n is)) (add-one k) ∙ ap (some (eqb c)) (take-suc is k 0 h) ∙ some-snoc (eqb c) (take k is) (getD is k 0) ∙ swap (some (eqb c) (take k is)) (eqb c (getD is k 0))
-  where
-    swap : (s t : Bool) → (s || t) ≡ cond t true s
-    swap true true = refl
-    swap true false = refl
-    swap false true = refl
-    swap false false = refl
+    ap (λ (n : ℕ). some (eqb c) (take n is)) (add-one k) ∙ ap (some (eqb c)) (take-suc is k 0 h) ∙ some-snoc (eqb c) (take k is) (getD is k 0) ∙ or-as-cond (some (eqb c) (take k is)) (eqb c (getD is k 0))
 
 module _ (n : ℕ) (is old : List ℕ) (room : ceil64 n ≤ length old) where
   pub setting-none : old ≡ padded 0 (length old) [] → Setting n is old 0 old

@@ -30,7 +30,7 @@ returns-2 : tie.Need-returns-2
 returns-2 c =
     let e = c .before .before .before .check .ensures in
     let t = c .before .enum-told .given .1 in
-    (answer-accepted _ _ e t, kept-accepted _ _ _ _ _ e t (or-past _ _ (checked _ _ _ e t) (λ k. c .before .before .before .before .before .slice-known .given k .fits) _ _ (c .if1 .taken)))
+    (answer-accepted _ _ e t, kept-accepted _ _ _ _ _ e t (or-past _ _ (checked _ _ _ e t) (λ k. c .before .before .before .before .before .slice-known .given k .fits) (c .before .before .before .before .before .before .args .word-index) (c .before .before .before .before .before .before .args .bits) (omega arith)))
 
 mul-trimmed : tie.Need-mul-trimmed
 mul-trimmed c =

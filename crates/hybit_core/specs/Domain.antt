@@ -1,6 +1,6 @@
 -- The limits of document 01's domain.
 use Prim.Native.Nat.{ℕ, _^_}
-use mathlib.Core.Bool.{Bool}
+use mathlib.Core.Bool.{Bool, _&&_}
 use lib.Dec.{leb}
 
 -- rows, columns and mask lengths: up to 1,048,576
@@ -16,3 +16,7 @@ few n = leb n maxDimension
 
 abbrev pub many : ℕ → Bool
 many n = leb n maxEntries
+
+-- 1 finds nothing in a record of so many rows and columns with two lists side by side of a and b places
+unfoldable pub sizesFit : ℕ → ℕ → ℕ → ℕ → Bool
+sizesFit rows cols a b = few rows && few cols && many a && many b

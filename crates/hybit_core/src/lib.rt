@@ -3,7 +3,7 @@ ghost use mathlib.Core.Path.{_≡_};
 ghost use lib.Ieee.{Float};
 ghost use Rattle.hybit_core.specs.Answer.{numberIn};
 ghost use Rattle.hybit_core.specs.Table.{paper, told};
-ghost use Rattle.hybit_core.specs.Domain.{few, many};
+ghost use Rattle.hybit_core.specs.Domain.{few, many, sizesFit};
 ghost use Rattle.hybit_core.specs.Floats.{finite, countAsFloat, ratioOf};
 
 // Rows, columns and mask lengths go up to this.
@@ -142,6 +142,29 @@ pub fn entries_fit(n: usize) -> bool
     ensures { λ r. ⌜ r ≡ many n ⌝ }
 {
     n <= MAX_ENTRIES
+}
+
+// Whether a record's rows and columns, and two lists of it side by side, lie in the domain.
+pub fn sizes_fit(nrows: usize, ncols: usize, left: usize, right: usize) -> bool
+    ensures { λ r. ⌜ r ≡ sizesFit nrows ncols left right ⌝ }
+{
+    if !dimension_fits(nrows) {
+        return false;
+    }
+    if !dimension_fits(ncols) {
+        return false;
+    }
+    if !entries_fit(left) {
+        return false;
+    }
+    entries_fit(right)
+}
+
+// A stored column, word number or pointer as an index.
+pub fn wide(n: u32) -> usize
+    ensures { λ r. ⌜ r ≡ n ⌝ }
+{
+    n as usize
 }
 
 // The f64 nearest to a count, ties to even.

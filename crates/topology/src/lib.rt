@@ -1,0 +1,608 @@
+// topology.rs: `AbtmTopology`, the membership of a matrix in words of 64 columns. Its lists are lent by the caller, and every
+// call on a record checks it: 1, 11. The build from a plot list is the crate topology_build, the set operations are
+// topology_combine.
+ghost use mathlib.Core.Path.{_≡_};
+ghost use mathlib.Core.Bool.{true, false, _&&_};
+ghost use mathlib.Core.List.{zip};
+ghost use Prim.Native.Nat.{_+_, _*_, _≤_, _<_, _^_};
+ghost use lib.Dec.{leb};
+ghost use lib.ListN.{length};
+ghost use Rattle.hybit_core.specs.Answer.{numberIn, answers, demand, _andThen_};
+ghost use Rattle.hybit_core.specs.Table.{told, toldCount, toldBool};
+ghost use Rattle.lent.specs.Lists.{part};
+ghost use Rattle.word.specs.Bits.{has, count, within, selected, wordsOf};
+ghost use Rattle.word.specs.Word.{rankAnswer as wordRankAnswer, toldSelect};
+ghost use Rattle.csr32.specs.Csr.{framedLists};
+ghost use Rattle.csr32.proofs.FrameLaws.{RowIn};
+ghost use Rattle.topology.specs.Words.{asWords, rowMember, member, wordRule, rowRule, rowRules, setBits, wordRules, wordAnswer};
+ghost use Rattle.topology.specs.Calls.{rowAnswer, partGiven, rankAnswer, select, toldSelection, statsOf, toldStats, averageWord, wordFill, bytesPerOne};
+use hybit_core::BoolAnswer;
+use hybit_core::CountAnswer;
+use hybit_core::HybitError;
+use hybit_core::Verdict;
+use word::WordSelect;
+
+// A word of a row by value.
+pub struct AbtmTopologyWord {
+    pub word_index: u32,
+    pub mask: u64,
+}
+
+pub struct AbtmTopologyStats {
+    pub nrows: usize,
+    pub ncols: usize,
+    pub structural_nnz: usize,
+    pub nonempty_words: usize,
+    pub metadata_bytes: usize,
+}
+
+// The Rust's `Option<usize>` of a row's select, or the refusal.
+pub enum SelectAnswer {
+    At(usize),
+    Nothing,
+    Refused(HybitError),
+}
+
+pub enum StatsAnswer {
+    Stats(AbtmTopologyStats),
+    Refused(HybitError),
+}
+
+// What a build of words answers: how many words it wrote and how many bits they have.
+pub enum TopologyAnswer {
+    Built { words: usize, structural_nnz: usize },
+    Refused(HybitError),
+}
+
+// The first column of a word.
+pub fn base_col(word: AbtmTopologyWord) -> usize
+    ensures { λ r. ⌜ r ≡ 64 * word .«word_index» ⌝ }
+{
+    64 * hybit_core::wide(word.word_index)
+}
+
+pub fn word_popcount(word: AbtmTopologyWord) -> usize
+    ensures { λ r. ⌜ r ≡ count (has (word .mask)) 64 ⌝ }
+{
+    word::popcount(word.mask)
+}
+
+// False from 64 on.
+pub fn word_contains_offset(word: AbtmTopologyWord, offset: usize) -> bool
+    ensures { λ r. ⌜ r ≡ has (word .mask) offset ⌝ }
+{
+    word::contains_offset(word.mask, offset)
+}
+
+// Offsets from 0 to 64, 64 giving all ones; refused above.
+pub fn word_rank(word: AbtmTopologyWord, offset: usize) -> CountAnswer
+    ensures { λ r. ⌜ toldCount r ≡ wordRankAnswer (word .mask) offset ⌝ }
+{
+    word::rank(word.mask, offset)
+}
+
+pub fn word_select(word: AbtmTopologyWord, ordinal: usize) -> WordSelect
+    ensures { λ r. ⌜ toldSelect r ≡ selected (has (word .mask)) 64 ordinal ⌝ }
+{
+    word::select(word.mask, ordinal)
+}
+
+fn word_holds(ncols: usize, index: usize, mask: u64) -> bool
+    requires { ⌜ index < 2 ^ 32 ⌝ }
+    ensures { λ r. ⌜ r ≡ wordRule ncols (index, mask) ⌝ }
+{
+    if mask == 0 {
+        return false;
+    }
+    let base = 64 * index;
+    if base >= ncols {
+        return false;
+    }
+    word::trimmed(mask, ncols - base) == mask
+}
+
+// A row's part of the word numbers and of the masks.
+fn row_holds(ncols: usize, words: &[u32], masks: &[u64]) -> bool
+    requires { ⌜ length (now masks) ≡ length (now words) ⌝ }
+    ensures { λ r. ⌜ r ≡ rowRule ncols (now (words .entry)) (now (masks .entry)) ⌝ }
+{
+    let mut least: usize = 0;
+    let mut i: usize = 0;
+    while i < words.len() {
+        let index = hybit_core::wide(words[i]);
+        if index < least {
+            return false;
+        }
+        if !word_holds(ncols, index, masks[i]) {
+            return false;
+        }
+        least = index + 1;
+        i += 1;
+    }
+    true
+}
+
+// A row's part of the word numbers, and of the masks.
+fn words_of<'a>(row_word_ptr: &[u32], word_indices: &'a [u32], row: usize) -> &'a [u32]
+    requires { ⌜ RowIn (now «row_word_ptr») (length (now «word_indices»)) row ⌝ }
+    ensures { λ p. ⌜ now p ≡ part (now («row_word_ptr» .entry)) (now («word_indices» .entry)) row ⌝ }
+{
+    let start = hybit_core::wide(row_word_ptr[row]);
+    let end = hybit_core::wide(row_word_ptr[row + 1]);
+    &word_indices[start..end]
+}
+
+fn masks_of<'a>(row_word_ptr: &[u32], masks: &'a [u64], row: usize) -> &'a [u64]
+    requires { ⌜ RowIn (now «row_word_ptr») (length (now masks)) row ⌝ }
+    ensures { λ p. ⌜ now p ≡ part (now («row_word_ptr» .entry)) (now (masks .entry)) row ⌝ }
+{
+    let start = hybit_core::wide(row_word_ptr[row]);
+    let end = hybit_core::wide(row_word_ptr[row + 1]);
+    &masks[start..end]
+}
+
+fn rows_hold(
+    nrows: usize,
+    ncols: usize,
+    row_word_ptr: &[u32],
+    word_indices: &[u32],
+    masks: &[u64],
+    structural_nnz: usize,
+) -> bool
+    requires { ⌜ framedLists nrows (now «row_word_ptr») (length (now «word_indices»)) (length (now masks)) ≡ true ⌝ }
+    ensures { λ r. ⌜ r ≡ rowRules (asWords nrows ncols (now («row_word_ptr» .entry)) (now («word_indices» .entry)) (now (masks .entry)) «structural_nnz») ⌝ }
+{
+    let mut row: usize = 0;
+    while row < nrows {
+        let words = words_of(row_word_ptr, word_indices, row);
+        if !row_holds(ncols, words, masks_of(row_word_ptr, masks, row)) {
+            return false;
+        }
+        row += 1;
+    }
+    true
+}
+
+// The set bits of some masks.
+fn count_bits(masks: &[u64]) -> usize
+    requires { ⌜ length (now masks) ≤ 2 ^ 24 ⌝ }
+    ensures { λ r. ⌜ r ≡ setBits (now (masks .entry)) ⌝ }
+{
+    let mut ones: usize = 0;
+    let mut i: usize = 0;
+    while i < masks.len() {
+        ones += word::popcount(masks[i]);
+        i += 1;
+    }
+    ones
+}
+
+fn rules_hold(
+    nrows: usize,
+    ncols: usize,
+    row_word_ptr: &[u32],
+    word_indices: &[u32],
+    masks: &[u64],
+    structural_nnz: usize,
+) -> bool
+    requires { ⌜ length (now masks) ≤ 2 ^ 24 ⌝ }
+    ensures { λ r. ⌜ r ≡ wordRules (asWords nrows ncols (now («row_word_ptr» .entry)) (now («word_indices» .entry)) (now (masks .entry)) «structural_nnz») ⌝ }
+{
+    if !csr32::lists_hold(nrows, row_word_ptr, word_indices.len(), masks.len()) {
+        return false;
+    }
+    if !rows_hold(
+        nrows,
+        ncols,
+        row_word_ptr,
+        word_indices,
+        masks,
+        structural_nnz,
+    ) {
+        return false;
+    }
+    structural_nnz == count_bits(masks)
+}
+
+// The Rust's `validate`.
+pub fn check(
+    nrows: usize,
+    ncols: usize,
+    row_word_ptr: &[u32],
+    word_indices: &[u32],
+    masks: &[u64],
+    structural_nnz: usize,
+) -> Verdict
+    ensures { λ r. ⌜ told r ≡ wordAnswer (asWords nrows ncols (now («row_word_ptr» .entry)) (now («word_indices» .entry)) (now (masks .entry)) «structural_nnz») ⌝ }
+{
+    if !hybit_core::sizes_fit(nrows, ncols, word_indices.len(), masks.len()) {
+        return Verdict::Refused(HybitError::SizeOverflow);
+    }
+    if !rules_hold(
+        nrows,
+        ncols,
+        row_word_ptr,
+        word_indices,
+        masks,
+        structural_nnz,
+    ) {
+        return Verdict::Refused(HybitError::BadWords);
+    }
+    Verdict::Accepted
+}
+
+fn check_row(
+    nrows: usize,
+    ncols: usize,
+    row_word_ptr: &[u32],
+    word_indices: &[u32],
+    masks: &[u64],
+    structural_nnz: usize,
+    row: usize,
+) -> Verdict
+    ensures { λ r. ⌜ told r ≡ rowAnswer (asWords nrows ncols (now («row_word_ptr» .entry)) (now («word_indices» .entry)) (now (masks .entry)) «structural_nnz») row ⌝ }
+{
+    let v = check(
+        nrows,
+        ncols,
+        row_word_ptr,
+        word_indices,
+        masks,
+        structural_nnz,
+    );
+    if let Verdict::Refused(e) = v {
+        return Verdict::Refused(e);
+    }
+    if row >= nrows {
+        return Verdict::Refused(HybitError::NoSuchPlace);
+    }
+    Verdict::Accepted
+}
+
+// The row's word numbers, as that part of the lent list; the refusal's number goes to `refusal`, 0 when accepted.
+pub fn row_word_indices<'a>(
+    nrows: usize,
+    ncols: usize,
+    row_word_ptr: &[u32],
+    word_indices: &'a [u32],
+    masks: &[u64],
+    structural_nnz: usize,
+    row: usize,
+    refusal: &mut u32,
+) -> &'a [u32]
+    ensures part { λ p. ⌜ now p ≡ partGiven (rowAnswer (asWords nrows ncols (now («row_word_ptr» .entry)) (now («word_indices» .entry)) (now (masks .entry)) «structural_nnz») row) (part (now («row_word_ptr» .entry)) (now («word_indices» .entry)) row) ⌝ }
+    ensures number { λ p. ⌜ now (refusal .exit) ≡ numberIn (rowAnswer (asWords nrows ncols (now («row_word_ptr» .entry)) (now («word_indices» .entry)) (now (masks .entry)) «structural_nnz») row) ⌝ }
+{
+    let v = check_row(
+        nrows,
+        ncols,
+        row_word_ptr,
+        word_indices,
+        masks,
+        structural_nnz,
+        row,
+    );
+    *refusal = hybit_core::verdict_number(v);
+    if let Verdict::Refused(e) = v {
+        return &word_indices[..0];
+    }
+    words_of(row_word_ptr, word_indices, row)
+}
+
+// The row's masks, in the same way.
+pub fn row_masks<'a>(
+    nrows: usize,
+    ncols: usize,
+    row_word_ptr: &[u32],
+    word_indices: &[u32],
+    masks: &'a [u64],
+    structural_nnz: usize,
+    row: usize,
+    refusal: &mut u32,
+) -> &'a [u64]
+    ensures part { λ p. ⌜ now p ≡ partGiven (rowAnswer (asWords nrows ncols (now («row_word_ptr» .entry)) (now («word_indices» .entry)) (now (masks .entry)) «structural_nnz») row) (part (now («row_word_ptr» .entry)) (now (masks .entry)) row) ⌝ }
+    ensures number { λ p. ⌜ now (refusal .exit) ≡ numberIn (rowAnswer (asWords nrows ncols (now («row_word_ptr» .entry)) (now («word_indices» .entry)) (now (masks .entry)) «structural_nnz») row) ⌝ }
+{
+    let v = check_row(
+        nrows,
+        ncols,
+        row_word_ptr,
+        word_indices,
+        masks,
+        structural_nnz,
+        row,
+    );
+    *refusal = hybit_core::verdict_number(v);
+    if let Verdict::Refused(e) = v {
+        return &masks[..0];
+    }
+    masks_of(row_word_ptr, masks, row)
+}
+
+pub fn row_nonempty_words(
+    nrows: usize,
+    ncols: usize,
+    row_word_ptr: &[u32],
+    word_indices: &[u32],
+    masks: &[u64],
+    structural_nnz: usize,
+    row: usize,
+) -> CountAnswer
+    ensures { λ r. ⌜ toldCount r ≡ answers (rowAnswer (asWords nrows ncols (now («row_word_ptr» .entry)) (now («word_indices» .entry)) (now (masks .entry)) «structural_nnz») row) (length (wordsOf (member (asWords nrows ncols (now («row_word_ptr» .entry)) (now («word_indices» .entry)) (now (masks .entry)) «structural_nnz») row) ncols)) ⌝ }
+{
+    let v = check_row(
+        nrows,
+        ncols,
+        row_word_ptr,
+        word_indices,
+        masks,
+        structural_nnz,
+        row,
+    );
+    if let Verdict::Refused(e) = v {
+        return CountAnswer::Refused(e);
+    }
+    let words = words_of(row_word_ptr, word_indices, row);
+    CountAnswer::Count(words.len())
+}
+
+// How many columns the row holds.
+pub fn row_popcount(
+    nrows: usize,
+    ncols: usize,
+    row_word_ptr: &[u32],
+    word_indices: &[u32],
+    masks: &[u64],
+    structural_nnz: usize,
+    row: usize,
+) -> CountAnswer
+    ensures { λ r. ⌜ toldCount r ≡ answers (rowAnswer (asWords nrows ncols (now («row_word_ptr» .entry)) (now («word_indices» .entry)) (now (masks .entry)) «structural_nnz») row) (count (member (asWords nrows ncols (now («row_word_ptr» .entry)) (now («word_indices» .entry)) (now (masks .entry)) «structural_nnz») row) ncols) ⌝ }
+{
+    let v = check_row(
+        nrows,
+        ncols,
+        row_word_ptr,
+        word_indices,
+        masks,
+        structural_nnz,
+        row,
+    );
+    if let Verdict::Refused(e) = v {
+        return CountAnswer::Refused(e);
+    }
+    CountAnswer::Count(count_bits(masks_of(row_word_ptr, masks, row)))
+}
+
+// Whether a row's words hold the column, for any words.
+fn contains_in(words: &[u32], masks: &[u64], col: usize) -> bool
+    requires { ⌜ length (now masks) ≡ length (now words) ⌝ }
+    ensures { λ r. ⌜ r ≡ rowMember (now (words .entry)) (now (masks .entry)) col ⌝ }
+{
+    let target = col / 64;
+    let mut i: usize = 0;
+    while i < words.len() {
+        if hybit_core::wide(words[i]) == target {
+            return word::contains_offset(masks[i], col % 64);
+        }
+        i += 1;
+    }
+    false
+}
+
+// Whether the row holds the column; false from the column count on.
+pub fn row_contains(
+    nrows: usize,
+    ncols: usize,
+    row_word_ptr: &[u32],
+    word_indices: &[u32],
+    masks: &[u64],
+    structural_nnz: usize,
+    row: usize,
+    col: usize,
+) -> BoolAnswer
+    ensures { λ r. ⌜ toldBool r ≡ answers (rowAnswer (asWords nrows ncols (now («row_word_ptr» .entry)) (now («word_indices» .entry)) (now (masks .entry)) «structural_nnz») row) (within ncols (member (asWords nrows ncols (now («row_word_ptr» .entry)) (now («word_indices» .entry)) (now (masks .entry)) «structural_nnz») row) col) ⌝ }
+{
+    let v = check_row(
+        nrows,
+        ncols,
+        row_word_ptr,
+        word_indices,
+        masks,
+        structural_nnz,
+        row,
+    );
+    if let Verdict::Refused(e) = v {
+        return BoolAnswer::Refused(e);
+    }
+    if col >= ncols {
+        return BoolAnswer::Is(false);
+    }
+    let words = words_of(row_word_ptr, word_indices, row);
+    BoolAnswer::Is(contains_in(words, masks_of(row_word_ptr, masks, row), col))
+}
+
+// How many columns below `col` a row of words holds.
+fn rank_in(ncols: usize, words: &[u32], masks: &[u64], col: usize) -> usize
+    requires { ⌜ length (now masks) ≡ length (now words) ⌝ ∗ ⌜ rowRule ncols (now words) (now masks) ≡ true ⌝ ∗ ⌜ col ≤ ncols ⌝ }
+    ensures { λ r. ⌜ r ≡ count (rowMember (now (words .entry)) (now (masks .entry))) col ⌝ }
+{
+    let target = col / 64;
+    let mut rank: usize = 0;
+    let mut i: usize = 0;
+    while i < words.len() {
+        let index = hybit_core::wide(words[i]);
+        if index > target {
+            return rank;
+        }
+        if index == target {
+            return rank + word::ones_below(masks[i], col % 64);
+        }
+        rank += word::popcount(masks[i]);
+        i += 1;
+    }
+    rank
+}
+
+fn examine_rank(
+    nrows: usize,
+    ncols: usize,
+    row_word_ptr: &[u32],
+    word_indices: &[u32],
+    masks: &[u64],
+    structural_nnz: usize,
+    row: usize,
+    col: usize,
+) -> Verdict
+    ensures { λ r. ⌜ told r ≡ (rowAnswer (asWords nrows ncols (now («row_word_ptr» .entry)) (now («word_indices» .entry)) (now (masks .entry)) «structural_nnz») row andThen demand (leb col ncols) 7) ⌝ }
+{
+    let v = check_row(
+        nrows,
+        ncols,
+        row_word_ptr,
+        word_indices,
+        masks,
+        structural_nnz,
+        row,
+    );
+    if let Verdict::Refused(e) = v {
+        return Verdict::Refused(e);
+    }
+    if col > ncols {
+        return Verdict::Refused(HybitError::NoSuchPlace);
+    }
+    Verdict::Accepted
+}
+
+// How many columns below `col` the row holds; the column count is allowed.
+pub fn row_rank(
+    nrows: usize,
+    ncols: usize,
+    row_word_ptr: &[u32],
+    word_indices: &[u32],
+    masks: &[u64],
+    structural_nnz: usize,
+    row: usize,
+    col: usize,
+) -> CountAnswer
+    ensures { λ r. ⌜ toldCount r ≡ rankAnswer (asWords nrows ncols (now («row_word_ptr» .entry)) (now («word_indices» .entry)) (now (masks .entry)) «structural_nnz») row col ⌝ }
+{
+    let v = examine_rank(
+        nrows,
+        ncols,
+        row_word_ptr,
+        word_indices,
+        masks,
+        structural_nnz,
+        row,
+        col,
+    );
+    if let Verdict::Refused(e) = v {
+        return CountAnswer::Refused(e);
+    }
+    let words = words_of(row_word_ptr, word_indices, row);
+    CountAnswer::Count(rank_in(ncols, words, masks_of(row_word_ptr, masks, row), col))
+}
+
+// The column of a row of words with `ordinal` columns below it.
+fn select_in(ncols: usize, words: &[u32], masks: &[u64], ordinal: usize) -> WordSelect
+    requires { ⌜ length (now masks) ≡ length (now words) ⌝ ∗ ⌜ rowRule ncols (now words) (now masks) ≡ true ⌝ }
+    ensures { λ r. ⌜ toldSelect r ≡ selected (rowMember (now (words .entry)) (now (masks .entry))) ncols ordinal ⌝ }
+{
+    let mut left = ordinal;
+    let mut i: usize = 0;
+    while i < words.len() {
+        let ones = word::popcount(masks[i]);
+        if left < ones {
+            let WordSelect::At(offset) = word::select(masks[i], left) else {
+                return WordSelect::Nothing;
+            };
+            return WordSelect::At(64 * hybit_core::wide(words[i]) + offset);
+        }
+        left -= ones;
+        i += 1;
+    }
+    WordSelect::Nothing
+}
+
+// The row's column with `ordinal` columns below it, or Nothing exactly if there is none.
+pub fn row_select(
+    nrows: usize,
+    ncols: usize,
+    row_word_ptr: &[u32],
+    word_indices: &[u32],
+    masks: &[u64],
+    structural_nnz: usize,
+    row: usize,
+    ordinal: usize,
+) -> SelectAnswer
+    ensures { λ r. ⌜ toldSelection r ≡ answers (rowAnswer (asWords nrows ncols (now («row_word_ptr» .entry)) (now («word_indices» .entry)) (now (masks .entry)) «structural_nnz») row) (select (asWords nrows ncols (now («row_word_ptr» .entry)) (now («word_indices» .entry)) (now (masks .entry)) «structural_nnz») row ordinal) ⌝ }
+{
+    let v = check_row(
+        nrows,
+        ncols,
+        row_word_ptr,
+        word_indices,
+        masks,
+        structural_nnz,
+        row,
+    );
+    if let Verdict::Refused(e) = v {
+        return SelectAnswer::Refused(e);
+    }
+    let words = words_of(row_word_ptr, word_indices, row);
+    let found = select_in(ncols, words, masks_of(row_word_ptr, masks, row), ordinal);
+    let WordSelect::At(col) = found else {
+        return SelectAnswer::Nothing;
+    };
+    SelectAnswer::At(col)
+}
+
+pub fn stats(
+    nrows: usize,
+    ncols: usize,
+    row_word_ptr: &[u32],
+    word_indices: &[u32],
+    masks: &[u64],
+    structural_nnz: usize,
+) -> StatsAnswer
+    ensures { λ r. ⌜ toldStats r ≡ answers (wordAnswer (asWords nrows ncols (now («row_word_ptr» .entry)) (now («word_indices» .entry)) (now (masks .entry)) «structural_nnz»)) (statsOf (asWords nrows ncols (now («row_word_ptr» .entry)) (now («word_indices» .entry)) (now (masks .entry)) «structural_nnz»)) ⌝ }
+{
+    let v = check(
+        nrows,
+        ncols,
+        row_word_ptr,
+        word_indices,
+        masks,
+        structural_nnz,
+    );
+    if let Verdict::Refused(e) = v {
+        return StatsAnswer::Refused(e);
+    }
+    let words = word_indices.len();
+    StatsAnswer::Stats(AbtmTopologyStats {
+        nrows: nrows,
+        ncols: ncols,
+        structural_nnz: structural_nnz,
+        nonempty_words: words,
+        metadata_bytes: 4 * (nrows + 1) + 12 * words,
+    })
+}
+
+// The ratios are of the record, whatever numbers it holds.
+pub fn average_word_nnz(stats: AbtmTopologyStats) -> f64
+    ensures { λ r. ⌜ r ≡ averageWord stats ⌝ }
+{
+    hybit_core::ratio(stats.structural_nnz as u64, stats.nonempty_words as u64)
+}
+
+pub fn word_fill_ratio(stats: AbtmTopologyStats) -> f64
+    ensures { λ r. ⌜ r ≡ wordFill stats ⌝ }
+{
+    average_word_nnz(stats) / hybit_core::count_as_f64(64)
+}
+
+pub fn metadata_bytes_per_nnz(stats: AbtmTopologyStats) -> f64
+    ensures { λ r. ⌜ r ≡ bytesPerOne stats ⌝ }
+{
+    hybit_core::ratio(stats.metadata_bytes as u64, stats.structural_nnz as u64)
+}

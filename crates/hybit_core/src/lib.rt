@@ -167,6 +167,13 @@ pub fn wide(n: u32) -> usize
     n as usize
 }
 
+// An index as a stored number, as the Rust's `as u32`: its low 32 bits.
+pub fn narrow(n: usize) -> u32
+    ensures { λ r. ⌜ r ≡ n % 2 ^ 32 ⌝ }
+{
+    (n % 4294967296) as u32
+}
+
 // The f64 nearest to a count, ties to even.
 pub fn count_as_f64(n: u64) -> f64
     ensures { λ r. ⌜ r ≡ countAsFloat n ⌝ }

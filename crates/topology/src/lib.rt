@@ -4,12 +4,13 @@
 ghost use mathlib.Core.Path.{_≡_};
 ghost use mathlib.Core.Bool.{true, false, _&&_};
 ghost use mathlib.Core.List.{zip};
-ghost use Prim.Native.Nat.{_+_, _*_, _≤_, _<_, _^_};
+ghost use Prim.Native.Nat.{_+_, _*_, _%_, _≤_, _<_, _^_};
 ghost use lib.Dec.{leb};
-ghost use lib.ListN.{length};
+ghost use lib.ListN.{length, take};
 ghost use Rattle.hybit_core.specs.Answer.{numberIn, answers, demand, _andThen_};
 ghost use Rattle.hybit_core.specs.Table.{told, toldCount, toldBool};
 ghost use Rattle.lent.specs.Lists.{part};
+ghost use Rattle.lent.specs.Lent.{padded};
 ghost use Rattle.word.specs.Bits.{has, count, within, selected, wordsOf};
 ghost use Rattle.word.specs.Word.{rankAnswer as wordRankAnswer, toldSelect};
 ghost use Rattle.csr32.specs.Csr.{framedLists};
@@ -163,18 +164,34 @@ fn rows_hold(
     true
 }
 
-// The set bits of some masks.
-fn count_bits(masks: &[u64]) -> usize
-    requires { ⌜ length (now masks) ≤ 2 ^ 24 ⌝ }
-    ensures { λ r. ⌜ r ≡ setBits (now (masks .entry)) ⌝ }
+// The set bits of a list of masks, for any list; the sum wraps, which 2^24 masks can't make it do.
+pub fn count_bits(masks: &[u64]) -> usize
+    ensures { λ r. ⌜ r ≡ setBits (now (masks .entry)) % 2 ^ 64 ⌝ }
 {
     let mut ones: usize = 0;
     let mut i: usize = 0;
     while i < masks.len() {
-        ones += word::popcount(masks[i]);
+        ones = std::num::wrapping_add_usize(ones, word::popcount(masks[i]));
         i += 1;
     }
     ones
+}
+
+// Zeros in the pointers from place `rows` on, and in the words and masks from place `words` on: the end of every build.
+pub fn clear_past(
+    rows: usize,
+    words: usize,
+    row_word_ptr: &mut [u32],
+    word_indices: &mut [u32],
+    masks: &mut [u64],
+)
+    ensures pointers { λ _. ⌜ now («row_word_ptr» .exit) ≡ padded 0 (length (now («row_word_ptr» .entry))) (take rows (now («row_word_ptr» .entry))) ⌝ }
+    ensures numbers { λ _. ⌜ now («word_indices» .exit) ≡ padded 0 (length (now («word_indices» .entry))) (take words (now («word_indices» .entry))) ⌝ }
+    ensures bits { λ _. ⌜ now (masks .exit) ≡ padded 0 (length (now (masks .entry))) (take words (now (masks .entry))) ⌝ }
+{
+    lent::clear_from_u32(row_word_ptr, rows);
+    lent::clear_from_u32(word_indices, words);
+    lent::clear_from_u64(masks, words);
 }
 
 fn rules_hold(

@@ -63,6 +63,10 @@ maskOf p n w = wordOf (λ i. within n p (64 * w + i))
 abbrev pub ceil64 : ℕ → ℕ
 ceil64 n = (n + 63) / 64
 
+-- word w holds a column of the test
+abbrev pub hit : (ℕ → Bool) → ℕ → ℕ → Bool
+hit p n w = not (eqb (maskOf p n w) 0)
+
 -- the word numbers that hold a column of the test, ascending
 unfoldable pub wordsOf : (ℕ → Bool) → ℕ → List ℕ
-wordsOf p n = below (λ w. not (eqb (maskOf p n w) 0)) (ceil64 n)
+wordsOf p n = below (hit p n) (ceil64 n)

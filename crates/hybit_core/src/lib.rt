@@ -1,4 +1,5 @@
 // hybit-core/src/lib.rs: the refusals and what carries them, the limits of the domain, counts as floats.
+ghost use Prim.Native.Nat.{_%_, _^_};
 ghost use mathlib.Core.Path.{_≡_};
 ghost use lib.Ieee.{Float};
 ghost use Rattle.hybit_core.specs.Answer.{numberIn};

@@ -1,0 +1,52 @@
+use native.Mathlib.Omega.{arith}
+use Rattle.csr32.specs.Csr.{csrStorageBytes, csrMetadataBytes}
+use Rattle.hybit_core.proofs.AnswerLaws.{outcomes}
+use borrow.Author.Needs.{needs}
+use Rattle.csr32.proofs.storage_bytes.Statement.{statement}
+use Rattle.csr32.proofs.storage_bytes.Tie as tie
+
+check-requires : tie.Need-check-requires
+check-requires c κs = search needs
+
+enum-known-v : tie.Need-enum-known-v
+enum-known-v c = search needs
+
+returns : tie.Need-returns
+returns c = search (outcomes, needs)
+
+enum-told : tie.Need-enum-told
+enum-told c = search needs
+
+mul-t9 : tie.Need-mul-t9
+mul-t9 c = search needs
+
+mul-t11 : tie.Need-mul-t11
+mul-t11 c = search needs
+
+add-t12 : tie.Need-add-t12
+add-t12 c = search needs
+
+mul-t14 : tie.Need-mul-t14
+mul-t14 c = search needs
+
+add-t15 : tie.Need-add-t15
+add-t15 c = ?
+
+returns-2 : tie.Need-returns-2
+unfolding csrStorageBytes csrMetadataBytes
+returns-2 c = search (outcomes, needs)
+
+pub storage-bytes-spec : {M : Type 1} → statement M
+storage-bytes-spec =
+    tie.close
+    (tie.spec
+    check-requires
+    enum-known-v
+    returns
+    enum-told
+    mul-t9
+    mul-t11
+    add-t12
+    mul-t14
+    add-t15
+    returns-2)

@@ -1,26 +1,26 @@
 -- Laws of plot lists: what an accepted one is, as its callers read it, its rows, and a row product on the way. Assumes nothing.
 use mathlib.Core.Bool.{Bool, true, false, _&&_}
 use mathlib.Core.List.{List, foldl, zip, zipWith}
-use mathlib.Core.Path.{_≡_, refl, sym, ap, _∙_}
-use Prim.Native.Nat.{ℕ, suc, _+_, _^_, _≤_, _<_}
+use mathlib.Core.Path.{_≡_, refl, sym, ap, ap₂, _∙_}
+use Prim.Native.Nat.{ℕ, suc, _+_, _-_, _^_, _≤_, _<_}
 use native.Mathlib.Numerals.{add-one}
 use native.Mathlib.Omega.{arith}
 use lib.Dec.{eqb, ltb, leb}
-use lib.ListN.{length, getD, drop, drop-of-length-le}
+use lib.ListN.{length, getD, take, drop, drop-of-length-le}
 use lib.Seq.{drop-cons}
 use lib.Ieee.{Float, nan, binary64, add, mul}
-use borrow.Author.Tests.{leb-true, ltb-true, eqb-true, eq-eqb}
-use Rattle.hybit_core.specs.Answer.{Answer, accepted, demand, _andThen_}
+use borrow.Author.Tests.{leb-true, ltb-true, eqb-true, eq-eqb, ne-eqb}
+use Rattle.hybit_core.specs.Answer.{Answer, accepted, demand, lengthIs, _andThen_}
 use Rattle.hybit_core.specs.Domain.{few, many, sizesFit}
 use Rattle.hybit_core.specs.Floats.{zero64, finite}
 use Rattle.hybit_core.specs.Table.{told}
 use Rattle.hybit_core.specs.declared.Verdict.{Verdict}
 use Rattle.hybit_core.specs.declared.Verdict.the-variants.{Accepted}
 use Rattle.hybit_core.proofs.BoolLaws.{and-left, and-right}
-use Rattle.hybit_core.proofs.AnswerLaws.{demand-accepted, then-first, then-second, accepted-by}
+use Rattle.hybit_core.proofs.AnswerLaws.{demand-accepted, then-first, then-second, length-accepted, accepted-by}
 use Rattle.lent.specs.Lists.{every, some, rises, part}
-use Rattle.lent.proofs.ListLaws.{every-getD, every-part, every-left, some-left, some-every}
-use Rattle.csr32.specs.Csr.{Csr, Entry, framed, framedLists, csrSizes, csrRules, csrAnswer, entries, present, at, rowProduct}
+use Rattle.lent.proofs.ListLaws.{every-getD, every-part, part-lent, every-left, some-left, some-every}
+use Rattle.csr32.specs.Csr.{Csr, Entry, framed, framedLists, csrSizes, csrRules, csrAnswer, entries, present, at, rowProduct, applyAnswer}
 use Rattle.csr32.proofs.FrameLaws.{Framed, framed-facts, RowIn, row-in, part-lengths}
 
 -- ---- the rule of the pointers, at each return of the code that tests it
@@ -35,6 +35,14 @@ framed-not rows ptr n h = go (framed rows ptr n) refl
 pub framed-rest : (rows : ℕ) (ptr : List ℕ) (n : ℕ) (t : Bool) → length ptr ≡ suc rows → getD ptr 0 0 ≡ 0 → getD ptr rows 0 ≡ n → t ≡ rises 0 ptr → t ≡ framed rows ptr n
 unfolding framed
 framed-rest rows ptr n t a b c e = e ∙ rw (eq-eqb (length ptr) (suc rows) a, eq-eqb (getD ptr 0 0) 0 b, eq-eqb (getD ptr rows 0) n c)
+
+pub lists-not : (rows : ℕ) (ptr : List ℕ) (a b : ℕ) → (a ≡ b → ⊥) → false ≡ framedLists rows ptr a b
+unfolding framedLists
+lists-not rows ptr a b h = rw (ne-eqb a b h)
+
+pub lists-rest : (rows : ℕ) (ptr : List ℕ) (a b : ℕ) (t : Bool) → a ≡ b → t ≡ framed rows ptr b → t ≡ framedLists rows ptr a b
+unfolding framedLists
+lists-rest rows ptr a b t h e = e ∙ rw (eq-eqb a b h)
 
 -- ---- what an accepted one is
 
@@ -76,6 +84,16 @@ valid m e =
 pub checked : (m : Csr) (v : Verdict) → told v ≡ csrAnswer m → v ≡ Accepted → Valid m
 checked m v h k = valid m (accepted-by (csrAnswer m) v h k)
 
+-- an accepted call of `apply`
+pub apply-accepted : (m : Csr) (x : List Float) (ny : ℕ) → applyAnswer m x ny ≡ accepted → (csrAnswer m ≡ accepted) × ((length x ≡ m .cols) × (ny ≡ m .rows))
+unfolding applyAnswer
+apply-accepted m x ny e =
+    let a : Answer = lengthIs (m .cols) (length x) in
+    let b : Answer = lengthIs (m .rows) ny in
+    let rest : a andThen b ≡ accepted = then-second (csrAnswer m) (a andThen b) e in
+    let long : length x ≡ m .cols = length-accepted (m .cols) (length x) (then-first a b rest) in
+    (then-first (csrAnswer m) (a andThen b) e, (long, length-accepted (m .rows) ny (then-second a b rest)))
+
 -- ---- its rows
 
 module _ {m : Csr} (v : Valid m) where
@@ -102,6 +120,16 @@ module _ {m : Csr} (v : Valid m) where
   pub entries-columns : (r : ℕ) → every (λ (e : Entry). ltb (e .0) (m .cols)) (entries m r) ≡ true
   unfolding entries
   entries-columns r = every-left (λ c. ltb c (m .cols)) (part (m .ptr) (m .col) r) (part (m .ptr) (m .val) r) (row-columns r)
+
+-- a row as the code lends it: from a, its pointer, up to b, the next one
+
+pub entries-lent : (m : Csr) (r a b : ℕ) → a ≡ getD (m .ptr) r 0 → b ≡ getD (m .ptr) (r + 1) 0 → zip (take (b - a) (drop a (m .col))) (take (b - a) (drop a (m .val))) ≡ entries m r
+unfolding entries
+entries-lent m r a b p q = ap₂ (λ (cs : List ℕ) (vs : List Float). zip cs vs) (part-lent (m .ptr) (m .col) r a b p q) (part-lent (m .ptr) (m .val) r a b p q)
+
+pub row-lent : {m : Csr} → Valid m → (r a b n : ℕ) → a ≡ getD (m .ptr) r 0 → b ≡ getD (m .ptr) (r + 1) 0 → n ≡ m .cols
+    → (length (take (b - a) (drop a (m .val))) ≡ length (take (b - a) (drop a (m .col)))) × (every (λ c. ltb c n) (take (b - a) (drop a (m .col))) ≡ true)
+row-lent {m} v r a b n p q e = rw (part-lent (m .ptr) (m .col) r a b p q, part-lent (m .ptr) (m .val) r a b p q, e) (sym (row-sides v r), row-columns v r)
 
 -- ---- which columns a row has
 

@@ -185,6 +185,21 @@ pub every-part : {A : Type 0} (p : A → Bool) (ptr : List ℕ) (l : List A) (r 
 unfolding part
 every-part p ptr l r e = every-drop p (getD ptr r 0) (take (getD ptr (r + 1) 0) l) (every-take p (getD ptr (r + 1) 0) l e)
 
+-- row r, as a part of a lent list has it: from a, its pointer, up to b, the next one
+pub part-lent : {A : Type 0} (ptr : List ℕ) (l : List A) (r a b : ℕ) → a ≡ getD ptr r 0 → b ≡ getD ptr (r + 1) 0 → take (b - a) (drop a l) ≡ part ptr l r
+unfolding part
+part-lent {A} ptr l r a b p q = go a b l ∙ ap₂ (λ (i j : ℕ). slice i j l) p q
+  where
+    none : (n : ℕ) → _≡_ {A = List A} (take n []) []
+    none zero = refl
+    none (suc n) = refl
+
+    go : (a b : ℕ) (l : List A) → take (b - a) (drop a l) ≡ slice a b l
+    go zero b l = ap (λ (n : ℕ). take n l) (sub-zero b)
+    go (suc a) zero l = let e : 0 - suc a ≡ 0 = omega arith in ap (λ (n : ℕ). take n (drop (suc a) l)) e
+    go (suc a) (suc b) [] = none (suc b - suc a)
+    go (suc a) (suc b) (x ∷ l) = let e : suc b - suc a ≡ b - a = omega arith in ap (λ (n : ℕ). take n (drop a l)) e ∙ go a b l
+
 pub every-zip : {A B : Type 0} (p : A → Bool) (q : B → Bool) (l : List A) (m : List B) → every p l ≡ true → every q m ≡ true → every (λ (e : A × B). p (e .0) && q (e .1)) (zip l m) ≡ true
 unfolding every zip zipWith
 every-zip p q [] m d e = refl

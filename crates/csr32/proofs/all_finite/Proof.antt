@@ -1,13 +1,13 @@
-use Rattle.hybit_core.proofs.BoolLaws.{flag-on, flag-off}
-use lib.Ieee.{nan}
-use Rattle.lent.proofs.ListLaws.{every-more, every-fails, every-done}
-use Rattle.lent.specs.Lists.{every}
-use Rattle.hybit_core.specs.Floats.{finite}
-use Rattle.hybit_core.proofs.BoolLaws.{tests}
-use lib.ListN.{length, drop}
-use Prim.Native.Nat.{_-_, _≤_}
-use mathlib.Core.Path.{_≡_, refl}
+-- `csr32::all_finite` meets its contract. Assumes nothing.
 use borrow.Author.Needs.{needs}
+use mathlib.Core.Path.{_≡_, refl}
+use Prim.Native.Nat.{_-_, _≤_}
+use lib.Ieee.{nan}
+use lib.ListN.{length, drop}
+use Rattle.hybit_core.specs.Floats.{finite}
+use Rattle.hybit_core.proofs.BoolLaws.{flag-on, flag-off}
+use Rattle.lent.specs.Lists.{every}
+use Rattle.lent.proofs.ListLaws.{every-more, every-fails, every-done}
 use Rattle.csr32.proofs.all_finite.Statement.{statement}
 use Rattle.csr32.proofs.all_finite.Tie as tie
 

@@ -1,7 +1,8 @@
-use Rattle.csr32.specs.Csr.{csrRules, csrAnswer}
+-- `csr32::check` meets its contract. Assumes nothing.
+use borrow.Author.Needs.{needs}
 use Rattle.hybit_core.proofs.AnswerLaws.{checks}
 use Rattle.hybit_core.proofs.BoolLaws.{tests}
-use borrow.Author.Needs.{needs}
+use Rattle.csr32.specs.Csr.{csrRules, csrAnswer}
 use Rattle.csr32.proofs.check.Statement.{statement}
 use Rattle.csr32.proofs.check.Tie as tie
 

@@ -1,14 +1,13 @@
-use Rattle.hybit_core.proofs.BoolLaws.{is-below, is-not-below}
-use lib.ListN.{getD}
-use native.Mathlib.Omega.{arith}
-use Rattle.lent.proofs.ListLaws.{every-more, every-fails, every-done}
-use Rattle.lent.specs.Lists.{every}
-use Rattle.hybit_core.proofs.BoolLaws.{tests}
-use lib.ListN.{length, drop}
-use lib.Dec.{ltb}
-use Prim.Native.Nat.{_-_, _≤_}
-use mathlib.Core.Path.{_≡_, refl}
+-- `csr32::columns_inside` meets its contract. Assumes nothing.
 use borrow.Author.Needs.{needs}
+use mathlib.Core.Path.{_≡_, refl}
+use Prim.Native.Nat.{_-_, _≤_, _<_}
+use native.Mathlib.Omega.{arith}
+use lib.Dec.{ltb}
+use lib.ListN.{getD, length, drop}
+use Rattle.hybit_core.proofs.BoolLaws.{is-below, is-not-below}
+use Rattle.lent.specs.Lists.{every}
+use Rattle.lent.proofs.ListLaws.{every-more, every-fails, every-done}
 use Rattle.csr32.proofs.columns_inside.Statement.{statement}
 use Rattle.csr32.proofs.columns_inside.Tie as tie
 

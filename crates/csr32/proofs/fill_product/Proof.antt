@@ -1,9 +1,10 @@
-use Rattle.csr32.specs.Csr.{asCsr, entries, rowProduct, product}
-use Rattle.lent.proofs.LentLaws.{Filled, filled-none, filled-more, filled-done}
-use lib.ListN.{length}
-use Prim.Native.Nat.{_-_, _≤_}
-use mathlib.Core.Path.{_≡_}
+-- `csr32::fill_product` meets its contract. Assumes nothing.
 use borrow.Author.Needs.{needs}
+use mathlib.Core.Path.{_≡_}
+use Prim.Native.Nat.{_-_, _≤_}
+use lib.ListN.{length}
+use Rattle.lent.proofs.LentLaws.{Filled, filled-none, filled-more, filled-done}
+use Rattle.csr32.specs.Csr.{asCsr, entries, rowProduct, product}
 use Rattle.csr32.proofs.fill_product.Statement.{statement}
 use Rattle.csr32.proofs.fill_product.Tie as tie
 

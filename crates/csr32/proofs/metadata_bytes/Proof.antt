@@ -1,6 +1,8 @@
-use Rattle.csr32.specs.Csr.{csrMetadataBytes}
-use Rattle.hybit_core.proofs.AnswerLaws.{outcomes}
+-- `csr32::metadata_bytes` meets its contract. Assumes nothing.
 use borrow.Author.Needs.{needs}
+use mathlib.Core.Path.{refl}
+use Rattle.hybit_core.proofs.AnswerLaws.{given-accepted, outcomes}
+use Rattle.csr32.specs.Csr.{csrMetadataBytes}
 use Rattle.csr32.proofs.metadata_bytes.Statement.{statement}
 use Rattle.csr32.proofs.metadata_bytes.Tie as tie
 
@@ -27,7 +29,7 @@ add-t12 c = search needs
 
 returns-2 : tie.Need-returns-2
 unfolding csrMetadataBytes
-returns-2 c = search (outcomes, needs)
+returns-2 c = given-accepted _ _ _ _ (c .before .before .check .ensures) (c .enum-told .given .1) refl
 
 pub metadata-bytes-spec : {M : Type 1} → statement M
 metadata-bytes-spec =

@@ -1,10 +1,12 @@
-use Rattle.lent.proofs.ListLaws.{rises-more, rises-fails, rises-done}
-use Rattle.lent.specs.Lists.{rises}
-use Rattle.hybit_core.proofs.BoolLaws.{tests}
-use lib.ListN.{length, drop}
-use Prim.Native.Nat.{_-_, _≤_}
-use mathlib.Core.Path.{_≡_, refl}
+-- `csr32::no_fall` meets its contract. Assumes nothing.
 use borrow.Author.Needs.{needs}
+use mathlib.Core.Path.{_≡_, refl}
+use Prim.Native.Nat.{_<_, _-_, _≤_}
+use native.Mathlib.Omega.{arith}
+use lib.ListN.{getD, length, drop}
+use Rattle.hybit_core.proofs.BoolLaws.{is-within, is-above}
+use Rattle.lent.specs.Lists.{rises}
+use Rattle.lent.proofs.ListLaws.{rises-more, rises-fails, rises-done}
 use Rattle.csr32.proofs.no_fall.Statement.{statement}
 use Rattle.csr32.proofs.no_fall.Tie as tie
 
@@ -24,7 +26,9 @@ shared-slice-read-next : tie.Need-shared-slice-read-next Inv-loop μ-loop
 shared-slice-read-next c = search needs
 
 returns : tie.Need-returns Inv-loop μ-loop
-returns c = search (rises-fails, tests, needs)
+returns c =
+    let h : getD (c .before .before .before .before .args .row-ptr .now) (c .before .before .before .loop .i) 0 < c .before .before .before .loop .last = omega arith in
+    rises-fails _ _ _ (c .before .before .before .loop .inv .1) (search needs) (is-above _ _ h)
 
 add-i : tie.Need-add-i Inv-loop μ-loop
 add-i c = search needs
@@ -33,7 +37,9 @@ loop-less : tie.Need-loop-less Inv-loop μ-loop
 loop-less c = search needs
 
 loop-again : tie.Need-loop-again Inv-loop μ-loop
-loop-again c = search (rises-more, tests, needs)
+loop-again c =
+    let h : c .before .before .before .loop .last ≤ getD (c .before .before .before .before .args .row-ptr .now) (c .before .before .before .loop .i) 0 = omega arith in
+    (search needs, rises-more _ _ _ (c .before .before .before .loop .inv .1) (search needs) (is-within _ _ h))
 
 returns-2 : tie.Need-returns-2 Inv-loop μ-loop
 returns-2 c = search (rises-done, needs)

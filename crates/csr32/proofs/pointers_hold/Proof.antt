@@ -1,8 +1,7 @@
-use Rattle.csr32.proofs.CsrLaws.{framed-not, framed-rest}
-use native.Mathlib.Omega.{arith}
-use Rattle.csr32.specs.Csr.{framed}
-use Rattle.hybit_core.proofs.BoolLaws.{tests}
+-- `csr32::pointers_hold` meets its contract. Assumes nothing.
 use borrow.Author.Needs.{needs}
+use native.Mathlib.Omega.{arith}
+use Rattle.csr32.proofs.CsrLaws.{framed-not, framed-rest}
 use Rattle.csr32.proofs.pointers_hold.Statement.{statement}
 use Rattle.csr32.proofs.pointers_hold.Tie as tie
 

@@ -1,7 +1,10 @@
-use native.Mathlib.Omega.{arith}
-use Rattle.csr32.specs.Csr.{csrStorageBytes, csrMetadataBytes}
-use Rattle.hybit_core.proofs.AnswerLaws.{outcomes}
+-- `csr32::storage_bytes` meets its contract. Assumes nothing.
 use borrow.Author.Needs.{needs}
+use mathlib.Core.Path.{refl}
+use native.Mathlib.Omega.{arith}
+use Rattle.hybit_core.proofs.AnswerLaws.{given-accepted, outcomes}
+use Rattle.csr32.specs.Csr.{csrStorageBytes, csrMetadataBytes}
+use Rattle.csr32.proofs.CsrLaws.{checked, pointers-few}
 use Rattle.csr32.proofs.storage_bytes.Statement.{statement}
 use Rattle.csr32.proofs.storage_bytes.Tie as tie
 
@@ -30,11 +33,13 @@ mul-t14 : tie.Need-mul-t14
 mul-t14 c = search needs
 
 add-t15 : tie.Need-add-t15
-add-t15 c = ?
+add-t15 c =
+    let v = checked _ _ (c .before .before .check .ensures) (c .enum-told .given .1) in
+    omega (arith, pointers-few v)
 
 returns-2 : tie.Need-returns-2
 unfolding csrStorageBytes csrMetadataBytes
-returns-2 c = search (outcomes, needs)
+returns-2 c = given-accepted _ _ _ _ (c .before .before .check .ensures) (c .enum-told .given .1) refl
 
 pub storage-bytes-spec : {M : Type 1} → statement M
 storage-bytes-spec =

@@ -1,11 +1,8 @@
-use Rattle.csr32.proofs.CsrLaws.{column-below}
-use Rattle.lent.proofs.ListLaws.{every-getD}
-use borrow.Author.Tests.{ltb-true}
-use native.Mathlib.Omega.{arith}
-use Rattle.csr32.proofs.CsrLaws.{Summing, summing-none, summing-more, summing-done}
-use lib.ListN.{length}
-use Prim.Native.Nat.{_-_}
+-- `csr32::sum_entries` meets its contract. Assumes nothing.
 use borrow.Author.Needs.{needs}
+use Prim.Native.Nat.{_-_}
+use lib.ListN.{length}
+use Rattle.csr32.proofs.CsrLaws.{column-below, Summing, summing-none, summing-more, summing-done}
 use Rattle.csr32.proofs.sum_entries.Statement.{statement}
 use Rattle.csr32.proofs.sum_entries.Tie as tie
 
@@ -46,7 +43,7 @@ loop-less : tie.Need-loop-less Inv-loop μ-loop
 loop-less c = search needs
 
 loop-again : tie.Need-loop-again Inv-loop μ-loop
-loop-again c = search (summing-more, needs)
+loop-again c = summing-more _ _ _ _ _ (c .before .before .before .before .before .loop .inv) _ (search needs) (c .before .before .before .before .before .before .before .before .before .pre .0) (c .before .before .wide .ensures)
 
 returns : tie.Need-returns Inv-loop μ-loop
 returns c = search (summing-done, needs)

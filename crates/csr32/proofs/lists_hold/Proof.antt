@@ -12,7 +12,7 @@ pointers-hold-requires : tie.Need-pointers-hold-requires
 pointers-hold-requires c κs = search needs
 
 returns-2 : tie.Need-returns-2
-returns-2 c = lists-rest _ _ _ _ _ (search needs) (c .pointers-hold .ensures)
+returns-2 c = lists-rest _ _ _ _ _ (omega arith) (c .pointers-hold .ensures)
 
 pub lists-hold-spec : {M : Type 1} → statement M
 lists-hold-spec = tie.close (tie.spec returns pointers-hold-requires returns-2)

@@ -36,7 +36,7 @@ no-fall-requires : tie.Need-no-fall-requires
 no-fall-requires c κs = search needs
 
 returns-5 : tie.Need-returns-5
-returns-5 c = framed-rest _ _ _ _ (search needs) (search needs) (search needs) (c .no-fall .ensures)
+returns-5 c = framed-rest _ _ _ _ (omega arith) (omega arith) (omega arith) (c .no-fall .ensures)
 
 pub pointers-hold-spec : {M : Type 1} → statement M
 pointers-hold-spec =

@@ -11,7 +11,7 @@ use lib.Dec.{leb, eqb, ltb}
 use lib.ListN.{length, getD, take, drop, set, replicate, length-set, length-replicate, drop-of-length-le, length-append, length-map, List·getD-append}
 use lib.Seq.{ext-getD, getD-set-same, getD-set-other, drop-cons, slice, take-at, drop-at, getD-at, getD-append-add, getD-append-seam}
 use Rattle.hybit_core.proofs.BoolLaws.{and-left, and-right, and-both}
-use Rattle.lent.specs.Lists.{joined, each, starts, part, consIf, only, every, some, first, spread}
+use Rattle.lent.specs.Lists.{joined, each, starts, part, consIf, only, every, some, first, rises, spread}
 
 module _ {A : Type 0} where
   slice-mid : (a b c : List A) (i j : ℕ) → i ≡ length a → j ≡ length a + length b → slice i j ((a ++ b) ++ c) ≡ b
@@ -185,6 +185,21 @@ pub every-part : {A : Type 0} (p : A → Bool) (ptr : List ℕ) (l : List A) (r 
 unfolding part
 every-part p ptr l r e = every-drop p (getD ptr r 0) (take (getD ptr (r + 1) 0) l) (every-take p (getD ptr (r + 1) 0) l e)
 
+-- row r, as a part of a lent list has it: from a, its pointer, up to b, the next one
+pub part-lent : {A : Type 0} (ptr : List ℕ) (l : List A) (r a b : ℕ) → a ≡ getD ptr r 0 → b ≡ getD ptr (r + 1) 0 → take (b - a) (drop a l) ≡ part ptr l r
+unfolding part
+part-lent {A} ptr l r a b p q = go a b l ∙ ap₂ (λ (i j : ℕ). slice i j l) p q
+  where
+    none : (n : ℕ) → _≡_ {A = List A} (take n []) []
+    none zero = refl
+    none (suc n) = refl
+
+    go : (a b : ℕ) (l : List A) → take (b - a) (drop a l) ≡ slice a b l
+    go zero b l = ap (λ (n : ℕ). take n l) (sub-zero b)
+    go (suc a) zero l = let e : 0 - suc a ≡ 0 = omega arith in ap (λ (n : ℕ). take n (drop (suc a) l)) e
+    go (suc a) (suc b) [] = none (suc b - suc a)
+    go (suc a) (suc b) (x ∷ l) = let e : suc b - suc a ≡ b - a = omega arith in ap (λ (n : ℕ). take n (drop a l)) e ∙ go a b l
+
 pub every-zip : {A B : Type 0} (p : A → Bool) (q : B → Bool) (l : List A) (m : List B) → every p l ≡ true → every q m ≡ true → every (λ (e : A × B). p (e .0) && q (e .1)) (zip l m) ≡ true
 unfolding every zip zipWith
 every-zip p q [] m d e = refl
@@ -263,6 +278,47 @@ module _ {A : Type 0} (p : A → Bool) (l : List A) (i : ℕ) (inv : every p l �
   pub every-done : length l ≤ i → true ≡ every p l
   unfolding every
   every-done h = sym (inv ∙ rw drop-of-length-le)
+
+-- ---- no element of a list is below the one before it, as a loop over it finds: a is the one before what is left
+
+module _ (l : List ℕ) (a i : ℕ) (inv : rises 0 l ≡ rises a (drop i l)) where
+  rises-step : i < length l → rises 0 l ≡ (leb a (getD l i 0) && rises (getD l i 0) (drop (i + 1) l))
+  unfolding rises
+  rises-step h = inv ∙ rw (add-one, drop-cons l i 0)
+
+  pub rises-more : i < length l → true ≡ leb a (getD l i 0) → rises 0 l ≡ rises (getD l i 0) (drop (i + 1) l)
+  rises-more h e = rises-step h ∙ rw (← e)
+
+  pub rises-fails : i < length l → false ≡ leb a (getD l i 0) → false ≡ rises 0 l
+  rises-fails h e = sym (rises-step h ∙ rw (← e))
+
+  pub rises-done : length l ≤ i → true ≡ rises 0 l
+  unfolding rises
+  rises-done h = sym (inv ∙ rw drop-of-length-le)
+
+-- ---- a test of the left of two lists side by side
+
+pub every-left : {A B : Type 0} (p : A → Bool) (l : List A) (m : List B) → every p l ≡ true → every (λ (e : A × B). p (e .0)) (zip l m) ≡ true
+unfolding every zip zipWith
+every-left p [] m e = refl
+every-left p (a ∷ l) [] e = refl
+every-left p (a ∷ l) (b ∷ m) e = and-both (p a) (every (λ (e : _ × _). p (e .0)) (zip l m)) (and-left (p a) (every p l) e) (every-left p l m (and-right (p a) (every p l) e))
+
+pub some-left : {A B : Type 0} (p : A → Bool) (l : List A) (m : List B) → length l ≡ length m → some (λ (e : A × B). p (e .0)) (zip l m) ≡ some p l
+unfolding some zip zipWith
+some-left p [] m e = refl
+some-left p (a ∷ l) [] e = absurd (omega arith)
+some-left p (a ∷ l) (b ∷ m) e = ap (λ (t : Bool). p a || t) (some-left p l m (omega arith))
+
+-- an element that passes, of a list of which every element passes another test
+pub some-every : {A : Type 0} (p q : A → Bool) (l : List A) → some p l ≡ true → every q l ≡ true → (a : A) × (p a ≡ true) × (q a ≡ true)
+unfolding some every
+some-every p q [] s e = absurd (false≢true s)
+some-every p q (a ∷ l) s e = go (p a) refl s (λ y. some-every p q l y (and-right (q a) (every q l) e))
+  where
+    go : (t : Bool) → p a ≡ t → (t || some p l) ≡ true → (some p l ≡ true → (b : _) × (p b ≡ true) × (q b ≡ true)) → (b : _) × (p b ≡ true) × (q b ≡ true)
+    go true x y f = (a, x, and-left (q a) (every q l) e)
+    go false x y f = f y
 
 -- ---- some element of a list passes: one element more
 

@@ -38,7 +38,7 @@ fn head(words: &[u32], at: usize) -> usize
 }
 
 // The lower of the two next words, which stand at places `at` and `other_at`; not both rows are at their end.
-fn step(
+fn next_word(
     operation: Operation,
     words: &[u32],
     masks: &[u64],
@@ -90,7 +90,7 @@ fn count_row(
     let mut at: usize = 0;
     let mut other_at: usize = 0;
     while at + other_at < all {
-        let s = step(
+        let s = next_word(
             operation,
             words,
             masks,
@@ -129,7 +129,7 @@ fn merge_row(
     let mut at: usize = 0;
     let mut other_at: usize = 0;
     while at + other_at < all {
-        let s = step(
+        let s = next_word(
             operation,
             words,
             masks,

@@ -18,6 +18,8 @@ use Rattle.word.proofs.BelowLaws.{below-zero, below-cong, length-below-suc, len
 use Rattle.word.proofs.LowestLaws.{none as none-in}
 use Rattle.word.proofs.BitLaws.{within-in, has-mask-of}
 use Rattle.word.proofs.WordLaws.{mask-none}
+use Rattle.lent.proofs.ListLaws.{getD-map-lt}
+use Rattle.topology.proofs.RowLaws.{Row}
 
 module _ (p : ℕ → Bool) (n : ℕ) where
   -- ---- words
@@ -29,6 +31,12 @@ module _ (p : ℕ → Bool) (n : ℕ) where
 
   pub front-none : Front 0 0
   front-none = record { ranked = sym (ap length (below-zero (hit p n))); inside = omega arith }
+
+  -- w is the row's word at place i, and m its mask
+  pub record Placed (i w m : ℕ) : Type 0 where
+    pub place : i < length (wordsOf p n)
+    pub word : w ≡ getD (wordsOf p n) i 0
+    pub mask : m ≡ maskOf p n w
 
   -- the word at place i: it is not below f, and the words between are empty
   pub record Next (i f w : ℕ) : Type 0 where
@@ -221,3 +229,15 @@ module _ (p : ℕ → Bool) (n : ℕ) where
           let q : n ≤ 64 * ceil64 n = omega arith in
           let c : count (within n p) (64 * ceil64 n) ≡ count (within n p) (64 * s .at) = count-skip (s .at) (ceil64 n) (s .front .inside) (ended i (s .at) (s .front) l) in
           sym (selected-nothing p n k (omega (arith, s .is, c, count-frame n (omega arith), length-below-mono (within n p) n (64 * ceil64 n) q)))
+
+-- ---- as the code holds it: two lists that are a row, read at place i
+
+module _ (p : ℕ → Bool) (n : ℕ) (ws ms : List ℕ) (row : Row p n ws ms) where
+  pub placed : (i w m : ℕ) → i < length ws → w ≡ getD ws i 0 → m ≡ getD ms i 0 → Placed p n i w m
+  placed i w m l a b =
+      let z : i < length (wordsOf p n) = rw (← row .words) l in
+      let e : w ≡ getD (wordsOf p n) i 0 = a ∙ ap (λ (l : List ℕ). getD l i 0) (row .words) in
+      record { place = z; word = e; mask = b ∙ ap (λ (l : List ℕ). getD l i 0) (row .masks) ∙ getD-map-lt (maskOf p n) (wordsOf p n) i 0 0 z ∙ ap (maskOf p n) (sym e) }
+
+  pub at-end : (i : ℕ) → length ws ≤ i → length (wordsOf p n) ≤ i
+  at-end i l = rw (← row .words) l

@@ -68,6 +68,11 @@ module _ (p : ℕ → Bool) (n : ℕ) where
   front-skip : (i f w : ℕ) → Front p n i f → f ≤ w → w ≤ ceil64 n → ((v : ℕ) → f ≤ v → v < w → hit p n v ≡ false) → Front p n i w
   front-skip i f w h a b g = record { ranked = h .ranked ∙ sym (ap length (below-trim (hit p n) f w a g)); inside = b }
 
+  -- no more words than the frame has
+  words-few : length (wordsOf p n) ≤ ceil64 n
+  unfolding wordsOf
+  words-few = length-below-le (hit p n) (ceil64 n)
+
   -- no place is past the words
   pub front-le : (i f : ℕ) → Front p n i f → i ≤ length (wordsOf p n)
   unfolding wordsOf
@@ -124,17 +129,22 @@ pub record Merging (op : Operation) (n : ℕ) (ws ms vs ns : List ℕ) (at other
   pub there : Front (rowMember vs ns) n other front
   pub done : Front (joint op (rowMember ws ms) (rowMember vs ns)) n k front
 
-module _ (op : Operation) (n : ℕ) (ws ms vs ns : List ℕ) where
+module _ (n : ℕ) (ws ms vs ns : List ℕ) where
   row-of : TwoRows n ws ms vs ns → ((k : ℕ) → getD ms k 0 < 2 ^ 64) → Row (rowMember ws ms) n ws ms
   row-of r s = row-is n ws ms (r .rule) (sym (r .sides)) (small-is ms s)
 
   other-row-of : TwoRows n ws ms vs ns → ((k : ℕ) → getD ns k 0 < 2 ^ 64) → Row (rowMember vs ns) n vs ns
   other-row-of r s = row-is n vs ns (r .other-rule) (sym (r .other-sides)) (small-is ns s)
 
+  -- both rows together are no longer than two frames
+  pub rows-few : TwoRows n ws ms vs ns → ((k : ℕ) → getD ms k 0 < 2 ^ 64) → ((k : ℕ) → getD ns k 0 < 2 ^ 64) → length ws + length vs ≤ ceil64 n + ceil64 n
+  rows-few r s t = omega (arith, ap length (row-of r s .words), ap length (other-row-of r t .words), words-few (rowMember ws ms) n, words-few (rowMember vs ns) n)
+
+module _ (op : Operation) (n : ℕ) (ws ms vs ns : List ℕ) where
   pub merging-none : TwoRows n ws ms vs ns → ((k : ℕ) → getD ms k 0 < 2 ^ 64) → ((k : ℕ) → getD ns k 0 < 2 ^ 64) → Merging op n ws ms vs ns 0 0 0
   merging-none r s t = record {
-    one = row-of r s;
-    two = other-row-of r t;
+    one = row-of n ws ms vs ns r s;
+    two = other-row-of n ws ms vs ns r t;
     front = 0;
     here = front-none (rowMember ws ms) n;
     there = front-none (rowMember vs ns) n;
@@ -145,6 +155,16 @@ module _ (op : Operation) (n : ℕ) (ws ms vs ns : List ℕ) where
     pub merging-in : (at ≤ length ws) × (other ≤ length vs)
     merging-in =
         (rw (inv .one .words) (front-le (rowMember ws ms) n at (inv .front) (inv .here)), rw (inv .two .words) (front-le (rowMember vs ns) n other (inv .front) (inv .there)))
+
+    pub merging-few : at + other ≤ ceil64 n + ceil64 n
+    merging-few =
+        omega (
+          arith,
+          front-le (rowMember ws ms) n at (inv .front) (inv .here),
+          front-le (rowMember vs ns) n other (inv .front) (inv .there),
+          words-few (rowMember ws ms) n,
+          words-few (rowMember vs ns) n,
+        )
 
     module _ (index mask next other-next : ℕ) (s : Stepped op ws ms vs ns at other index mask next other-next) where
       bounds : (inv .front ≤ index) × (index < ceil64 n)
@@ -194,6 +214,9 @@ module _ (op : Operation) (n : ℕ) (ws ms vs ns : List ℕ) where
         pub merging-room : k < length (wordsOf (joint op (rowMember ws ms) (rowMember vs ns)) n)
         unfolding wordsOf
         merging-room = omega (arith, upto .ranked, rank-lt (hit (joint op (rowMember ws ms) (rowMember vs ns)) n) index (ceil64 n) (bounds .1) full)
+
+        pub merging-fits : k < ceil64 n
+        merging-fits = omega (arith, merging-room, words-few (joint op (rowMember ws ms) (rowMember vs ns)) n)
 
         pub merging-word : index ≡ getD (wordsOf (joint op (rowMember ws ms) (rowMember vs ns)) n) k 0
         unfolding wordsOf

@@ -1,2 +1,3 @@
 pub mod MergeLaws
 pub mod WriteLaws
+pub mod RowsLaws

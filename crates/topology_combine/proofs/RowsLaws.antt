@@ -4,6 +4,7 @@ use mathlib.Core.List.{List, map}
 use mathlib.Core.Path.{_≡_, refl, sym, ap, ap₂, _∙_}
 use Prim.Native.Nat.{ℕ, zero, suc, _+_, _-_, _^_, _≤_, _<_}
 use native.Mathlib.Nat.{le-refl}
+use native.Mathlib.Numerals.{add-one}
 use native.Mathlib.Omega.{arith}
 use lib.Dec.{eqb, leb, ltb}
 use lib.ListN.{length, getD, take, drop, length-map}
@@ -48,6 +49,11 @@ module _ (op : Operation) (a b : Words) where
 
   pub masks-long : (r : ℕ) → length (masksAt op a b r) ≡ length (wordsAt op a b r)
   masks-long r = length-map (wordsAt op a b r) (maskOf (λ c. combined op (member a r c) (member b r c)) (a .cols))
+
+-- ---- counting the words, row after row
+
+pub counting-done : (op : Operation) (a b : Words) (k r : ℕ) → r ≡ a .rows → k ≡ length (joined (wordsAt op a b) r) → k ≡ length (combinedWords op a b .word)
+counting-done op a b k r e h = h ∙ ap (λ (i : ℕ). length (joined (wordsAt op a b) i)) e ∙ sym (ap length (combined-words op a b))
 
 -- ---- what 11 says of one record
 
@@ -139,6 +145,15 @@ module _ (rows cols : ℕ) (ptr ws ms otr vs ns : List ℕ) (t : TwoRecords rows
         → map (maskOf (combinedRow op (take (b - a) (drop a ws)) (take (b - a) (drop a ms)) (take (e - d) (drop d vs)) (take (e - d) (drop d ns))) cols) (wordsOf (combinedRow op (take (b - a) (drop a ws)) (take (b - a) (drop a ms)) (take (e - d) (drop d vs)) (take (e - d) (drop d ns))) cols)
         ≡ masksAt op (asWords rows cols ptr ws ms 0) (asWords rows cols otr vs ns 0) r
     lent-masks op = ap (λ (p : ℕ → Bool). map (maskOf p cols) (wordsOf p cols)) (lent-test op)
+
+    -- one row more is counted
+    pub counting-more : (op : Operation) (k m : ℕ)
+        → k ≡ length (joined (wordsAt op (asWords rows cols ptr ws ms 0) (asWords rows cols otr vs ns 0)) r)
+        → m ≡ length (wordsOf (combinedRow op (take (b - a) (drop a ws)) (take (b - a) (drop a ms)) (take (e - d) (drop d vs)) (take (e - d) (drop d ns))) cols)
+        → k + m ≡ length (joined (wordsAt op (asWords rows cols ptr ws ms 0) (asWords rows cols otr vs ns 0)) (r + 1))
+    counting-more op k m x y =
+        ap₂ (λ (i j : ℕ). i + j) x (y ∙ ap length (lent-words op))
+        ∙ sym (ap (λ (i : ℕ). length (joined (wordsAt op (asWords rows cols ptr ws ms 0) (asWords rows cols otr vs ns 0)) i)) (add-one r) ∙ length-joined-suc (wordsAt op (asWords rows cols ptr ws ms 0) (asWords rows cols otr vs ns 0)) r)
 
   module _ (op : Operation) (sm : small ms ≡ true) (sn : small ns ≡ true) where
     row-le : (r : ℕ) → r < rows → length (wordsAt op (asWords rows cols ptr ws ms 0) (asWords rows cols otr vs ns 0) r) ≤ length (part ptr ws r) + length (part otr vs r)

@@ -1,3 +1,4 @@
 pub mod MergeLaws
 pub mod WriteLaws
 pub mod RowsLaws
+pub mod FillLaws

@@ -119,7 +119,7 @@ module _ (p : ℕ → Bool) (n : ℕ) where
 
   -- ---- the rank of a column: the ones of the words before its own
 
-  module _ (c : ℕ) (low : c ≤ n) where
+  module _ (c : ℕ) where
     split : 64 * (c / 64) + c % 64 ≡ c
     split = omega arith
 
@@ -133,22 +133,22 @@ module _ (p : ℕ → Bool) (n : ℕ) where
     pub ranking-none : Ranking 0 0
     ranking-none = record { at = 0; front = front-none; before = omega arith; is = sym (ap length (below-zero (within n p))) }
 
-    rank-by : (f k : ℕ) → f ≤ c / 64 → ((v : ℕ) → f ≤ v → v < c / 64 → hit p n v ≡ false) → k ≡ count (has (maskOf p n (c / 64))) (c % 64) → count (within n p) (64 * f) + k ≡ count p c
-    rank-by f k h g e =
+    rank-by : c ≤ n → (f k : ℕ) → f ≤ c / 64 → ((v : ℕ) → f ≤ v → v < c / 64 → hit p n v ≡ false) → k ≡ count (has (maskOf p n (c / 64))) (c % 64) → count (within n p) (64 * f) + k ≡ count p c
+    rank-by low f k h g e =
         ap₂ (λ (a b : ℕ). a + b) (sym (count-skip f (c / 64) h g)) e ∙ sym (count-in (c / 64) (c % 64) (omega arith)) ∙ ap (count (within n p)) split ∙ sym (count-frame c low)
 
     no-mask : hit p n (c / 64) ≡ false → 0 ≡ count (has (maskOf p n (c / 64))) (c % 64)
     no-mask e = sym (ap (λ (m : ℕ). count (has m) (c % 64)) (mask-none p n (c / 64) e) ∙ count-none (c % 64))
 
     module _ (i rank : ℕ) (r : Ranking i rank) where
-      module _ (l : i < length (wordsOf p n)) (w m : ℕ) (word : w ≡ getD (wordsOf p n) i 0) (mask : m ≡ maskOf p n w) where
+      module _ (w m : ℕ) (x : Placed i w m) where
         the-next : Next i (r .at) w
-        the-next = rw word (next i (r .at) (r .front) l)
+        the-next = rw (x .word) (next i (r .at) (r .front) (x .place))
 
         more : rank + count (has m) 64 ≡ count (within n p) (64 * (w + 1))
         more =
             let s : 64 * (w + 1) ≡ 64 * w + 64 = omega arith in
-            ap₂ (λ (a b : ℕ). a + b) (r .is ∙ sym (count-skip (r .at) w (the-next .after) (the-next .skipped))) (ap (λ (k : ℕ). count (has k) 64) mask) ∙ sym (count-in w 64 (omega arith)) ∙ sym (ap (count (within n p)) s)
+            ap₂ (λ (a b : ℕ). a + b) (r .is ∙ sym (count-skip (r .at) w (the-next .after) (the-next .skipped))) (ap (λ (k : ℕ). count (has k) 64) (x .mask)) ∙ sym (count-in w 64 (omega arith)) ∙ sym (ap (count (within n p)) s)
 
         pub ranking-more : w < c / 64 → Ranking (i + 1) (rank + count (has m) 64)
         ranking-more h = record { at = w + 1; front = the-next .front; before = omega arith; is = more }
@@ -156,18 +156,21 @@ module _ (p : ℕ → Bool) (n : ℕ) where
         pub ranking-fits : rank + count (has m) 64 ≤ n
         ranking-fits = omega (arith, more, count-upto (64 * (w + 1)))
 
-        pub ranking-at : w ≡ c / 64 → rank + count (has m) (c % 64) ≡ count p c
-        ranking-at e =
+        pub ranking-at : c ≤ n → w ≡ c / 64 → rank + count (has m) (c % 64) ≡ count p c
+        ranking-at low e =
             ap (λ (k : ℕ). k + count (has m) (c % 64)) (r .is)
-            ∙ rank-by (r .at) (count (has m) (c % 64)) (r .before) (λ v a b. the-next .skipped v a (omega arith)) (ap (λ (k : ℕ). count (has k) (c % 64)) (mask ∙ ap (maskOf p n) e))
+            ∙ rank-by low (r .at) (count (has m) (c % 64)) (r .before) (λ v a b. the-next .skipped v a (omega arith)) (ap (λ (k : ℕ). count (has k) (c % 64)) (x .mask ∙ ap (maskOf p n) e))
 
-        pub ranking-past : c / 64 < w → rank ≡ count p c
-        ranking-past h =
+        pub ranking-small : c ≤ n → w ≡ c / 64 → rank + count (has m) (c % 64) ≤ c
+        ranking-small low e = omega (arith, ranking-at low e, length-below-le p c)
+
+        pub ranking-past : c ≤ n → c / 64 < w → rank ≡ count p c
+        ranking-past low h =
             r .is ∙ sym (add-zero (count (within n p) (64 * r .at)))
-            ∙ rank-by (r .at) 0 (r .before) (λ v a b. the-next .skipped v a (omega arith)) (no-mask (the-next .skipped (c / 64) (r .before) h))
+            ∙ rank-by low (r .at) 0 (r .before) (λ v a b. the-next .skipped v a (omega arith)) (no-mask (the-next .skipped (c / 64) (r .before) h))
 
-      pub ranking-done : length (wordsOf p n) ≤ i → rank ≡ count p c
-      ranking-done l = r .is ∙ sym (add-zero (count (within n p) (64 * r .at))) ∙ rank-by (r .at) 0 (r .before) (λ v a b. ended i (r .at) (r .front) l v a (omega arith)) (tail (decLt (c / 64) (ceil64 n)))
+      pub ranking-done : c ≤ n → length (wordsOf p n) ≤ i → rank ≡ count p c
+      ranking-done low l = r .is ∙ sym (add-zero (count (within n p) (64 * r .at))) ∙ rank-by low (r .at) 0 (r .before) (λ v a b. ended i (r .at) (r .front) l v a (omega arith)) (tail (decLt (c / 64) (ceil64 n)))
         where
           tail : Dec (c / 64 < ceil64 n) → 0 ≡ count (has (maskOf p n (c / 64))) (c % 64)
           tail (yes h) = no-mask (ended i (r .at) (r .front) l (c / 64) (r .before) h)
@@ -185,9 +188,9 @@ module _ (p : ℕ → Bool) (n : ℕ) where
     selecting-none = record { at = 0; front = front-none; is = ap (λ (l : List ℕ). k + length l) (below-zero (within n p)) ∙ add-zero k }
 
     module _ (i left : ℕ) (s : Selecting i left) where
-      module _ (l : i < length (wordsOf p n)) (w m : ℕ) (word : w ≡ getD (wordsOf p n) i 0) (mask : m ≡ maskOf p n w) where
+      module _ (w m : ℕ) (x : Placed i w m) where
         here : Next i (s .at) w
-        here = rw word (next i (s .at) (s .front) l)
+        here = rw (x .word) (next i (s .at) (s .front) (x .place))
 
         start : left + count (within n p) (64 * w) ≡ k
         start = ap (λ (a : ℕ). left + a) (count-skip (s .at) w (here .after) (here .skipped)) ∙ s .is
@@ -195,19 +198,19 @@ module _ (p : ℕ → Bool) (n : ℕ) where
         pub selecting-more : count (has m) 64 ≤ left → Selecting (i + 1) (left - count (has m) 64)
         selecting-more h =
             let q : 64 * (w + 1) ≡ 64 * w + 64 = omega arith in
-            let z : count (within n p) (64 * (w + 1)) ≡ count (within n p) (64 * w) + count (has m) 64 = ap (count (within n p)) q ∙ count-in w 64 (omega arith) ∙ ap (λ (j : ℕ). count (within n p) (64 * w) + count (has j) 64) (sym mask) in
+            let z : count (within n p) (64 * (w + 1)) ≡ count (within n p) (64 * w) + count (has m) 64 = ap (count (within n p)) q ∙ count-in w 64 (omega arith) ∙ ap (λ (j : ℕ). count (within n p) (64 * w) + count (has j) 64) (sym (x .mask)) in
             record { at = w + 1; front = here .front; is = omega (arith, z, start, h) }
 
         pub selecting-at : (o : ℕ) → some o ≡ selected (has m) 64 left → left < count (has m) 64 → some (64 * w + o) ≡ selected p n k
         selecting-at o e h =
             let f = selected-finds (has m) 64 left h in
             let same : o ≡ f .0 = some-is o (f .0) (e ∙ f .1) in
-            let x : Selects (has m) 64 left o = rw same (f .2) in
-            let b : within n p (64 * w + o) ≡ true = sym (has-mask-of p n w o (x .bound)) ∙ ap (λ (j : ℕ). has j o) (sym mask) ∙ x .member in
+            let y : Selects (has m) 64 left o = rw same (f .2) in
+            let b : within n p (64 * w + o) ≡ true = sym (has-mask-of p n w o (y .bound)) ∙ ap (λ (j : ℕ). has j o) (sym (x .mask)) ∙ y .member in
             let inside : 64 * w + o < n = ltb-true (64 * w + o) n (and-left (ltb (64 * w + o) n) (p (64 * w + o)) b) in
             let r : count p (64 * w + o) ≡ k =
-            count-frame (64 * w + o) (omega arith) ∙ count-in w o (omega (arith, x .bound)) ∙ ap (λ (j : ℕ). count (within n p) (64 * w) + count (has j) o) (sym mask)
-            ∙ ap (λ (j : ℕ). count (within n p) (64 * w) + j) (x .ranked) ∙ omega (arith, start) in
+            count-frame (64 * w + o) (omega arith) ∙ count-in w o (omega (arith, y .bound)) ∙ ap (λ (j : ℕ). count (within n p) (64 * w) + count (has j) o) (sym (x .mask))
+            ∙ ap (λ (j : ℕ). count (within n p) (64 * w) + j) (y .ranked) ∙ omega (arith, start) in
             sym (ap (selected p n) (sym r) ∙ selected-of-rank p n (64 * w + o) inside (and-right (ltb (64 * w + o) n) (p (64 * w + o)) b))
           where
             some-is : (a b : ℕ) → _≡_ {A = Option ℕ} (some a) (some b) → a ≡ b

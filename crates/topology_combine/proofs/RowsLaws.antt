@@ -1,20 +1,17 @@
 -- Two records of one frame, row by row: what the rows ask, what they are as the code lends them, and how many words they have. Assumes nothing.
-use mathlib.Core.Bool.{Bool, true, false, not, _&&_}
+use mathlib.Core.Bool.{Bool, true, false}
 use mathlib.Core.List.{List, map}
 use mathlib.Core.Path.{_≡_, refl, sym, ap, ap₂, _∙_}
 use Prim.Native.Nat.{ℕ, zero, suc, _+_, _-_, _^_, _≤_, _<_}
 use native.Mathlib.Nat.{le-refl}
 use native.Mathlib.Numerals.{add-one}
 use native.Mathlib.Omega.{arith}
-use lib.Dec.{eqb, leb, ltb}
+use lib.Dec.{ltb}
 use lib.ListN.{length, getD, take, drop, length-map}
 use mir.Val.{boolByte}
-use borrow.Author.Tests.{eqb-true}
-use Rattle.hybit_core.proofs.BoolLaws.{and-left, and-right}
 use Rattle.lent.specs.Lists.{joined, starts, part, every}
-use Rattle.lent.proofs.ListLaws.{length-joined-suc, joined-lengths, getD-starts, every-part, part-lent}
-use Rattle.csr32.specs.Csr.{framed, framedLists}
-use Rattle.csr32.proofs.FrameLaws.{Framed, framed-facts, RowIn, row-in, part-lengths, parts-length}
+use Rattle.lent.proofs.ListLaws.{length-joined-suc, every-part, part-lent}
+use Rattle.csr32.proofs.FrameLaws.{Framed, RowIn, lists-sides, lists-frame, row-left, row-right, part-lengths, parts-length}
 use Rattle.word.specs.Bits.{below, count, maskOf, hit, ceil64, wordsOf}
 use Rattle.word.specs.Word.{combined}
 use Rattle.word.specs.declared.Operation.{Operation}
@@ -63,17 +60,12 @@ record Kept (rows cols : ℕ) (ptr ws ms : List ℕ) : Type 0 where
   pub rule : (r : ℕ) → r < rows → rowRule cols (part ptr ws r) (part ptr ms r) ≡ true
 
 kept-of : (rows cols : ℕ) (ptr ws ms : List ℕ) → Keeps rows cols ptr ws ms → Kept rows cols ptr ws ms
-unfolding framedLists rowRules
+unfolding rowRules
 kept-of rows cols ptr ws ms k = record {
-  sides = eqb-true (length ws) (length ms) (and-left (eqb (length ws) (length ms)) (framed rows ptr (length ms)) (k .lists));
-  frame = framed-facts rows ptr (length ms) (and-right (eqb (length ws) (length ms)) (framed rows ptr (length ms)) (k .lists));
+  sides = lists-sides rows ptr (length ws) (length ms) (k .lists);
+  frame = lists-frame rows ptr (length ws) (length ms) (k .lists);
   rule = λ r h. every-below-at (λ r. rowRule cols (part ptr ws r) (part ptr ms r)) (λ r. true) rows r (k .rules) h refl;
 }
-
-kept-row : {rows cols : ℕ} {ptr ws ms : List ℕ} → Kept rows cols ptr ws ms → (r : ℕ) → r < rows → RowIn ptr (length ws) r
-kept-row {rows} {cols} {ptr} {ws} {ms} k r h =
-    let i : RowIn ptr (length ms) r = row-in rows ptr (length ms) r (k .frame) h in
-    record { here = i .here; next = i .next; order = i .order; inside = omega (arith, i .inside, k .sides) }
 
 -- ---- no more words than both rows have
 
@@ -109,10 +101,10 @@ module _ (rows cols : ℕ) (ptr ws ms otr vs ns : List ℕ) (t : TwoRecords rows
 
   pub rows-in : (r : ℕ) → r < rows → RowsIn ptr ws ms otr vs ns r
   rows-in r h = record {
-    one = kept-row left r h;
-    one-masks = row-in rows ptr (length ms) r (left .frame) h;
-    two = kept-row right r h;
-    two-masks = row-in rows otr (length ns) r (right .frame) h;
+    one = row-left rows ptr (length ws) (length ms) (t .one .lists) r h;
+    one-masks = row-right rows ptr (length ws) (length ms) (t .one .lists) r h;
+    two = row-left rows otr (length vs) (length ns) (t .two .lists) r h;
+    two-masks = row-right rows otr (length vs) (length ns) (t .two .lists) r h;
   }
 
   two-rows : (r : ℕ) → r < rows → TwoRows cols (part ptr ws r) (part ptr ms r) (part otr vs r) (part otr ns r)

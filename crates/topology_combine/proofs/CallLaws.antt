@@ -35,7 +35,7 @@ use Rattle.topology_combine.proofs.FillLaws.{masks-total, pointers-long
 
 -- ---- two records: each return of `examine_pair`
 
-module _ (a b : Words) (v w : Verdict) (sa : true ≡ wordSizes a) (sb : true ≡ wordSizes b) (hv : told v ≡ wordAnswer a) where
+module _ (a b : Words) (v : Verdict) (sa : true ≡ wordSizes a) (sb : true ≡ wordSizes b) (hv : told v ≡ wordAnswer a) where
   rules-told : (t : Words) (u : Verdict) → true ≡ wordSizes t → told u ≡ wordAnswer t → told u ≡ demand (wordRules t) 11
   unfolding wordAnswer
   rules-told t u e h = h ∙ ap (λ (s : Bool). demand s 1 andThen demand (wordRules t) 11) (sym e)
@@ -51,7 +51,7 @@ module _ (a b : Words) (v w : Verdict) (sa : true ≡ wordSizes a) (sb : true �
       sized (refused (paper e))
       (call-refused (demand (wordRules a) 11) (demand (wordRules b) 11 andThen demand (eqb (a .rows) (b .rows) && eqb (a .cols) (b .cols)) 8) v e (rules-told a v sa hv) k)
 
-  module _ (k : v ≡ verdict.Accepted) (hw : told w ≡ wordAnswer b) where
+  module _ (w : Verdict) (k : v ≡ verdict.Accepted) (hw : told w ≡ wordAnswer b) where
     first-passes : (x : Answer) → x ≡ demand (wordRules b) 11 andThen demand (eqb (a .rows) (b .rows) && eqb (a .cols) (b .cols)) 8 → x ≡ pairAnswer a b
     first-passes x h =
         sized x (call-accepted (demand (wordRules a) 11) (demand (wordRules b) 11 andThen demand (eqb (a .rows) (b .rows) && eqb (a .cols) (b .cols)) 8) x v (rules-told a v sa hv) k h)
@@ -149,3 +149,42 @@ room-less rows n m room h e =
     let k : leb n (room .mask) ≡ true = le-leb n (room .mask) (omega (arith, leb-true m (room .mask) (and-right (p && q) r y))) in
     ap₂ (λ (s t : Bool). demand s 1 andThen demand t 13) l
     (and-both (p && leb n (room .word)) (leb n (room .mask)) (and-both p (leb n (room .word)) (and-left p q (and-left (p && q) r y)) w) k)
+
+-- ---- all checks: each return of `examine`
+
+module _ (op : Operation) (a b : Words) (room : Room) (pv : Verdict) (hp : told pv ≡ pairAnswer a b) where
+  pub combine-pair : (e : HybitError) → pv ≡ verdict.Refused e → refused (paper e) ≡ combineAnswer op a b room
+  unfolding combineAnswer
+  combine-pair e k =
+      call-refused (pairAnswer a b) (demand (many (length (combinedWords op a b .word))) 1 andThen demand (fitsWords (combinedWords op a b) room) 13) pv e hp k
+
+  module _ (k : pv ≡ verdict.Accepted) where
+    combine-rest : (x : Answer) → x ≡ roomAnswer (a .rows) (length (combinedWords op a b .word)) room → x ≡ combineAnswer op a b room
+    unfolding combineAnswer
+    combine-rest x h =
+        call-accepted (pairAnswer a b) (demand (many (length (combinedWords op a b .word))) 1 andThen demand (fitsWords (combinedWords op a b) room) 13) x pv hp k (h ∙ room-is op a b room)
+
+    the-pair : Pair a b
+    the-pair = pair-of a b (accepted-by (pairAnswer a b) pv hp k)
+
+    pub pair-checked : TwoRecords (a .rows) (a .cols) (a .ptr) (a .word) (a .mask) (b .ptr) (b .word) (b .mask)
+    pair-checked = pair-records a b the-pair
+
+    pub pair-few : length (a .word) + length (b .word) ≤ 2 ^ 25
+    pair-few = omega (arith, the-pair .one .words-in, the-pair .two .words-in)
+
+    -- the words are counted
+    pub combine-counted : (x : Verdict) (n : ℕ)
+        → n ≡ length (combinedWords op (asWords (a .rows) (a .cols) (a .ptr) (a .word) (a .mask) 0) (asWords (a .rows) (a .cols) (b .ptr) (b .word) (b .mask) 0) .word)
+        → told x ≡ roomAnswer (a .rows) n room → told x ≡ combineAnswer op a b room
+    combine-counted x n e h =
+        combine-rest (told x) (h ∙ ap (λ (i : ℕ). roomAnswer (a .rows) i room) (e ∙ sym (ap (λ (t : Words). length (t .word)) (combined-same op a b))))
+
+    -- the words of both records together would fit
+    pub combine-most : (x : Verdict) → small (a .mask) ≡ true → small (b .mask) ≡ true → told x ≡ roomAnswer (a .rows) (length (a .word) + length (b .word)) room → x ≡ verdict.Accepted → accepted ≡ combineAnswer op a b room
+    combine-most x sa sb h l =
+        let c : combinedWords op a b .word ≡ joined (wordsAt op (asWords (a .rows) (a .cols) (a .ptr) (a .word) (a .mask) 0) (asWords (a .rows) (a .cols) (b .ptr) (b .word) (b .mask) 0)) (a .rows) =
+        ap (λ (t : Words). t .word) (combined-same op a b) ∙ combined-words op (asWords (a .rows) (a .cols) (a .ptr) (a .word) (a .mask) 0) (asWords (a .rows) (a .cols) (b .ptr) (b .word) (b .mask) 0) in
+        let m : length (combinedWords op a b .word) ≤ length (a .word) + length (b .word) =
+        omega (arith, ap length c, words-most (a .rows) (a .cols) (a .ptr) (a .word) (a .mask) (b .ptr) (b .word) (b .mask) pair-checked op sa sb) in
+        combine-rest accepted (sym (room-less (a .rows) (length (combinedWords op a b .word)) (length (a .word) + length (b .word)) room m (accepted-by (roomAnswer (a .rows) (length (a .word) + length (b .word)) room) x h l)))

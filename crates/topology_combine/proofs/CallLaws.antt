@@ -3,10 +3,11 @@ use mathlib.Core.Bool.{Bool, true, false, _&&_}
 use mathlib.Core.List.{List, [], _++_}
 use mathlib.Core.Path.{_≡_, refl, sym, ap, ap₂, _∙_}
 use Prim.Native.Nat.{ℕ, suc, _+_, _%_, _^_, _≤_, _<_}
+use native.Mathlib.Nat.{le-refl, zero-add}
 use native.Mathlib.Numerals.{add-one}
 use native.Mathlib.Omega.{arith}
 use lib.Dec.{eqb, leb}
-use lib.ListN.{length, getD, take, drop, set}
+use lib.ListN.{length, getD, take, drop, set, length-set}
 use lib.Seq.{take-at}
 use borrow.Author.Tests.{eqb-true, leb-true, le-leb}
 use Rattle.hybit_core.specs.Answer.{Answer, accepted, refused, plain, demand, _andThen_}
@@ -22,6 +23,7 @@ use Rattle.lent.specs.Lent.{padded, Appended}
 use Rattle.lent.proofs.ListLaws.{each-is, length-each}
 use Rattle.lent.proofs.LentLaws.{Filled, filled-more, filled-length, appended-cleared, handed-used}
 use Rattle.csr32.specs.Csr.{framedLists}
+use Rattle.word.specs.Word.{combined}
 use Rattle.word.specs.declared.Operation.{Operation}
 use Rattle.topology.specs.Words.{Words, asWords, topologyOf, member, rowRules, setBits, wordSizes, wordRules, wordAnswer}
 use Rattle.topology.specs.Calls.{Room, asRoom, fitsWords, usedOf}
@@ -31,7 +33,7 @@ use Rattle.topology.proofs.CallLaws.{bits-whole}
 use Rattle.topology_combine.specs.Combine.{combinedWords, pairAnswer, combineAnswer}
 use Rattle.topology_combine.specs.Merge.{Keeps, TwoRecords, roomAnswer}
 use Rattle.topology_combine.proofs.RowsLaws.{wordsAt, masksAt, combined-words, combined-masks, words-most}
-use Rattle.topology_combine.proofs.FillLaws.{masks-total, pointers-long}
+use Rattle.topology_combine.proofs.FillLaws.{masks-total, pointers-long, pointer-at, Filling, filling-none}
 
 -- ---- two records: each return of `examine_pair`
 
@@ -188,3 +190,91 @@ module _ (op : Operation) (a b : Words) (room : Room) (pv : Verdict) (hp : told 
         let m : length (combinedWords op a b .word) ≤ length (a .word) + length (b .word) =
         omega (arith, ap length c, words-most (a .rows) (a .cols) (a .ptr) (a .word) (a .mask) (b .ptr) (b .word) (b .mask) pair-checked op sa sb) in
         combine-rest accepted (sym (room-less (a .rows) (length (combinedWords op a b .word)) (length (a .word) + length (b .word)) room m (accepted-by (roomAnswer (a .rows) (length (a .word) + length (b .word)) room) x h l)))
+
+-- ---- an accepted call: what the rows are written with, and what the lists hold at the end
+
+module _ (op : Operation) (a b : Words) (ptr₀ words₀ masks₀ : List ℕ) (v : Verdict) (h : told v ≡ combineAnswer op a b (asRoom (length ptr₀) (length words₀) (length masks₀))) (k : v ≡ verdict.Accepted) where
+  -- the two records as the rows are read from them
+  abbrev bare : Words
+  bare = combinedWords op (asWords (a .rows) (a .cols) (a .ptr) (a .word) (a .mask) 0) (asWords (a .rows) (a .cols) (b .ptr) (b .word) (b .mask) 0)
+
+  taken : combineAnswer op a b (asRoom (length ptr₀) (length words₀) (length masks₀)) ≡ accepted
+  taken = accepted-by (combineAnswer op a b (asRoom (length ptr₀) (length words₀) (length masks₀))) v h k
+
+  abbrev rest : Answer
+  rest = demand (many (length (combinedWords op a b .word))) 1 andThen demand (fitsWords (combinedWords op a b) (asRoom (length ptr₀) (length words₀) (length masks₀))) 13
+
+  pair : Pair a b
+  unfolding combineAnswer
+  pair = pair-of a b (then-first (pairAnswer a b) rest taken)
+
+  room-left : (many (length (combinedWords op a b .word)) ≡ true) × (fitsWords (combinedWords op a b) (asRoom (length ptr₀) (length words₀) (length masks₀)) ≡ true)
+  unfolding combineAnswer
+  room-left =
+      let x : rest ≡ accepted = then-second (pairAnswer a b) rest taken in
+      let m : Answer = demand (many (length (combinedWords op a b .word))) 1 in
+      let f : Answer = demand (fitsWords (combinedWords op a b) (asRoom (length ptr₀) (length words₀) (length masks₀))) 13 in
+      (demand-accepted (many (length (combinedWords op a b .word))) 1 (then-first m f x), demand-accepted (fitsWords (combinedWords op a b) (asRoom (length ptr₀) (length words₀) (length masks₀))) 13 (then-second m f x))
+
+  pub ready : TwoRecords (a .rows) (a .cols) (a .ptr) (a .word) (a .mask) (b .ptr) (b .word) (b .mask)
+      × ((many (length (bare .word)) ≡ true) × (fitsWords bare (asRoom (length ptr₀) (length words₀) (length masks₀)) ≡ true))
+  ready = (pair-records a b pair, rw (← combined-same op a b) room-left)
+
+  pub ready-rows : a .rows ≤ 2 ^ 20
+  ready-rows = pair .one .rows-in
+
+  module _ (n : ℕ) (ptr words masks : List ℕ) (f : Filled (λ k. getD (bare .ptr) k 0) ptr₀ (a .rows) ptr) (w : Appended (bare .word) 0 n words₀ words) (m : Appended (bare .mask) 0 n masks₀ masks) where
+    start : Filling op (asWords (a .rows) (a .cols) (a .ptr) (a .word) (a .mask) 0) (asWords (a .rows) (a .cols) (b .ptr) (b .word) (b .mask) 0) ptr₀ words₀ masks₀ 0 0 ptr₀ words₀ masks₀
+    start =
+        filling-none op (asWords (a .rows) (a .cols) (a .ptr) (a .word) (a .mask) 0) (asWords (a .rows) (a .cols) (b .ptr) (b .word) (b .mask) 0) ptr₀ words₀ masks₀ (ready .1 .0) (ready .1 .1)
+
+    many-words : n ≡ length (bare .word)
+    many-words = w .next ∙ zero-add (length (bare .word))
+
+    many-masks : n ≡ length (bare .mask)
+    many-masks = m .next ∙ zero-add (length (bare .mask))
+
+    last-pointer : n ≡ getD (bare .ptr) (a .rows) 0
+    last-pointer =
+        many-words ∙ ap length (combined-words op (asWords (a .rows) (a .cols) (a .ptr) (a .word) (a .mask) 0) (asWords (a .rows) (a .cols) (b .ptr) (b .word) (b .mask) 0))
+        ∙ sym (pointer-at op (asWords (a .rows) (a .cols) (a .ptr) (a .word) (a .mask) 0) (asWords (a .rows) (a .cols) (b .ptr) (b .word) (b .mask) 0) (a .rows) (le-refl (a .rows)))
+
+    pub end-few : n ≤ 2 ^ 24
+    end-few = omega (arith, many-words, leb-true (length (bare .word)) (2 ^ 24) (ready .1 .0))
+
+    pub end-frame : (a .rows < length ptr) × (length ptr ≡ length ptr₀)
+    end-frame =
+        let e : length ptr ≡ length ptr₀ = filled-length (λ k. getD (bare .ptr) k 0) ptr₀ (a .rows) ptr f (omega (arith, start .ptr-room)) in
+        (omega (arith, e, start .ptr-room), e)
+
+    pub end-long : (x : ℕ) → length (set ptr (a .rows) x) ≡ length ptr₀
+    end-long x = length-set ptr (a .rows) x ∙ end-frame .1
+
+    pub end-masks-room : length masks ≡ length masks₀ → n ≤ length masks
+    end-masks-room e = omega (arith, many-words, ap length (combined-words op (asWords (a .rows) (a .cols) (a .ptr) (a .word) (a .mask) 0) (asWords (a .rows) (a .cols) (b .ptr) (b .word) (b .mask) 0)), start .mask-room)
+
+    pub end-pointers : (x : ℕ) (last : List ℕ) → x ≡ n % 2 ^ 32 → last ≡ padded 0 (length (set ptr (a .rows) x)) (take (a .rows + 1) (set ptr (a .rows) x)) → last ≡ padded 0 (length ptr₀) (combinedWords op a b .ptr)
+    end-pointers x last e z =
+        let g : ℕ → ℕ = λ k. getD (bare .ptr) k 0 in
+        let whole : x ≡ n = omega (arith, end-few) in
+        let filled : Filled g ptr₀ (a .rows + 1) (set ptr (a .rows) x) = filled-more g ptr₀ (a .rows) ptr f x (whole ∙ last-pointer) (start .ptr-room) in
+        let same : length (set ptr (a .rows) x) ≡ length ptr₀ = filled-length g ptr₀ (a .rows + 1) (set ptr (a .rows) x) filled (omega (arith, start .ptr-room)) in
+        let long : length (bare .ptr) ≡ a .rows + 1 = pointers-long op (asWords (a .rows) (a .cols) (a .ptr) (a .word) (a .mask) 0) (asWords (a .rows) (a .cols) (b .ptr) (b .word) (b .mask) 0) ∙ sym (add-one (a .rows)) in
+        let used : take (a .rows + 1) (set ptr (a .rows) x) ≡ bare .ptr =
+        ap (take (a .rows + 1)) (filled .is) ∙ take-at (each g (a .rows + 1)) (drop (a .rows + 1) ptr₀) (a .rows + 1) (length-each g (a .rows + 1)) ∙ sym (each-is 0 g (a .rows + 1) (bare .ptr) long (λ k l. refl)) in
+        z ∙ ap₂ (λ (i : ℕ) (l : List ℕ). padded 0 i l) same used ∙ ap (λ (t : Words). padded 0 (length ptr₀) (t .ptr)) (sym (combined-same op a b))
+
+    pub end-words : (last : List ℕ) → length words ≡ length words₀ → last ≡ padded 0 (length words) (take n words) → last ≡ padded 0 (length words₀) (combinedWords op a b .word)
+    end-words last s z = appended-cleared 0 (bare .word) n words₀ words last w s z ∙ ap (λ (t : Words). padded 0 (length words₀) (t .word)) (sym (combined-same op a b))
+
+    pub end-masks : (last : List ℕ) → length masks ≡ length masks₀ → last ≡ padded 0 (length masks) (take n masks) → last ≡ padded 0 (length masks₀) (combinedWords op a b .mask)
+    end-masks last s z = appended-cleared 0 (bare .mask) n masks₀ masks last m s z ∙ ap (λ (t : Words). padded 0 (length masks₀) (t .mask)) (sym (combined-same op a b))
+
+    -- the number of words, and of their set bits
+    pub end-used : (last : List ℕ) (t : ℕ) → length masks ≡ length masks₀ → last ≡ padded 0 (length masks) (take n masks) → t ≡ setBits (take n last) % 2 ^ 64 → (n, t) ≡ usedOf (combinedWords op a b)
+    end-used last t s z e =
+        let long : length (combinedWords op a b .mask) ≡ n = ap (λ (x : Words). length (x .mask)) (combined-same op a b) ∙ sym many-masks in
+        let used : take n last ≡ combinedWords op a b .mask = ap (take n) (end-masks last s z) ∙ handed-used 0 (length masks₀) accepted n (combinedWords op a b .mask) refl long in
+        let bits : t ≡ combinedWords op a b .total =
+        bits-whole (combinedWords op a b .mask) t (omega (arith, end-few)) (e ∙ ap (λ (l : List ℕ). setBits l % 2 ^ 64) used) ∙ total-bits (a .rows) (a .cols) (λ r c. combined op (member a r c) (member b r c)) in
+        ap₂ (λ (i j : ℕ). (i, j)) (many-words ∙ ap (λ (x : Words). length (x .word)) (sym (combined-same op a b))) bits

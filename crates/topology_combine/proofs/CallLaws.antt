@@ -1,6 +1,6 @@
 -- The checks of a set operation at each return of the code that runs them, and what an accepted call has. Assumes nothing but masks of 64 bits.
 use mathlib.Core.Bool.{Bool, true, false, _&&_}
-use mathlib.Core.List.{List, [], _++_}
+use mathlib.Core.List.{List}
 use mathlib.Core.Path.{_≡_, refl, sym, ap, ap₂, _∙_}
 use Prim.Native.Nat.{ℕ, suc, _+_, _%_, _^_, _≤_, _<_}
 use native.Mathlib.Nat.{le-refl, zero-add}
@@ -11,28 +11,28 @@ use lib.ListN.{length, getD, take, drop, set, length-set}
 use lib.Seq.{take-at}
 use borrow.Author.Tests.{eqb-true, leb-true, le-leb}
 use Rattle.hybit_core.specs.Answer.{Answer, accepted, refused, plain, demand, _andThen_}
-use Rattle.hybit_core.specs.Domain.{many, few, sizesFit}
+use Rattle.hybit_core.specs.Domain.{many}
 use Rattle.hybit_core.specs.Table.{paper, told}
 use Rattle.hybit_core.specs.declared.Verdict.{Verdict}
 use Rattle.hybit_core.specs.declared.Verdict.the-variants as verdict
 use Rattle.hybit_core.specs.declared.HybitError.{HybitError}
 use Rattle.hybit_core.proofs.BoolLaws.{and-left, and-right, and-both, and-next}
 use Rattle.hybit_core.proofs.AnswerLaws.{demand-accepted, then-first, then-second, test-passes, last-fails, last-passes, call-refused, call-accepted, accepted-by}
-use Rattle.lent.specs.Lists.{joined, each, starts}
+use Rattle.lent.specs.Lists.{joined, each}
 use Rattle.lent.specs.Lent.{padded, Appended}
 use Rattle.lent.proofs.ListLaws.{each-is, length-each}
 use Rattle.lent.proofs.LentLaws.{Filled, filled-more, filled-length, appended-cleared, handed-used}
 use Rattle.csr32.specs.Csr.{framedLists}
 use Rattle.word.specs.Word.{combined}
 use Rattle.word.specs.declared.Operation.{Operation}
-use Rattle.topology.specs.Words.{Words, asWords, topologyOf, member, rowRules, setBits, wordSizes, wordRules, wordAnswer}
+use Rattle.topology.specs.Words.{Words, asWords, member, rowRules, setBits, wordSizes, wordRules, wordAnswer}
 use Rattle.topology.specs.Calls.{Room, asRoom, fitsWords, usedOf}
 use Rattle.topology.proofs.RowLaws.{small}
 use Rattle.topology.proofs.TopologyLaws.{Accepted, accepted-facts, total-bits}
 use Rattle.topology.proofs.CallLaws.{bits-whole}
 use Rattle.topology_combine.specs.Combine.{combinedWords, pairAnswer, combineAnswer}
-use Rattle.topology_combine.specs.Merge.{Keeps, TwoRecords, roomAnswer}
-use Rattle.topology_combine.proofs.RowsLaws.{wordsAt, masksAt, combined-words, combined-masks, words-most}
+use Rattle.topology_combine.specs.Merge.{TwoRecords, roomAnswer}
+use Rattle.topology_combine.proofs.RowsLaws.{wordsAt, combined-words, combined-masks, words-most}
 use Rattle.topology_combine.proofs.FillLaws.{masks-total, pointers-long, pointer-at, Filling, filling-none}
 
 -- ---- two records: each return of `examine_pair`

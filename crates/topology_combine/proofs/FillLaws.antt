@@ -1,17 +1,17 @@
 -- The combined record as it is written, row after row. Assumes nothing.
-use mathlib.Core.Bool.{Bool, true, _&&_}
-use mathlib.Core.List.{List, [], _++_}
+use mathlib.Core.Bool.{true, _&&_}
+use mathlib.Core.List.{List, _++_}
 use mathlib.Core.Path.{_≡_, refl, sym, ap, _∙_}
 use Prim.Native.Nat.{ℕ, suc, _+_, _%_, _^_, _≤_, _<_}
-use native.Mathlib.Nat.{le-refl, zero-add}
+use native.Mathlib.Nat.{zero-add}
 use native.Mathlib.Numerals.{add-one}
 use native.Mathlib.Omega.{arith}
 use lib.Dec.{leb}
-use lib.ListN.{length, getD, take, set}
+use lib.ListN.{length, getD, set}
 use borrow.Author.Tests.{leb-true}
 use Rattle.hybit_core.specs.Domain.{many}
 use Rattle.hybit_core.proofs.BoolLaws.{and-left, and-right}
-use Rattle.lent.specs.Lists.{joined, starts}
+use Rattle.lent.specs.Lists.{joined}
 use Rattle.lent.specs.Lent.{Appended}
 use Rattle.lent.proofs.ListLaws.{joined-lengths, length-joined-suc, length-joined-le, getD-starts, length-starts}
 use Rattle.lent.proofs.LentLaws.{Filled, filled-none, filled-more, filled-length, appended-none, appended-join}

@@ -9,10 +9,10 @@ use native.Mathlib.Omega.{arith}
 use lib.Dec.{ltb}
 use lib.ListN.{length, getD, take, drop, length-map}
 use mir.Val.{boolByte}
-use Rattle.lent.specs.Lists.{joined, starts, part, every}
+use Rattle.lent.specs.Lists.{joined, starts, part}
 use Rattle.lent.proofs.ListLaws.{length-joined-suc, every-part, part-lent}
 use Rattle.csr32.proofs.FrameLaws.{Framed, RowIn, lists-sides, lists-frame, row-left, row-right, part-lengths, parts-length}
-use Rattle.word.specs.Bits.{below, count, maskOf, hit, ceil64, wordsOf}
+use Rattle.word.specs.Bits.{count, maskOf, hit, ceil64, wordsOf}
 use Rattle.word.specs.Word.{combined}
 use Rattle.word.specs.declared.Operation.{Operation}
 use Rattle.word.proofs.BelowLaws.{below-zero, length-below-suc, byte-le}

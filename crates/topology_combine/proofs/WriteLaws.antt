@@ -1,9 +1,7 @@
 -- The combined row as it is written, word after word, by the merge. Assumes nothing.
-use mathlib.Core.Bool.{Bool}
 use mathlib.Core.List.{List, [], _∷_, _++_, map}
 use mathlib.Core.Path.{_≡_, refl, sym, ap, _∙_}
-use Prim.Native.Nat.{ℕ, suc, _+_, _%_, _^_, _≤_, _<_}
-use native.Mathlib.Nat.{le-refl}
+use Prim.Native.Nat.{ℕ, _+_, _%_, _^_, _≤_, _<_}
 use native.Mathlib.Numerals.{add-one}
 use native.Mathlib.Omega.{arith}
 use lib.ListN.{length, getD, take, set, length-set, length-map}
@@ -13,7 +11,6 @@ use Rattle.lent.proofs.ListLaws.{getD-map-lt}
 use Rattle.lent.proofs.LentLaws.{appended-none, appended-snoc}
 use Rattle.word.specs.Bits.{maskOf, wordsOf}
 use Rattle.word.specs.declared.Operation.{Operation}
-use Rattle.topology.specs.Words.{rowMember}
 use Rattle.topology_combine.specs.Combine.{combinedRow}
 use Rattle.topology_combine.specs.Merge.{TwoRows, Stepped}
 use Rattle.topology_combine.proofs.MergeLaws.{Merging, merging-none, merging-mask, merging-empty, merging-full, merging-room, merging-word, merging-done}

@@ -1,10 +1,10 @@
 // topology.rs: `AbtmTopology::combine`, with union, intersection, and_not and xor named by an enum. Two rows are merged by
 // their word numbers in one walk over both.
 ghost use mathlib.Core.Path.{_≡_};
-ghost use mathlib.Core.Bool.{true, cond, _&&_};
+ghost use mathlib.Core.Bool.{true, cond};
 ghost use mathlib.Core.List.{map};
 ghost use Prim.Native.Nat.{_+_, _≤_, _<_, _^_};
-ghost use lib.Dec.{eqb, leb, ltb};
+ghost use lib.Dec.{ltb};
 ghost use lib.ListN.{length, getD};
 ghost use Rattle.hybit_core.specs.Answer.{answers};
 ghost use Rattle.hybit_core.specs.Domain.{many};

@@ -3,7 +3,6 @@ use Prim.Native.Nat.{_+_, _-_}
 use lib.ListN.{length}
 use native.Mathlib.Omega.{arith}
 use Rattle.topology_combine.proofs.MergeLaws.{Merging, merging-none, merging-in, merging-few, merging-empty, merging-full, merging-fits, merging-done, rows-few}
-use borrow.Author.Needs.{needs}
 use Rattle.topology_combine.proofs.count_row.Statement.{statement}
 use Rattle.topology_combine.proofs.count_row.Tie as tie
 

@@ -146,7 +146,7 @@ fn merge_row(
         );
         at = s.next;
         other_at = s.other_next;
-        if s.mask != 0 {
+        if s.mask > 0 {
             out_words[to] = hybit_core::narrow(s.index);
             out_masks[to] = s.mask;
             to += 1;
@@ -173,17 +173,17 @@ fn count_words(
     let mut count: usize = 0;
     let mut row: usize = 0;
     while row < nrows {
-        let start = hybit_core::wide(row_word_ptr[row]);
-        let end = hybit_core::wide(row_word_ptr[row + 1]);
-        let other_start = hybit_core::wide(other_row_word_ptr[row]);
-        let other_end = hybit_core::wide(other_row_word_ptr[row + 1]);
+        let from = hybit_core::wide(row_word_ptr[row]);
+        let to = hybit_core::wide(row_word_ptr[row + 1]);
+        let other_from = hybit_core::wide(other_row_word_ptr[row]);
+        let other_to = hybit_core::wide(other_row_word_ptr[row + 1]);
         count += count_row(
             operation,
             ncols,
-            &word_indices[start..end],
-            &masks[start..end],
-            &other_word_indices[other_start..other_end],
-            &other_masks[other_start..other_end],
+            &word_indices[from..to],
+            &masks[from..to],
+            &other_word_indices[other_from..other_to],
+            &other_masks[other_from..other_to],
         );
         row += 1;
     }

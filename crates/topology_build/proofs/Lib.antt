@@ -1,3 +1,4 @@
 pub mod LevelLaws
 pub mod EmitLaws
 pub mod ClearLaws
+pub mod RowsLaws

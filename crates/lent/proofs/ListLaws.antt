@@ -363,3 +363,15 @@ pub part-mid : {A : Type 0} (a b : ℕ) (front mid rest l : List A) → l ≡ (f
 part-mid {A} a b front mid rest l e h k =
     ap (λ (t : List A). take (b - a) (drop a t)) (e ∙ append-assoc front mid rest)
     ∙ ap (take (b - a)) (drop-at front (mid ++ rest) a h) ∙ take-at mid rest (b - a) (omega arith)
+
+-- ---- spread
+
+pub spread-map : {A B C : Type 0} (f : B → List C) (g : A → B) (l : List A) → spread f (map g l) ≡ spread (λ a. f (g a)) l
+unfolding spread
+spread-map {C = C} f g [] = refl
+spread-map {C = C} f g (a ∷ l) = ap (λ (t : List C). f (g a) ++ t) (spread-map f g l)
+
+pub spread-lengths : {A B C : Type 0} (f : A → List B) (g : A → List C) (l : List A) → ((a : A) → length (f a) ≡ length (g a)) → length (spread f l) ≡ length (spread g l)
+unfolding spread
+spread-lengths f g [] h = refl
+spread-lengths f g (a ∷ l) h = length-append (f a) (spread f l) ∙ ap₂ (λ (m n : ℕ). m + n) (h a) (spread-lengths f g l h) ∙ sym (length-append (g a) (spread g l))

@@ -1,22 +1,25 @@
-// topology.rs: `AbtmTopology::combine`, and union, intersection, and_not and xor by the operation's name. Two rows are merged by
-// their word numbers, in one walk over both.
+// topology.rs: `AbtmTopology::combine`, with union, intersection, and_not and xor named by an enum. Two rows are merged by
+// their word numbers in one walk over both.
 ghost use mathlib.Core.Path.{_≡_};
-ghost use mathlib.Core.Bool.{true, cond};
-ghost use Prim.Native.Nat.{min, _+_, _*_, _%_, _≤_, _<_, _^_};
-ghost use lib.Dec.{eqb, ltb};
+ghost use mathlib.Core.Bool.{true, cond, _&&_};
+ghost use mathlib.Core.List.{map};
+ghost use Prim.Native.Nat.{_+_, _≤_, _<_, _^_};
+ghost use lib.Dec.{eqb, leb, ltb};
 ghost use lib.ListN.{length, getD};
-ghost use Rattle.hybit_core.specs.Answer.{accepted, answers};
+ghost use Rattle.hybit_core.specs.Answer.{answers};
 ghost use Rattle.hybit_core.specs.Table.{told};
 ghost use Rattle.lent.specs.Lent.{built, Appended};
-ghost use Rattle.topology.specs.Words.{asWords};
+ghost use Rattle.word.specs.Bits.{maskOf, wordsOf};
+ghost use Rattle.word.specs.Word.{combined};
+ghost use Rattle.topology.specs.Words.{asWords, rowMember, rowRule};
 ghost use Rattle.topology.specs.Calls.{asRoom, usedOf, toldTopology};
-ghost use Rattle.topology_combine.specs.Combine.{combinedWords, combineAnswer};
+ghost use Rattle.topology_combine.specs.Combine.{combinedWords, combinedRow, pairAnswer, combineAnswer};
 use hybit_core::HybitError;
 use hybit_core::Verdict;
 use topology::TopologyAnswer;
 use word::Operation;
 
-// A word of the merged rows, and how far it takes each row.
+// A word of two merged rows, and how far it takes each of them.
 struct Step {
     index: usize,
     mask: u64,
@@ -24,27 +27,18 @@ struct Step {
     other_next: usize,
 }
 
-// The word number at place `at` of a row, and 2^32, past all of them, at its end.
+// The word number at place `at` of a row; at its end 2^32, which is past all of them.
 fn head(words: &[u32], at: usize) -> usize
     ensures { λ r. ⌜ r ≡ cond (ltb at (length (now (words .entry)))) (getD (now (words .entry)) at 0) (2 ^ 32) ⌝ }
 {
     if at < words.len() {
-        hybit_core::wide(words[at])
-    } else {
-        4294967296
+        return hybit_core::wide(words[at]);
     }
+    4294967296
 }
 
-// The mask at place `at` where `taken`, else 0.
-fn mask_at(masks: &[u64], at: usize, taken: bool) -> u64 {
-    if !taken {
-        return 0;
-    }
-    if at < masks.len() { masks[at] } else { 0 }
-}
-
-// The lower of the two next words, with the masks of both rows.
-fn step(
+// The lower of the two next words, which stand at places `at` and `other_at`; not both rows are at their end.
+fn next_word(
     operation: Operation,
     words: &[u32],
     masks: &[u64],
@@ -55,13 +49,380 @@ fn step(
 ) -> Step {
     let left = head(words, at);
     let right = head(other_words, other_at);
-    let index = shorter(left, right);
-    let mask = mask_at(masks, at, left == index);
-    let other_mask = mask_at(other_masks, other_at, right == index);
+    if left < right {
+        return Step {
+            index: left,
+            mask: word::combine(operation, masks[at], 0),
+            next: at + 1,
+            other_next: other_at,
+        };
+    }
+    if right < left {
+        return Step {
+            index: right,
+            mask: word::combine(operation, 0, other_masks[other_at]),
+            next: at,
+            other_next: other_at + 1,
+        };
+    }
     Step {
-        index: index,
-        mask: word::combine(operation, mask, other_mask),
-        next: after(at, left == index),
-        other_next: after(other_at, right == index),
+        index: left,
+        mask: word::combine(operation, masks[at], other_masks[other_at]),
+        next: at + 1,
+        other_next: other_at + 1,
+    }
+}
+
+// How many words the combined row has.
+fn count_row(
+    operation: Operation,
+    ncols: usize,
+    words: &[u32],
+    masks: &[u64],
+    other_words: &[u32],
+    other_masks: &[u64],
+) -> usize
+    requires { ⌜ length (now masks) ≡ length (now words) ⌝ ∗ ⌜ rowRule ncols (now words) (now masks) ≡ true ⌝ ∗ ⌜ length (now «other_masks») ≡ length (now «other_words») ⌝ ∗ ⌜ rowRule ncols (now «other_words») (now «other_masks») ≡ true ⌝ }
+    ensures { λ r. ⌜ r ≡ length (wordsOf (combinedRow operation (now (words .entry)) (now (masks .entry)) (now («other_words» .entry)) (now («other_masks» .entry))) ncols) ⌝ }
+{
+    let all = words.len() + other_words.len();
+    let mut count: usize = 0;
+    let mut at: usize = 0;
+    let mut other_at: usize = 0;
+    while at + other_at < all {
+        let s = next_word(
+            operation,
+            words,
+            masks,
+            at,
+            other_words,
+            other_masks,
+            other_at,
+        );
+        at = s.next;
+        other_at = s.other_next;
+        if s.mask != 0 {
+            count += 1;
+        }
+    }
+    count
+}
+
+// The words and masks of the combined row from place `from` on; answers the next place.
+fn merge_row(
+    operation: Operation,
+    ncols: usize,
+    words: &[u32],
+    masks: &[u64],
+    other_words: &[u32],
+    other_masks: &[u64],
+    from: usize,
+    out_words: &mut [u32],
+    out_masks: &mut [u64],
+) -> usize
+    requires { ⌜ length (now masks) ≡ length (now words) ⌝ ∗ ⌜ rowRule ncols (now words) (now masks) ≡ true ⌝ ∗ ⌜ length (now «other_masks») ≡ length (now «other_words») ⌝ ∗ ⌜ rowRule ncols (now «other_words») (now «other_masks») ≡ true ⌝ ∗ ⌜ from + length (wordsOf (combinedRow operation (now words) (now masks) (now «other_words») (now «other_masks»)) ncols) ≤ length (now «out_words») ⌝ ∗ ⌜ from + length (wordsOf (combinedRow operation (now words) (now masks) (now «other_words») (now «other_masks»)) ncols) ≤ length (now «out_masks») ⌝ }
+    ensures numbers { λ r. ⌜ Appended (wordsOf (combinedRow operation (now (words .entry)) (now (masks .entry)) (now («other_words» .entry)) (now («other_masks» .entry))) ncols) from r (now («out_words» .entry)) (now («out_words» .exit)) ⌝ }
+    ensures bits { λ r. ⌜ Appended (map (maskOf (combinedRow operation (now (words .entry)) (now (masks .entry)) (now («other_words» .entry)) (now («other_masks» .entry))) ncols) (wordsOf (combinedRow operation (now (words .entry)) (now (masks .entry)) (now («other_words» .entry)) (now («other_masks» .entry))) ncols)) from r (now («out_masks» .entry)) (now («out_masks» .exit)) ⌝ }
+{
+    let all = words.len() + other_words.len();
+    let mut to = from;
+    let mut at: usize = 0;
+    let mut other_at: usize = 0;
+    while at + other_at < all {
+        let s = next_word(
+            operation,
+            words,
+            masks,
+            at,
+            other_words,
+            other_masks,
+            other_at,
+        );
+        at = s.next;
+        other_at = s.other_next;
+        if s.mask != 0 {
+            out_words[to] = hybit_core::narrow(s.index);
+            out_masks[to] = s.mask;
+            to += 1;
+        }
+    }
+    to
+}
+
+// How many words the combined record has.
+fn count_words(
+    operation: Operation,
+    nrows: usize,
+    ncols: usize,
+    row_word_ptr: &[u32],
+    word_indices: &[u32],
+    masks: &[u64],
+    other_row_word_ptr: &[u32],
+    other_word_indices: &[u32],
+    other_masks: &[u64],
+) -> usize {
+    let mut count: usize = 0;
+    let mut row: usize = 0;
+    while row < nrows {
+        let start = hybit_core::wide(row_word_ptr[row]);
+        let end = hybit_core::wide(row_word_ptr[row + 1]);
+        let other_start = hybit_core::wide(other_row_word_ptr[row]);
+        let other_end = hybit_core::wide(other_row_word_ptr[row + 1]);
+        count += count_row(
+            operation,
+            ncols,
+            &word_indices[start..end],
+            &masks[start..end],
+            &other_word_indices[other_start..other_end],
+            &other_masks[other_start..other_end],
+        );
+        row += 1;
+    }
+    count
+}
+
+// The combined rows, and where each starts; answers how many words there are. The lists have room for them.
+fn merge_rows(
+    operation: Operation,
+    nrows: usize,
+    ncols: usize,
+    row_word_ptr: &[u32],
+    word_indices: &[u32],
+    masks: &[u64],
+    other_row_word_ptr: &[u32],
+    other_word_indices: &[u32],
+    other_masks: &[u64],
+    out_ptr: &mut [u32],
+    out_words: &mut [u32],
+    out_masks: &mut [u64],
+) -> usize {
+    let mut to: usize = 0;
+    let mut row: usize = 0;
+    while row < nrows {
+        out_ptr[row] = hybit_core::narrow(to);
+        let start = hybit_core::wide(row_word_ptr[row]);
+        let end = hybit_core::wide(row_word_ptr[row + 1]);
+        let other_start = hybit_core::wide(other_row_word_ptr[row]);
+        let other_end = hybit_core::wide(other_row_word_ptr[row + 1]);
+        to = merge_row(
+            operation,
+            ncols,
+            &word_indices[start..end],
+            &masks[start..end],
+            &other_word_indices[other_start..other_end],
+            &other_masks[other_start..other_end],
+            to,
+            out_words,
+            out_masks,
+        );
+        row += 1;
+    }
+    to
+}
+
+// Whether `words` words of so many rows fit the domain and the lists: 1, 13.
+fn examine_room(
+    nrows: usize,
+    words: usize,
+    ptr_room: usize,
+    word_room: usize,
+    mask_room: usize,
+) -> Verdict {
+    if !hybit_core::entries_fit(words) {
+        return Verdict::Refused(HybitError::SizeOverflow);
+    }
+    if ptr_room <= nrows {
+        return Verdict::Refused(HybitError::ShortList);
+    }
+    if word_room < words {
+        return Verdict::Refused(HybitError::ShortList);
+    }
+    if mask_room < words {
+        return Verdict::Refused(HybitError::ShortList);
+    }
+    Verdict::Accepted
+}
+
+// Both records, and that they have one frame: 1; 11, 11; 8.
+fn examine_pair(
+    nrows: usize,
+    ncols: usize,
+    row_word_ptr: &[u32],
+    word_indices: &[u32],
+    masks: &[u64],
+    structural_nnz: usize,
+    other_nrows: usize,
+    other_ncols: usize,
+    other_row_word_ptr: &[u32],
+    other_word_indices: &[u32],
+    other_masks: &[u64],
+    other_structural_nnz: usize,
+) -> Verdict
+    ensures { λ r. ⌜ told r ≡ pairAnswer (asWords nrows ncols (now («row_word_ptr» .entry)) (now («word_indices» .entry)) (now (masks .entry)) «structural_nnz») (asWords «other_nrows» «other_ncols» (now («other_row_word_ptr» .entry)) (now («other_word_indices» .entry)) (now («other_masks» .entry)) «other_structural_nnz») ⌝ }
+{
+    if !hybit_core::sizes_fit(nrows, ncols, word_indices.len(), masks.len()) {
+        return Verdict::Refused(HybitError::SizeOverflow);
+    }
+    if !hybit_core::sizes_fit(
+        other_nrows,
+        other_ncols,
+        other_word_indices.len(),
+        other_masks.len(),
+    ) {
+        return Verdict::Refused(HybitError::SizeOverflow);
+    }
+    let v = topology::check(
+        nrows,
+        ncols,
+        row_word_ptr,
+        word_indices,
+        masks,
+        structural_nnz,
+    );
+    if let Verdict::Refused(e) = v {
+        return Verdict::Refused(e);
+    }
+    let w = topology::check(
+        other_nrows,
+        other_ncols,
+        other_row_word_ptr,
+        other_word_indices,
+        other_masks,
+        other_structural_nnz,
+    );
+    if let Verdict::Refused(e) = w {
+        return Verdict::Refused(e);
+    }
+    if nrows != other_nrows {
+        return Verdict::Refused(HybitError::FramesDiffer);
+    }
+    if ncols != other_ncols {
+        return Verdict::Refused(HybitError::FramesDiffer);
+    }
+    Verdict::Accepted
+}
+
+// All checks. The words are counted only where the lists could be too short for the words of both records.
+fn examine(
+    operation: Operation,
+    nrows: usize,
+    ncols: usize,
+    row_word_ptr: &[u32],
+    word_indices: &[u32],
+    masks: &[u64],
+    structural_nnz: usize,
+    other_nrows: usize,
+    other_ncols: usize,
+    other_row_word_ptr: &[u32],
+    other_word_indices: &[u32],
+    other_masks: &[u64],
+    other_structural_nnz: usize,
+    ptr_room: usize,
+    word_room: usize,
+    mask_room: usize,
+) -> Verdict
+    ensures { λ r. ⌜ told r ≡ combineAnswer operation (asWords nrows ncols (now («row_word_ptr» .entry)) (now («word_indices» .entry)) (now (masks .entry)) «structural_nnz») (asWords «other_nrows» «other_ncols» (now («other_row_word_ptr» .entry)) (now («other_word_indices» .entry)) (now («other_masks» .entry)) «other_structural_nnz») (asRoom «ptr_room» «word_room» «mask_room») ⌝ }
+{
+    let v = examine_pair(
+        nrows,
+        ncols,
+        row_word_ptr,
+        word_indices,
+        masks,
+        structural_nnz,
+        other_nrows,
+        other_ncols,
+        other_row_word_ptr,
+        other_word_indices,
+        other_masks,
+        other_structural_nnz,
+    );
+    if let Verdict::Refused(e) = v {
+        return Verdict::Refused(e);
+    }
+    let most = word_indices.len() + other_word_indices.len();
+    let w = examine_room(nrows, most, ptr_room, word_room, mask_room);
+    if let Verdict::Accepted = w {
+        return Verdict::Accepted;
+    }
+    let words = count_words(
+        operation,
+        nrows,
+        ncols,
+        row_word_ptr,
+        word_indices,
+        masks,
+        other_row_word_ptr,
+        other_word_indices,
+        other_masks,
+    );
+    examine_room(nrows, words, ptr_room, word_room, mask_room)
+}
+
+// The words of the combined memberships: the used parts are nrows + 1 pointers and as many words and masks as the answer says.
+pub fn combine(
+    operation: Operation,
+    nrows: usize,
+    ncols: usize,
+    row_word_ptr: &[u32],
+    word_indices: &[u32],
+    masks: &[u64],
+    structural_nnz: usize,
+    other_nrows: usize,
+    other_ncols: usize,
+    other_row_word_ptr: &[u32],
+    other_word_indices: &[u32],
+    other_masks: &[u64],
+    other_structural_nnz: usize,
+    out_ptr: &mut [u32],
+    out_words: &mut [u32],
+    out_masks: &mut [u64],
+) -> TopologyAnswer
+    ensures answer { λ r. ⌜ toldTopology r ≡ answers (combineAnswer operation (asWords nrows ncols (now («row_word_ptr» .entry)) (now («word_indices» .entry)) (now (masks .entry)) «structural_nnz») (asWords «other_nrows» «other_ncols» (now («other_row_word_ptr» .entry)) (now («other_word_indices» .entry)) (now («other_masks» .entry)) «other_structural_nnz») (asRoom (length (now («out_ptr» .entry))) (length (now («out_words» .entry))) (length (now («out_masks» .entry))))) (usedOf (combinedWords operation (asWords nrows ncols (now («row_word_ptr» .entry)) (now («word_indices» .entry)) (now (masks .entry)) «structural_nnz») (asWords «other_nrows» «other_ncols» (now («other_row_word_ptr» .entry)) (now («other_word_indices» .entry)) (now («other_masks» .entry)) «other_structural_nnz»))) ⌝ }
+    ensures pointers { λ r. ⌜ now («out_ptr» .exit) ≡ built 0 (length (now («out_ptr» .entry))) (combineAnswer operation (asWords nrows ncols (now («row_word_ptr» .entry)) (now («word_indices» .entry)) (now (masks .entry)) «structural_nnz») (asWords «other_nrows» «other_ncols» (now («other_row_word_ptr» .entry)) (now («other_word_indices» .entry)) (now («other_masks» .entry)) «other_structural_nnz») (asRoom (length (now («out_ptr» .entry))) (length (now («out_words» .entry))) (length (now («out_masks» .entry))))) (combinedWords operation (asWords nrows ncols (now («row_word_ptr» .entry)) (now («word_indices» .entry)) (now (masks .entry)) «structural_nnz») (asWords «other_nrows» «other_ncols» (now («other_row_word_ptr» .entry)) (now («other_word_indices» .entry)) (now («other_masks» .entry)) «other_structural_nnz») .ptr) ⌝ }
+    ensures numbers { λ r. ⌜ now («out_words» .exit) ≡ built 0 (length (now («out_words» .entry))) (combineAnswer operation (asWords nrows ncols (now («row_word_ptr» .entry)) (now («word_indices» .entry)) (now (masks .entry)) «structural_nnz») (asWords «other_nrows» «other_ncols» (now («other_row_word_ptr» .entry)) (now («other_word_indices» .entry)) (now («other_masks» .entry)) «other_structural_nnz») (asRoom (length (now («out_ptr» .entry))) (length (now («out_words» .entry))) (length (now («out_masks» .entry))))) (combinedWords operation (asWords nrows ncols (now («row_word_ptr» .entry)) (now («word_indices» .entry)) (now (masks .entry)) «structural_nnz») (asWords «other_nrows» «other_ncols» (now («other_row_word_ptr» .entry)) (now («other_word_indices» .entry)) (now («other_masks» .entry)) «other_structural_nnz») .word) ⌝ }
+    ensures bits { λ r. ⌜ now («out_masks» .exit) ≡ built 0 (length (now («out_masks» .entry))) (combineAnswer operation (asWords nrows ncols (now («row_word_ptr» .entry)) (now («word_indices» .entry)) (now (masks .entry)) «structural_nnz») (asWords «other_nrows» «other_ncols» (now («other_row_word_ptr» .entry)) (now («other_word_indices» .entry)) (now («other_masks» .entry)) «other_structural_nnz») (asRoom (length (now («out_ptr» .entry))) (length (now («out_words» .entry))) (length (now («out_masks» .entry))))) (combinedWords operation (asWords nrows ncols (now («row_word_ptr» .entry)) (now («word_indices» .entry)) (now (masks .entry)) «structural_nnz») (asWords «other_nrows» «other_ncols» (now («other_row_word_ptr» .entry)) (now («other_word_indices» .entry)) (now («other_masks» .entry)) «other_structural_nnz») .mask) ⌝ }
+{
+    let v = examine(
+        operation,
+        nrows,
+        ncols,
+        row_word_ptr,
+        word_indices,
+        masks,
+        structural_nnz,
+        other_nrows,
+        other_ncols,
+        other_row_word_ptr,
+        other_word_indices,
+        other_masks,
+        other_structural_nnz,
+        out_ptr.len(),
+        out_words.len(),
+        out_masks.len(),
+    );
+    if let Verdict::Refused(e) = v {
+        topology::clear_past(0, 0, out_ptr, out_words, out_masks);
+        return TopologyAnswer::Refused(e);
+    }
+    let words = merge_rows(
+        operation,
+        nrows,
+        ncols,
+        row_word_ptr,
+        word_indices,
+        masks,
+        other_row_word_ptr,
+        other_word_indices,
+        other_masks,
+        out_ptr,
+        out_words,
+        out_masks,
+    );
+    out_ptr[nrows] = hybit_core::narrow(words);
+    topology::clear_past(nrows + 1, words, out_ptr, out_words, out_masks);
+    TopologyAnswer::Built {
+        words: words,
+        structural_nnz: topology::count_bits(&out_masks[..words]),
     }
 }

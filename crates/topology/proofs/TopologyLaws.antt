@@ -147,8 +147,8 @@ pub record Accepted (t : Words) : Type 0 where
 pub accepted-facts : (t : Words) → wordAnswer t ≡ accepted → Accepted t
 unfolding wordAnswer wordRules rowRules sizesFit
 accepted-facts t e =
-    let s : sizesFit (t .rows) (t .cols) (length (t .word)) (length (t .mask)) ≡ true = demand-accepted _ _ (then-first _ _ e) in
-    let w : wordRules t ≡ true = demand-accepted _ _ (then-second _ _ e) in
+    let s : sizesFit (t .rows) (t .cols) (length (t .word)) (length (t .mask)) ≡ true = demand-accepted _ _ (then-first (demand (sizesFit (t .rows) (t .cols) (length (t .word)) (length (t .mask))) 1) (demand (wordRules t) 11) e) in
+    let w : wordRules t ≡ true = demand-accepted _ _ (then-second (demand (sizesFit (t .rows) (t .cols) (length (t .word)) (length (t .mask))) 1) (demand (wordRules t) 11) e) in
     let f : Bool = framedLists (t .rows) (t .ptr) (length (t .word)) (length (t .mask)) in
     let fr : (f && rowRules t) ≡ true = and-left (f && rowRules t) (eqb (t .total) (setBits (t .mask))) w in
     let s1 : (few (t .rows) && few (t .cols) && many (length (t .word))) ≡ true = and-left (few (t .rows) && few (t .cols) && many (length (t .word))) (many (length (t .mask))) s in

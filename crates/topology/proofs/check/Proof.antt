@@ -1,30 +1,29 @@
+-- `topology::check` meets its contract. Assumes nothing.
+use Rattle.topology.proofs.CallLaws.{sizes-right}
+use Rattle.hybit_core.proofs.AnswerLaws.{checks}
+use Rattle.hybit_core.proofs.BoolLaws.{tests}
+use Rattle.topology.specs.Words.{wordAnswer}
 use borrow.Author.Needs.{needs}
 use Rattle.topology.proofs.check.Statement.{statement}
 use Rattle.topology.proofs.check.Tie as tie
-use Rattle.topology.proofs.check.Reads as reads
-use Rattle.topology.proofs.check.Lts as lts
-use Rattle.hybit_core.proofs.sizes_fit.Reads as sizes-fit-reads
-use Rattle.topology.proofs.rules_hold.Reads as rules-hold-reads
 
--- src/lib.rt:235:9
 sizes-fit-requires : tie.Need-sizes-fit-requires
 sizes-fit-requires c κs = search needs
 
--- src/lib.rt:236:9
 returns : tie.Need-returns
-returns c = search needs
+unfolding wordAnswer
+returns c = search (checks, tests, needs)
 
--- src/lib.rt:238:9
 rules-hold-requires : tie.Need-rules-hold-requires
-rules-hold-requires c κs = search needs
+rules-hold-requires c κs = sizes-right _ _ _ _ _ (c .before .sizes-fit .ensures) (c .if1 .left)
 
--- src/lib.rt:246:9
 returns-2 : tie.Need-returns-2
-returns-2 c = search needs
+unfolding wordAnswer
+returns-2 c = search (checks, tests, needs)
 
--- src/lib.rt:225:1
 returns-3 : tie.Need-returns-3
-returns-3 c = search needs
+unfolding wordAnswer
+returns-3 c = search (checks, tests, needs)
 
 pub check-spec : {M : Type 1} → statement M
 check-spec =

@@ -1,3 +1,4 @@
+-- `topology::contains_in` meets its contract. Assumes nothing.
 use Rattle.topology.proofs.ScanLaws.{member-found, member-more, member-none}
 use Rattle.topology.specs.Words.{rowMember}
 use lib.ListN.{length, drop}

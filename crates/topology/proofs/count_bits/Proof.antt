@@ -1,3 +1,4 @@
+-- `topology::count_bits` meets its contract. Assumes nothing.
 use Rattle.topology.proofs.ScanLaws.{bits-none, bits-more, bits-done}
 use Rattle.topology.specs.Words.{setBits}
 use lib.ListN.{length, take}

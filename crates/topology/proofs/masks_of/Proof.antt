@@ -1,3 +1,4 @@
+-- `topology::masks_of` meets its contract. Assumes nothing.
 use Rattle.lent.proofs.ListLaws.{part-lent}
 use borrow.Author.Needs.{needs}
 use Rattle.topology.proofs.masks_of.Statement.{statement}

@@ -1,3 +1,4 @@
+-- `topology::rank_in` meets its contract. Assumes nothing.
 use Rattle.topology.proofs.FrontLaws.{Ranking, ranking-none, ranking-more, ranking-fits, ranking-at, ranking-small, ranking-past, ranking-done, placed, at-end}
 use Rattle.topology.proofs.FrontLaws.{Ranking, ranking-none, ranking-more, ranking-fits, ranking-at, ranking-past, ranking-done, placed, at-end}
 use Rattle.topology.proofs.RowLaws.{row-is, small-is}

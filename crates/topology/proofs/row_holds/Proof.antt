@@ -1,3 +1,4 @@
+-- `topology::row_holds` meets its contract. Assumes nothing.
 use mathlib.Core.Path.{_≡_, refl}
 use native.Mathlib.Omega.{arith}
 use Rattle.hybit_core.proofs.BoolLaws.{flag-on, flag-off}

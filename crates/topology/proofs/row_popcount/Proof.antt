@@ -1,38 +1,31 @@
+-- `topology::row_popcount` meets its contract. Assumes nothing.
+use Rattle.topology.proofs.RowLaws.{small-is}
+use Rattle.topology.proofs.CallLaws.{row-checked, popcount-is, RowOk}
+use Rattle.hybit_core.proofs.AnswerLaws.{outcomes, given-accepted}
 use borrow.Author.Needs.{needs}
 use Rattle.topology.proofs.row_popcount.Statement.{statement}
 use Rattle.topology.proofs.row_popcount.Tie as tie
-use Rattle.topology.proofs.row_popcount.Reads as reads
-use Rattle.topology.proofs.row_popcount.Lts as lts
-use Rattle.topology.proofs.check_row.Reads as check-row-reads
-use Rattle.topology.proofs.count_bits.Reads as count-bits-reads
-use Rattle.topology.proofs.masks_of.Reads as masks-of-reads
 
--- src/lib.rt:378:9
 check-row-requires : tie.Need-check-row-requires
 check-row-requires c κs = search needs
 
--- src/lib.rt:387:29
 enum-known-v : tie.Need-enum-known-v
 enum-known-v c = search needs
 
--- src/lib.rt:388:9
 returns : tie.Need-returns
-returns c = search needs
+returns c = search (outcomes, needs)
 
 enum-told : tie.Need-enum-told
 enum-told c = search needs
 
--- src/lib.rt:390:35
 masks-of-requires : tie.Need-masks-of-requires
-masks-of-requires c κs = search needs
+masks-of-requires c κs = (row-checked _ _ _ (c .before .before .check-row .ensures) (c .enum-told .given .1)) .right
 
--- src/lib.rt:390:24
 count-bits-requires : tie.Need-count-bits-requires
 count-bits-requires c κs = search needs
 
--- src/lib.rt:367:1
 returns-2 : tie.Need-returns-2
-returns-2 c = search needs
+returns-2 c = given-accepted _ _ _ _ (c .before .before .before .before .check-row .ensures) (c .before .before .enum-told .given .1) (popcount-is _ _ (row-checked _ _ _ (c .before .before .before .before .check-row .ensures) (c .before .before .enum-told .given .1)) (small-is _ (λ j. (c .before .before .before .before .before .shared-slice-known3 .given j .fits))) _ _ (c .before .masks-of .ensures) (c .count-bits .ensures))
 
 pub row-popcount-spec : {M : Type 1} → statement M
 row-popcount-spec =

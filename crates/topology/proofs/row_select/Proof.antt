@@ -1,55 +1,44 @@
+-- `topology::row_select` meets its contract. Assumes nothing.
+use mathlib.Core.Path.{refl, sym, ap, _∙_}
+use Rattle.word.specs.Word.{toldSelect}
+use Rattle.topology.proofs.CallLaws.{row-checked, select-is, sides-lent, rule-lent, RowOk}
+use Rattle.hybit_core.proofs.AnswerLaws.{outcomes, given-accepted}
 use borrow.Author.Needs.{needs}
 use Rattle.topology.proofs.row_select.Statement.{statement}
 use Rattle.topology.proofs.row_select.Tie as tie
-use Rattle.topology.proofs.row_select.Reads as reads
-use Rattle.topology.proofs.row_select.Lts as lts
-use Rattle.topology.proofs.check_row.Reads as check-row-reads
-use Rattle.topology.proofs.masks_of.Reads as masks-of-reads
-use Rattle.topology.proofs.select_in.Reads as select-in-reads
-use Rattle.topology.proofs.words_of.Reads as words-of-reads
 
--- src/lib.rt:557:9
 check-row-requires : tie.Need-check-row-requires
 check-row-requires c κs = search needs
 
--- src/lib.rt:566:29
 enum-known-v : tie.Need-enum-known-v
 enum-known-v c = search needs
 
--- src/lib.rt:567:9
 returns : tie.Need-returns
-returns c = search needs
+returns c = search (outcomes, needs)
 
 enum-told : tie.Need-enum-told
 enum-told c = search needs
 
--- src/lib.rt:569:9
 words-of-requires : tie.Need-words-of-requires
-words-of-requires c κs = search needs
+words-of-requires c κs = (row-checked _ _ _ (c .before .before .check-row .ensures) (c .enum-told .given .1)) .left
 
--- src/lib.rt:570:41
 masks-of-requires : tie.Need-masks-of-requires
-masks-of-requires c κs = search needs
+masks-of-requires c κs = (row-checked _ _ _ (c .before .before .before .check-row .ensures) (c .before .enum-told .given .1)) .right
 
--- src/lib.rt:570:9
 select-in-requires : tie.Need-select-in-requires
-select-in-requires c κs = search needs
+select-in-requires c κs = (sides-lent _ _ (row-checked _ _ _ (c .before .before .before .before .check-row .ensures) (c .before .before .enum-told .given .1)) _ _ (c .before .words-of .ensures) (c .masks-of .ensures), rule-lent _ _ (row-checked _ _ _ (c .before .before .before .before .check-row .ensures) (c .before .before .enum-told .given .1)) _ _ (c .before .words-of .ensures) (c .masks-of .ensures))
 
--- src/lib.rt:571:24
 enum-known-found : tie.Need-enum-known-found
 enum-known-found c = search needs
 
--- src/lib.rt:572:9
 enum-told-2 : tie.Need-enum-told-2
 enum-told-2 c = search needs
 
--- src/lib.rt:572:9
 returns-2 : tie.Need-returns-2
-returns-2 c = search needs
+returns-2 c = given-accepted _ _ _ _ (c .before .before .before .before .before .before .before .check-row .ensures) (c .before .before .before .before .before .enum-told .given .1) (select-is _ _ (row-checked _ _ _ (c .before .before .before .before .before .before .before .check-row .ensures) (c .before .before .before .before .before .enum-told .given .1)) _ _ (c .before .before .before .before .words-of .ensures) (c .before .before .before .masks-of .ensures) _ _ (sym (ap toldSelect (c .enum-told2 .given .1)) ∙ (c .before .before .select-in .ensures)))
 
--- src/lib.rt:545:1
 returns-3 : tie.Need-returns-3
-returns-3 c = search needs
+returns-3 c = given-accepted _ _ _ _ (c .before .before .before .before .before .before .before .before .check-row .ensures) (c .before .before .before .before .before .before .enum-told .given .1) (select-is _ _ (row-checked _ _ _ (c .before .before .before .before .before .before .before .before .check-row .ensures) (c .before .before .before .before .before .before .enum-told .given .1)) _ _ (c .before .before .before .before .before .words-of .ensures) (c .before .before .before .before .masks-of .ensures) _ _ (sym (ap toldSelect (c .before .found .given .1)) ∙ (c .before .before .before .select-in .ensures)))
 
 pub row-select-spec : {M : Type 1} → statement M
 row-select-spec =

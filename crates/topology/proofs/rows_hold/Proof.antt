@@ -1,3 +1,4 @@
+-- `topology::rows_hold` meets its contract. Assumes nothing.
 use lib.ListN.{length}
 use Prim.Native.Nat.{ℕ, _-_}
 use mathlib.Core.List.{List}

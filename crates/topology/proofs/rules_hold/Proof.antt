@@ -1,35 +1,33 @@
+-- `topology::rules_hold` meets its contract. Assumes nothing.
+use mathlib.Core.Path.{refl, sym, ap, _∙_}
+use lib.Dec.{eqb}
+use Rattle.topology.proofs.CallLaws.{bits-whole}
+use Rattle.hybit_core.proofs.BoolLaws.{flag-on, flag-off, and-first, and-next}
+use Rattle.topology.specs.Words.{wordRules}
 use borrow.Author.Needs.{needs}
 use Rattle.topology.proofs.rules_hold.Statement.{statement}
 use Rattle.topology.proofs.rules_hold.Tie as tie
-use Rattle.topology.proofs.rules_hold.Reads as reads
-use Rattle.topology.proofs.rules_hold.Lts as lts
-use Rattle.csr32.proofs.lists_hold.Reads as lists-hold-reads
-use Rattle.topology.proofs.count_bits.Reads as count-bits-reads
-use Rattle.topology.proofs.rows_hold.Reads as rows-hold-reads
 
--- src/lib.rt:208:9
 lists-hold-requires : tie.Need-lists-hold-requires
 lists-hold-requires c κs = search needs
 
--- src/lib.rt:209:9
 returns : tie.Need-returns
-returns c = search needs
+unfolding wordRules
+returns c = and-first _ _ (and-first _ _ (flag-off _ _ (c .before .lists-hold .ensures) (c .if1 .taken)))
 
--- src/lib.rt:211:9
 rows-hold-requires : tie.Need-rows-hold-requires
-rows-hold-requires c κs = search needs
+rows-hold-requires c κs = sym (flag-on _ _ (c .before .lists-hold .ensures) (c .if1 .left))
 
--- src/lib.rt:219:9
 returns-2 : tie.Need-returns-2
-returns-2 c = search needs
+unfolding wordRules
+returns-2 c = and-first _ _ (and-next _ _ _ (flag-on _ _ (c .before .before .before .lists-hold .ensures) (c .before .before .if1 .left)) (flag-off _ _ (c .before .rows-hold .ensures) (c .if2 .taken)))
 
--- src/lib.rt:221:23
 count-bits-requires : tie.Need-count-bits-requires
 count-bits-requires c κs = search needs
 
--- src/lib.rt:197:1
 returns-3 : tie.Need-returns-3
-returns-3 c = search needs
+unfolding wordRules
+returns-3 c = and-next _ _ _ (and-next _ _ _ (flag-on _ _ (c .before .before .before .before .lists-hold .ensures) (c .before .before .before .if1 .left)) (flag-on _ _ (c .before .before .rows-hold .ensures) (c .before .if2 .left))) (ap (eqb (c .before .before .before .before .before .before .before .before .args .structural-nnz)) (bits-whole _ _ (c .before .before .before .before .before .before .before .before .pre) (c .count-bits .ensures)))
 
 pub rules-hold-spec : {M : Type 1} → statement M
 rules-hold-spec =

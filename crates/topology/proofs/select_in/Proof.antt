@@ -1,3 +1,4 @@
+-- `topology::select_in` meets its contract. Assumes nothing.
 use Rattle.word.proofs.BelowLaws.{selected-small}
 use Rattle.word.specs.Word.{toldSelect}
 use Rattle.topology.proofs.FrontLaws.{Selecting, selecting-none, selecting-more, selecting-at, selecting-gives, selecting-done, placed, at-end}

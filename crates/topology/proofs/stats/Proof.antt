@@ -1,44 +1,41 @@
+-- `topology::stats` meets its contract. Assumes nothing.
+use Rattle.topology.proofs.TopologyLaws.{Accepted}
+use native.Mathlib.Omega.{arith}
+use Rattle.topology.proofs.CallLaws.{checked}
+use mathlib.Core.Path.{refl, sym, ap, _∙_}
+use Rattle.topology.specs.Calls.{statsOf, metadataBytes}
+use Rattle.hybit_core.proofs.AnswerLaws.{outcomes, given-accepted}
 use borrow.Author.Needs.{needs}
 use Rattle.topology.proofs.stats.Statement.{statement}
 use Rattle.topology.proofs.stats.Tie as tie
-use Rattle.topology.proofs.stats.Reads as reads
-use Rattle.topology.proofs.stats.Lts as lts
-use Rattle.topology.proofs.check.Reads as check-reads
 
--- src/lib.rt:587:9
 check-requires : tie.Need-check-requires
 check-requires c κs = search needs
 
--- src/lib.rt:595:29
 enum-known-v : tie.Need-enum-known-v
 enum-known-v c = search needs
 
--- src/lib.rt:596:9
 returns : tie.Need-returns
-returns c = search needs
+returns c = search (outcomes, needs)
 
 enum-told : tie.Need-enum-told
 enum-told c = search needs
 
--- src/lib.rt:604:30
 add-t10 : tie.Need-add-t10
-add-t10 c = search needs
+add-t10 c = let k = checked _ _ (c .before .before .check .ensures) (c .enum-told .given .1) in omega (arith, k .rows-in, k .words-in)
 
--- src/lib.rt:604:25
 mul-t11 : tie.Need-mul-t11
-mul-t11 c = search needs
+mul-t11 c = let k = checked _ _ (c .before .before .check .ensures) (c .enum-told .given .1) in omega (arith, k .rows-in, k .words-in)
 
--- src/lib.rt:604:43
 mul-t12 : tie.Need-mul-t12
-mul-t12 c = search needs
+mul-t12 c = let k = checked _ _ (c .before .before .check .ensures) (c .enum-told .given .1) in omega (arith, k .rows-in, k .words-in)
 
--- src/lib.rt:604:25
 add-t13 : tie.Need-add-t13
-add-t13 c = search needs
+add-t13 c = let k = checked _ _ (c .before .before .check .ensures) (c .enum-told .given .1) in omega (arith, k .rows-in, k .words-in)
 
--- src/lib.rt:577:1
 returns-2 : tie.Need-returns-2
-returns-2 c = search needs
+unfolding statsOf metadataBytes
+returns-2 c = given-accepted _ _ _ _ (c .before .before .check .ensures) (c .enum-told .given .1) refl
 
 pub stats-spec : {M : Type 1} → statement M
 stats-spec =

@@ -1,3 +1,4 @@
+-- `topology::word_fill_ratio` meets its contract. Assumes nothing.
 use lib.Ieee.{Float, binary64, div}
 use mathlib.Core.Path.{ap₂}
 use borrow.Author.Needs.{needs}

@@ -1,3 +1,4 @@
+-- `topology::word_holds` meets its contract. Assumes nothing.
 use Rattle.topology.proofs.ScanLaws.{rule-empty, rule-outside, rule-inside}
 use borrow.Author.Needs.{needs}
 use Rattle.topology.proofs.word_holds.Statement.{statement}

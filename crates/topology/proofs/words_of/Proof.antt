@@ -1,3 +1,4 @@
+-- `topology::words_of` meets its contract. Assumes nothing.
 use Rattle.lent.proofs.ListLaws.{part-lent}
 use borrow.Author.Needs.{needs}
 use Rattle.topology.proofs.words_of.Statement.{statement}

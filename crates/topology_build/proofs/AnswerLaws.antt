@@ -162,12 +162,6 @@ module _ (rows cols : ℕ) (ptr col : List ℕ) (val : List Float) (v : Verdict)
         all : Rows (rowTest ptr col) cols rows n op1 ws1 ms1
         all = f .fits (omega (arith, words-room))
 
-        pub used-words : n ≤ length (ws1 ++ drop room ow)
-        used-words = omega (arith, words-same)
-
-        pub used-masks : (om2 : List ℕ) → length om2 ≡ length (ms1 ++ drop room om) → n ≤ length om2
-        used-masks om2 e = omega (arith, masks-same)
-
         starts-are : (w : ℕ) → rows < length op → w ≡ n % 2 ^ 32 → take (rows + 1) (set op1 rows w) ≡ topologyOf rows cols (rowTest ptr col) .ptr
         unfolding topologyOf starts each joined
         starts-are w h e =

@@ -2,7 +2,7 @@
 use mathlib.Core.Bool.{Bool, true, false, _&&_, and-false}
 use mathlib.Core.List.{List, [], _∷_, _++_, map}
 use mathlib.Core.Path.{_≡_, refl, sym, ap, ap₂, _∙_, subst}
-use Prim.Native.Nat.{ℕ, suc, min, _+_, _-_, _%_, _^_, _≤_, _<_}
+use Prim.Native.Nat.{ℕ, suc, min, _+_, _%_, _^_, _≤_, _<_}
 use native.Mathlib.Nat.{mod-eq-of-lt}
 use native.Mathlib.Numerals.{add-one}
 use native.Mathlib.Omega.{arith}
@@ -10,9 +10,9 @@ use native.Mathlib.Decide.{decLt}
 use borrow.Author.Tests.{eq-eqb, eqb-true, le-leb, lt-leb}
 use lib.Dec.{eqb, leb}
 use lib.Ieee.{Float}
-use lib.ListN.{length, getD, take, drop, set, length-append, length-map, length-set, length-take, length-drop}
+use lib.ListN.{length, take, drop, set, length-append, length-map, length-set, length-take, length-drop}
 use lib.Seq.{take-append-le, take-suc-set, take-all, length-take-le}
-use Rattle.hybit_core.specs.Answer.{Answer, accepted, refused, plain, demand, _andThen_, Given, gives, refuses, answers}
+use Rattle.hybit_core.specs.Answer.{Answer, accepted, refused, demand, _andThen_, Given, gives, refuses, answers}
 use Rattle.hybit_core.specs.Table.{paper, told}
 use Rattle.hybit_core.specs.declared.Verdict.{Verdict}
 use Rattle.hybit_core.specs.declared.Verdict.the-variants.{Accepted, Refused}
@@ -32,7 +32,7 @@ use Rattle.topology.specs.Words.{Words, topologyOf, setBits}
 use Rattle.topology.specs.Calls.{asRoom, fitsWords, usedOf}
 use Rattle.topology.proofs.TopologyLaws.{total-bits}
 use Rattle.topology_build.specs.Build.{topologyFrom, buildAnswer}
-use Rattle.topology_build.specs.Levels.{Source, rowTest, rowWords, rowMasks, Rows, Ended}
+use Rattle.topology_build.specs.Levels.{Source, rowTest, rowWords, Rows, Ended}
 use Rattle.topology_build.proofs.LevelLaws.{listed-few, columns-few}
 
 -- what the call answers, and what its lists of np, nw and nm places hold

@@ -155,6 +155,13 @@ module _ {A : Type 0} where
     list = b .list ∙ ap (λ (t : List A). t ++ more) (a .list) ∙ append-assoc (take from old) new more;
   }
 
+  -- one place more
+  pub appended-snoc : (new : List A) (from to : ℕ) (old out : List A) (v : A) → Appended new from to old out → to < length out → Appended (new ++ (v ∷ [])) from (to + 1) old (set out to v)
+  appended-snoc new from to old out v a h = record {
+    next = omega (arith, a .next, length-append new (v ∷ []));
+    list = ap (λ (n : ℕ). take n (set out to v)) (add-one to) ∙ take-suc-set out to v h ∙ ap (λ (t : List A). t ++ (v ∷ [])) (a .list) ∙ append-assoc (take from old) new (v ∷ []);
+  }
+
   -- written from 0 on, and cleared past it
   pub appended-cleared : (z : A) (new : List A) (to : ℕ) (old out last : List A) → Appended new 0 to old out → length out ≡ length old → last ≡ padded z (length out) (take to out) → last ≡ padded z (length old) new
   appended-cleared z new to old out last a s e = e ∙ ap₂ (λ (n : ℕ) (l : List A). padded z n l) s (a .list)

@@ -1,5 +1,5 @@
 -- The worked plots: in each row of the table the definitions give what the document says. Assumes nothing.
-use mathlib.Core.List.{List, map, zip, zipWith}
+use mathlib.Core.List.{map, zip, zipWith}
 use mathlib.Core.Path.{_≡_, refl}
 use Rattle.hybit_core.specs.Domain.{sizesFit}
 use Rattle.lent.specs.Lists.{joined, each, starts, part, only, every, some, first, rises, climbs, spread}

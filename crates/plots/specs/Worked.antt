@@ -1,16 +1,14 @@
 -- Document 01's worked plots marked (M), as rows of one table: what the definitions give, and what the document says.
-use Prim.Native.Nat.{ℕ, suc, _+_, _*_, _^_}
+use Prim.Native.Nat.{ℕ}
 use mathlib.Core.Bool.{Bool, true, false}
-use mathlib.Core.List.{List, [], _∷_, map}
+use mathlib.Core.List.{List, [], _∷_}
 use mathlib.Core.Option.{Option, none, some}
 use lib.IntN.{pos, negsuc}
 use lib.Ieee.{Float, fin}
 use Rattle.hybit_core.specs.Answer.{Given, gives, refuses}
-use Rattle.word.specs.Word.{combined}
-use Rattle.word.specs.declared.Operation.{Operation}
 use Rattle.word.specs.declared.Operation.the-variants.{Union, Intersection, AndNot, Xor}
 use Rattle.csr32.specs.Csr.{Csr}
-use Rattle.topology.specs.Words.{Words, topologyOf, member}
+use Rattle.topology.specs.Words.{Words, member}
 use Rattle.topology.specs.Calls.{rankAnswer, select, metadataBytes}
 use Rattle.topology_build.specs.Build.{topologyFrom}
 use Rattle.topology_combine.specs.Combine.{combinedWords}

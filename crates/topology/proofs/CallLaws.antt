@@ -2,13 +2,13 @@
 use mathlib.Core.Bool.{Bool, true, false, not, _&&_}
 use mathlib.Core.List.{List, [], _∷_}
 use mathlib.Core.Option.{Option}
-use mathlib.Core.Path.{_≡_, refl, sym, ap, ap₂, _∙_}
-use Prim.Native.Nat.{ℕ, _+_, _*_, _%_, _^_, _≤_, _<_}
+use mathlib.Core.Path.{_≡_, sym, ap, ap₂, _∙_}
+use Prim.Native.Nat.{ℕ, _*_, _%_, _^_, _≤_, _<_}
 use native.Mathlib.Omega.{arith}
-use lib.Dec.{eqb, ltb, leb}
+use lib.Dec.{ltb, leb}
 use lib.ListN.{length}
 use borrow.Author.Tests.{le-ltb, ltb-true, leb-true, not-false}
-use Rattle.hybit_core.specs.Answer.{Answer, accepted, demand, _andThen_}
+use Rattle.hybit_core.specs.Answer.{accepted, demand, _andThen_}
 use Rattle.hybit_core.specs.Domain.{few, many, sizesFit}
 use Rattle.hybit_core.specs.Table.{told}
 use Rattle.hybit_core.specs.declared.Verdict.{Verdict}
@@ -16,10 +16,9 @@ use Rattle.hybit_core.specs.declared.Verdict.the-variants as verdict
 use Rattle.hybit_core.proofs.BoolLaws.{and-right}
 use Rattle.hybit_core.proofs.AnswerLaws.{demand-accepted, then-first, then-second, accepted-by}
 use Rattle.lent.specs.Lists.{part, spread}
-use Rattle.word.specs.Bits.{has, count, selected, within, members, wordsOf}
+use Rattle.word.specs.Bits.{has, count, selected, within, wordsOf}
 use Rattle.word.proofs.BelowLaws.{length-below-le}
 use Rattle.word.proofs.BitLaws.{within-in}
-use Rattle.csr32.specs.Csr.{framedLists}
 use Rattle.csr32.proofs.FrameLaws.{RowIn, row-left, row-right, lists-sides, part-lengths}
 use Rattle.topology.specs.Words.{Words, rowMember, member, rowRule, setBits, wordAnswer}
 use Rattle.topology.specs.Calls.{rowAnswer}

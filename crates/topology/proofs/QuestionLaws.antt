@@ -1,15 +1,13 @@
 -- Ranks, selects and counts of a row, for callers: rank and select are inverse, and a row's count is its rank at the column count.
 -- Assumes nothing but masks of 64 bits.
 use mathlib.Core.Bool.{Bool, true, false, true≢false}
-use mathlib.Core.List.{List}
 use mathlib.Core.Option.{Option, none, some}
 use mathlib.Core.Path.{_≡_, sym, ap, _∙_}
 use Prim.Native.Nat.{ℕ, _≤_, _<_}
 use native.Mathlib.Decide.{decLt}
 use native.Mathlib.Omega.{arith}
-use lib.ListN.{length}
 use Rattle.lent.specs.Lists.{part}
-use Rattle.word.specs.Bits.{count, selected}
+use Rattle.word.specs.Bits.{count}
 use Rattle.word.proofs.BelowLaws.{Selects, selected-finds, selected-nothing, selected-of-rank}
 use Rattle.topology.specs.Words.{Words, member, setBits}
 use Rattle.topology.specs.Calls.{rank, select}

@@ -1,16 +1,16 @@
 -- Laws of the record of a membership: `check` accepts it, it has that membership, and a record that `check` accepts is the one
 -- record of its own membership. Assumes nothing but masks of 64 bits.
-use mathlib.Core.Bool.{Bool, true, false, not, cond, _&&_, false≢true}
-use mathlib.Core.List.{List, [], _∷_, _++_, map, zip}
+use mathlib.Core.Bool.{Bool, true, false, cond, _&&_, false≢true}
+use mathlib.Core.List.{List, [], map, zip}
 use mathlib.Core.Path.{_≡_, refl, sym, ap, ap₂, _∙_}
 use Prim.Native.Nat.{ℕ, zero, suc, _+_, _*_, _/_, _%_, _^_, _≤_, _<_}
 use native.Mathlib.Nat.{le-refl}
 use native.Mathlib.Omega.{arith}
 use lib.Dec.{eqb, ltb}
-use lib.ListN.{length, getD, length-map, length-append}
+use lib.ListN.{length, length-map, length-append}
 use lib.Seq.{ext-getD}
 use borrow.Author.Tests.{eq-eqb, eqb-true, leb-true}
-use Rattle.hybit_core.specs.Answer.{accepted, demand, _andThen_}
+use Rattle.hybit_core.specs.Answer.{accepted, demand}
 use Rattle.hybit_core.specs.Domain.{few, many, sizesFit}
 use Rattle.hybit_core.proofs.BoolLaws.{and-left, and-right, and-both}
 use Rattle.hybit_core.proofs.AnswerLaws.{demand-accepted, then-first, then-second}

@@ -6,11 +6,11 @@ use mathlib.Core.Option.{Option, none, some}
 use lib.Dec.{leb, ltb}
 use lib.ListN.{length}
 use lib.Ieee.{Float, binary64, div}
-use Rattle.hybit_core.specs.Answer.{Answer, accepted, refused, Given, gives, refuses, demand, answers, _andThen_}
+use Rattle.hybit_core.specs.Answer.{Answer, Given, gives, refuses, demand, answers, _andThen_}
 use Rattle.hybit_core.specs.Floats.{countAsFloat, ratioOf}
 use Rattle.hybit_core.specs.Table.{paper}
 use Rattle.lent.specs.Lent.{kept}
-use Rattle.word.specs.Bits.{count, selected, wordsOf}
+use Rattle.word.specs.Bits.{count, selected}
 use Rattle.topology.specs.declared.SelectAnswer.{SelectAnswer}
 use Rattle.topology.specs.declared.SelectAnswer.the-variants as selection
 use Rattle.topology.specs.declared.TopologyAnswer.{TopologyAnswer}

@@ -1,5 +1,4 @@
 -- The words of a plot list (document 01, "Words": every stored entry sets its bit).
-use Prim.Native.Nat.{ℕ}
 use Rattle.hybit_core.specs.Answer.{Answer, demand, _andThen_}
 use Rattle.csr32.specs.Csr.{Csr, csrAnswer, entries, present}
 use Rattle.topology.specs.Words.{Words, topologyOf}

@@ -11,7 +11,6 @@ ghost use Rattle.hybit_core.specs.Domain.{many};
 ghost use Rattle.hybit_core.specs.Table.{told};
 ghost use Rattle.lent.specs.Lent.{built, Appended};
 ghost use Rattle.word.specs.Bits.{maskOf, wordsOf};
-ghost use Rattle.word.specs.Word.{combined};
 ghost use Rattle.lent.proofs.LentLaws.{Filled};
 ghost use Rattle.topology.specs.Words.{asWords};
 ghost use Rattle.topology.specs.Calls.{asRoom, usedOf, toldTopology, fitsWords};

@@ -5,8 +5,8 @@ use Rattle.topology.proofs.RowLaws.{row-is, small-is}
 use Rattle.topology.specs.Words.{rowMember}
 use lib.ListN.{length}
 use native.Mathlib.Omega.{arith}
-use Prim.Native.Nat.{_-_, _+_, _*_, _%_, _^_, _<_}
-use mathlib.Core.Path.{_≡_, refl, sym, ap, _∙_}
+use Prim.Native.Nat.{_-_, _+_}
+use mathlib.Core.Path.{refl, sym, ap, _∙_}
 use borrow.Author.Needs.{needs}
 use Rattle.topology.proofs.rank_in.Statement.{statement}
 use Rattle.topology.proofs.rank_in.Tie as tie

@@ -1,5 +1,5 @@
 -- `topology::row_contains` meets its contract. Assumes nothing.
-use Rattle.topology.proofs.CallLaws.{row-checked, contains-is, contains-past, sides-lent, RowOk}
+use Rattle.topology.proofs.CallLaws.{row-checked, contains-is, contains-past, sides-lent}
 use Rattle.hybit_core.proofs.AnswerLaws.{outcomes, given-accepted}
 use borrow.Author.Needs.{needs}
 use Rattle.topology.proofs.row_contains.Statement.{statement}

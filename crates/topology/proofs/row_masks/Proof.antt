@@ -1,7 +1,7 @@
 -- `topology::row_masks` meets its contract. Assumes nothing.
-use Rattle.topology.proofs.CallLaws.{row-checked, RowOk}
+use Rattle.topology.proofs.CallLaws.{row-checked}
 use Rattle.lent.proofs.LentLaws.{lists}
-use Rattle.hybit_core.proofs.AnswerLaws.{outcomes, number-by}
+use Rattle.hybit_core.proofs.AnswerLaws.{outcomes}
 use borrow.Author.Needs.{needs}
 use Rattle.topology.proofs.row_masks.Statement.{statement}
 use Rattle.topology.proofs.row_masks.Tie as tie

@@ -1,6 +1,6 @@
 -- `topology::row_nonempty_words` meets its contract. Assumes nothing.
 use Rattle.topology.proofs.RowLaws.{small-is}
-use Rattle.topology.proofs.CallLaws.{row-checked, nonempty-is, RowOk}
+use Rattle.topology.proofs.CallLaws.{row-checked, nonempty-is}
 use Rattle.hybit_core.proofs.AnswerLaws.{outcomes, given-accepted}
 use borrow.Author.Needs.{needs}
 use Rattle.topology.proofs.row_nonempty_words.Statement.{statement}

@@ -1,6 +1,6 @@
 -- `topology::row_popcount` meets its contract. Assumes nothing.
 use Rattle.topology.proofs.RowLaws.{small-is}
-use Rattle.topology.proofs.CallLaws.{row-checked, popcount-is, RowOk}
+use Rattle.topology.proofs.CallLaws.{row-checked, popcount-is}
 use Rattle.hybit_core.proofs.AnswerLaws.{outcomes, given-accepted}
 use borrow.Author.Needs.{needs}
 use Rattle.topology.proofs.row_popcount.Statement.{statement}

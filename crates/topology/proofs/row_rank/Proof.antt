@@ -1,6 +1,6 @@
 -- `topology::row_rank` meets its contract. Assumes nothing.
 use Rattle.topology.specs.Calls.{rankAnswer}
-use Rattle.topology.proofs.CallLaws.{rank-checked, rank-low, rank-is, sides-lent, rule-lent, RowOk}
+use Rattle.topology.proofs.CallLaws.{rank-checked, rank-low, rank-is, sides-lent, rule-lent}
 use Rattle.hybit_core.proofs.AnswerLaws.{outcomes, given-accepted}
 use borrow.Author.Needs.{needs}
 use Rattle.topology.proofs.row_rank.Statement.{statement}

@@ -1,7 +1,7 @@
 -- `topology::row_select` meets its contract. Assumes nothing.
-use mathlib.Core.Path.{refl, sym, ap, _∙_}
+use mathlib.Core.Path.{sym, ap, _∙_}
 use Rattle.word.specs.Word.{toldSelect}
-use Rattle.topology.proofs.CallLaws.{row-checked, select-is, sides-lent, rule-lent, RowOk}
+use Rattle.topology.proofs.CallLaws.{row-checked, select-is, sides-lent, rule-lent}
 use Rattle.hybit_core.proofs.AnswerLaws.{outcomes, given-accepted}
 use borrow.Author.Needs.{needs}
 use Rattle.topology.proofs.row_select.Statement.{statement}

@@ -2,7 +2,7 @@
 use lib.ListN.{length}
 use Prim.Native.Nat.{ℕ, _-_}
 use mathlib.Core.List.{List}
-use mathlib.Core.Path.{_≡_, refl, sym, ap, ap₂, _∙_}
+use mathlib.Core.Path.{_≡_, sym, ap, ap₂, _∙_}
 use Rattle.topology.proofs.ScanLaws.{rows-none, rows-more, rows-fail, rows-done}
 use Rattle.hybit_core.proofs.BoolLaws.{flag-on, flag-off}
 use Rattle.topology.specs.Words.{asWords, rowRule, rowRules}
@@ -11,7 +11,7 @@ use Rattle.word.specs.Bits.{from}
 use Rattle.lent.specs.Lists.{every, part}
 use Prim.Native.Nat.{_-_}
 use mathlib.Core.Bool.{true}
-use mathlib.Core.Path.{_≡_, refl, sym}
+use mathlib.Core.Path.{_≡_, sym}
 use borrow.Author.Needs.{needs}
 use Rattle.topology.proofs.rows_hold.Statement.{statement}
 use Rattle.topology.proofs.rows_hold.Tie as tie

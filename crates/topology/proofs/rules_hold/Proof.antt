@@ -1,5 +1,5 @@
 -- `topology::rules_hold` meets its contract. Assumes nothing.
-use mathlib.Core.Path.{refl, sym, ap, _∙_}
+use mathlib.Core.Path.{sym, ap}
 use lib.Dec.{eqb}
 use Rattle.topology.proofs.CallLaws.{bits-whole}
 use Rattle.hybit_core.proofs.BoolLaws.{flag-on, flag-off, and-first, and-next}

@@ -1,8 +1,7 @@
 -- `topology::stats` meets its contract. Assumes nothing.
-use Rattle.topology.proofs.TopologyLaws.{Accepted}
 use native.Mathlib.Omega.{arith}
 use Rattle.topology.proofs.CallLaws.{checked}
-use mathlib.Core.Path.{refl, sym, ap, _∙_}
+use mathlib.Core.Path.{refl}
 use Rattle.topology.specs.Calls.{statsOf, metadataBytes}
 use Rattle.hybit_core.proofs.AnswerLaws.{outcomes, given-accepted}
 use borrow.Author.Needs.{needs}

@@ -302,12 +302,11 @@ def generated(cols):
 
 
 def largest():
-    zeros = [0] * (DIMENSION + 2)
-    record("most_rows", DIMENSION, DIMENSION, zeros[1:], [], [])
-    vectors("most_rows", DIMENSION, 6, zeros[1:], [], [])
-    both_of_other_length("most_rows", DIMENSION, 6, zeros[1:], [], [])
-    record("rows_over_size", DIMENSION + 1, 6, zeros, [], [])
-    vectors("rows_over_size", DIMENSION + 1, 6, zeros, [], [])
+    for case, rows in [("most_rows", DIMENSION), ("rows_over_size", DIMENSION + 1)]:
+        zeros = [0] * (rows + 1)
+        record(case, rows, DIMENSION, zeros, [], [])
+        vectors(case, rows, 6, zeros, [], [])
+        both_of_other_length(case, rows, 6, zeros, [], [])
 
 
 for pointers in [

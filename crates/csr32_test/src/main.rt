@@ -784,38 +784,31 @@ fn generated() {
     generated_on(90, &mut ptr, &mut col, &mut val, &mut x, &mut y);
 }
 
-// Lists with a pointer for each of the most rows of all, and for one more.
+// Rows without entries, with a pointer for each of the most rows of all, and for one more.
 
-fn most_rows(ptr: &[u32]) {
+fn empty_rows(case: &[u8], nrows: usize, ptr: &[u32]) {
     let col = [0u32; 0];
     let val = [0.0f64; 0];
-    record(b"most_rows", 1048576, 1048576, ptr, &col, &val);
-    vectors(b"most_rows", 1048576, 6, ptr, &col, &val);
-    both_of_other_length(b"most_rows", 1048576, 6, ptr, &col, &val);
+    record(case, nrows, 1048576, ptr, &col, &val);
+    vectors(case, nrows, 6, ptr, &col, &val);
+    both_of_other_length(case, nrows, 6, ptr, &col, &val);
 }
 
-fn rows_over_size(ptr: &[u32]) {
-    let col = [0u32; 0];
-    let val = [0.0f64; 0];
-    record(b"rows_over_size", 1048577, 6, ptr, &col, &val);
-    vectors(b"rows_over_size", 1048577, 6, ptr, &col, &val);
-}
-
-fn with_pointers(ptr: &mut [u32]) {
-    if ptr.len() < 1048578 {
+fn empty_rows_in(case: &[u8], nrows: usize, n: usize, ptr: &[u32]) {
+    if ptr.len() < n {
         return;
     }
-    most_rows(&ptr[..1048577]);
-    rows_over_size(&ptr[..1048578]);
+    empty_rows(case, nrows, &ptr[..n]);
 }
 
-fn many_pointers(ptr: &mut [u32; 1048578]) {
-    with_pointers(ptr);
+fn many_rows(ptr: &[u32; 1048578]) {
+    empty_rows_in(b"most_rows", 1048576, 1048577, ptr);
+    empty_rows_in(b"rows_over_size", 1048577, 1048578, ptr);
 }
 
 fn largest() {
-    let mut ptr = [0u32; 1048578];
-    many_pointers(&mut ptr);
+    let ptr = [0u32; 1048578];
+    many_rows(&ptr);
 }
 
 fn products() {

@@ -14,7 +14,7 @@ use borrow.Author.Tests.{le-leb, leb-true, eq-eqb, eqb-true}
 use Rattle.hybit_core.proofs.BoolLaws.{and-left, and-right, and-both}
 use Rattle.lent.specs.Lists.{joined, starts, part, rises}
 use Rattle.lent.proofs.ListLaws.{getD-starts, length-starts, length-joined-suc}
-use Rattle.csr32.specs.Csr.{framed}
+use Rattle.csr32.specs.Csr.{framed, framedLists}
 
 -- ---- lists that don't fall
 
@@ -66,6 +66,22 @@ row-in rows ptr n r f h =
     let step : getD ptr r 0 ≤ getD ptr (r + 1) 0 = f .rising r (r + 1) (omega arith) (omega arith) in
     let rest : getD ptr (r + 1) 0 ≤ getD ptr rows 0 = f .rising (r + 1) rows (omega arith) (le-refl rows) in
     record { here = omega (arith, f .long); next = omega (arith, f .long); order = step; inside = omega (arith, rest, f .last) }
+
+-- two lists side by side
+module _ (rows : ℕ) (ptr : List ℕ) (a b : ℕ) (e : framedLists rows ptr a b ≡ true) where
+  pub lists-sides : a ≡ b
+  unfolding framedLists
+  lists-sides = eqb-true a b (and-left (eqb a b) (framed rows ptr b) e)
+
+  pub lists-frame : Framed rows ptr b
+  unfolding framedLists
+  lists-frame = framed-facts rows ptr b (and-right (eqb a b) (framed rows ptr b) e)
+
+  pub row-right : (r : ℕ) → r < rows → RowIn ptr b r
+  row-right r h = row-in rows ptr b r lists-frame h
+
+  pub row-left : (r : ℕ) → r < rows → RowIn ptr a r
+  row-left r h = let x : RowIn ptr b r = row-right r h in record { here = x .here; next = x .next; order = x .order; inside = omega (arith, x .inside, lists-sides) }
 
 -- ---- a list by its rows
 

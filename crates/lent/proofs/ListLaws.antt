@@ -334,3 +334,15 @@ some-snoc p (b ∷ l) a = ap (λ (t : Bool). p b || t) (some-snoc p l a) ∙ sym
     or-assoc : (s t u : Bool) → ((s || t) || u) ≡ (s || (t || u))
     or-assoc true t u = refl
     or-assoc false t u = refl
+
+-- ---- spread
+
+pub spread-map : {A B C : Type 0} (f : B → List C) (g : A → B) (l : List A) → spread f (map g l) ≡ spread (λ a. f (g a)) l
+unfolding spread
+spread-map {C = C} f g [] = refl
+spread-map {C = C} f g (a ∷ l) = ap (λ (t : List C). f (g a) ++ t) (spread-map f g l)
+
+pub spread-lengths : {A B C : Type 0} (f : A → List B) (g : A → List C) (l : List A) → ((a : A) → length (f a) ≡ length (g a)) → length (spread f l) ≡ length (spread g l)
+unfolding spread
+spread-lengths f g [] h = refl
+spread-lengths f g (a ∷ l) h = length-append (f a) (spread f l) ∙ ap₂ (λ (m n : ℕ). m + n) (h a) (spread-lengths f g l h) ∙ sym (length-append (g a) (spread g l))

@@ -90,6 +90,11 @@ mask-in-cons v m ws ms w = go (eqb v w)
 abbrev pub small : List ℕ → Bool
 small ms = every (λ m. ltb m (2 ^ 64)) ms
 
+pub small-is : (ms : List ℕ) → ((k : ℕ) → getD ms k 0 < 2 ^ 64) → small ms ≡ true
+unfolding every
+small-is [] h = refl
+small-is (m ∷ ms) h = and-both (ltb m (2 ^ 64)) (small ms) (lt-ltb m (2 ^ 64) (h 0)) (small-is ms (λ k. h (suc k)))
+
 module _ (cols : ℕ) where
   mask-small : (ws ms : List ℕ) (w : ℕ) → small ms ≡ true → maskIn ws ms w < 2 ^ 64
   unfolding every

@@ -1,52 +1,45 @@
+-- `topology::count_bits` meets its contract. Assumes nothing.
+use Rattle.topology.proofs.ScanLaws.{bits-none, bits-more, bits-done}
+use Rattle.topology.specs.Words.{setBits}
+use lib.ListN.{length, take}
+use Prim.Native.Nat.{_-_, _%_, _^_}
+use mathlib.Core.Path.{_≡_}
 use borrow.Author.Needs.{needs}
 use Rattle.topology.proofs.count_bits.Statement.{statement}
 use Rattle.topology.proofs.count_bits.Tie as tie
-use Rattle.topology.proofs.count_bits.Reads as reads
-use Rattle.topology.proofs.count_bits.Lts as lts
-use Rattle.std.proofs.num.wrapping_add_usize.Reads as wrapping-add-usize-reads
-use Rattle.word.proofs.popcount.Reads as popcount-reads
 
 abbrev Inv-loop : tie.InvT-loop
-Inv-loop masks ones₀ i₀ ones i = ?
+Inv-loop masks ones₀ i₀ ones i = ones ≡ setBits (take i masks) % 2 ^ 64
 
 abbrev μ-loop : tie.MeasureT-loop
-μ-loop masks ones₀ i₀ ones i = ?
+μ-loop masks ones₀ i₀ ones i = length masks - i
 
--- src/lib.rt:173:5
 loop-holds : tie.Need-loop-holds Inv-loop μ-loop
-loop-holds c = search needs
+loop-holds c = search (bits-none, needs)
 
--- src/lib.rt:174:66
 mul-popcount : tie.Need-mul-popcount Inv-loop μ-loop
 mul-popcount c = search needs
 
--- src/lib.rt:174:66
 shared-slice-read-popcount : tie.Need-shared-slice-read-popcount Inv-loop μ-loop
 shared-slice-read-popcount c = search needs
 
--- src/lib.rt:174:51
 popcount-requires : tie.Need-popcount-requires Inv-loop μ-loop
 popcount-requires c κs = search needs
 
--- src/lib.rt:174:9
 wrapping-add-usize-requires : tie.Need-wrapping-add-usize-requires Inv-loop μ-loop
 wrapping-add-usize-requires c κs = search needs
 
--- src/lib.rt:175:9
 add-i : tie.Need-add-i Inv-loop μ-loop
 add-i c = search needs
 
--- src/lib.rt:173:5
 loop-less : tie.Need-loop-less Inv-loop μ-loop
 loop-less c = search needs
 
--- src/lib.rt:173:5
 loop-again : tie.Need-loop-again Inv-loop μ-loop
-loop-again c = search needs
+loop-again c = search (bits-more, needs)
 
--- src/lib.rt:168:1
 returns : tie.Need-returns Inv-loop μ-loop
-returns c = search needs
+returns c = search (bits-done, needs)
 
 pub count-bits-spec : {M : Type 1} → statement M
 count-bits-spec =

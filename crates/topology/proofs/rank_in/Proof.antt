@@ -1,89 +1,75 @@
+-- `topology::rank_in` meets its contract. Assumes nothing.
+use Rattle.topology.proofs.FrontLaws.{Ranking, ranking-none, ranking-more, ranking-fits, ranking-at, ranking-small, ranking-past, ranking-done, placed, at-end}
+use Rattle.topology.proofs.FrontLaws.{Ranking, ranking-none, ranking-more, ranking-fits, ranking-at, ranking-past, ranking-done, placed, at-end}
+use Rattle.topology.proofs.RowLaws.{row-is, small-is}
+use Rattle.topology.specs.Words.{rowMember}
+use lib.ListN.{length}
+use native.Mathlib.Omega.{arith}
+use Prim.Native.Nat.{_-_, _+_, _*_, _%_, _^_, _<_}
+use mathlib.Core.Path.{_≡_, refl, sym, ap, _∙_}
 use borrow.Author.Needs.{needs}
 use Rattle.topology.proofs.rank_in.Statement.{statement}
 use Rattle.topology.proofs.rank_in.Tie as tie
-use Rattle.topology.proofs.rank_in.Reads as reads
-use Rattle.topology.proofs.rank_in.Lts as lts
-use Rattle.hybit_core.proofs.wide.Reads as wide-reads
-use Rattle.word.proofs.ones_below.Reads as ones-below-reads
-use Rattle.word.proofs.popcount.Reads as popcount-reads
 
 abbrev Inv-loop : tie.InvT-loop
-Inv-loop ncols words masks col target rank₀ i₀ rank i = ?
+Inv-loop ncols words masks col target rank₀ i₀ rank i = Ranking (rowMember words masks) ncols col i rank
 
 abbrev μ-loop : tie.MeasureT-loop
-μ-loop ncols words masks col target rank₀ i₀ rank i = ?
+μ-loop ncols words masks col target rank₀ i₀ rank i = length words - i
 
--- src/lib.rt:449:5
 loop-holds : tie.Need-loop-holds Inv-loop μ-loop
-loop-holds c = search needs
+loop-holds c = ranking-none _ _ _
 
--- src/lib.rt:450:38
 mul-wide : tie.Need-mul-wide Inv-loop μ-loop
 mul-wide c = search needs
 
--- src/lib.rt:450:38
 shared-slice-read-wide : tie.Need-shared-slice-read-wide Inv-loop μ-loop
 shared-slice-read-wide c = search needs
 
--- src/lib.rt:450:13
 wide-requires : tie.Need-wide-requires Inv-loop μ-loop
 wide-requires c κs = search needs
 
--- src/lib.rt:452:13
 returns : tie.Need-returns Inv-loop μ-loop
-returns c = search needs
+returns c = ranking-past _ _ _ _ _ (c .before .before .before .before .loop .inv) _ _ (placed _ _ _ _ (row-is _ _ _ (c .before .before .before .before .before .before .before .pre .1 .0) (sym (c .before .before .before .before .before .before .before .pre .0)) (small-is _ (λ j. c .before .before .before .before .before .shared-slice-known2 .given j .fits))) _ _ _ (search needs) (c .before .wide .ensures) refl) (c .before .before .before .before .before .before .before .pre .1 .1) (c .if1 .taken)
 
--- src/lib.rt:455:44
 mul-ones-below : tie.Need-mul-ones-below Inv-loop μ-loop
 mul-ones-below c = search needs
 
--- src/lib.rt:455:44
 shared-slice-read-ones-below : tie.Need-shared-slice-read-ones-below Inv-loop μ-loop
 shared-slice-read-ones-below c = search needs
 
--- src/lib.rt:455:27
 ones-below-requires : tie.Need-ones-below-requires Inv-loop μ-loop
 ones-below-requires c κs = search needs
 
--- src/lib.rt:455:20
 add-result : tie.Need-add-result Inv-loop μ-loop
-add-result c = search needs
+add-result c = let q = ranking-small _ _ _ _ _ (c .before .before .before .before .before .before .before .loop .inv) _ _ (placed _ _ _ _ (row-is _ _ _ (c .before .before .before .before .before .before .before .before .before .before .pre .1 .0) (sym (c .before .before .before .before .before .before .before .before .before .before .pre .0)) (small-is _ (λ j. c .before .before .before .before .before .before .before .before .shared-slice-known2 .given j .fits))) _ _ _ (search needs) (c .before .before .before .before .wide .ensures) refl) (c .before .before .before .before .before .before .before .before .before .before .pre .1 .1) (c .before .before .if2 .taken) in omega (arith, q, c .ones-below .ensures, c .before .before .before .before .before .before .before .before .before .before .fits .col .fits)
 
--- src/lib.rt:455:13
 returns-2 : tie.Need-returns-2 Inv-loop μ-loop
-returns-2 c = search needs
+returns-2 c = ap (λ j. c .before .before .before .before .before .before .before .loop .rank + j) (c .ones-below .ensures) ∙ ranking-at _ _ _ _ _ (c .before .before .before .before .before .before .before .loop .inv) _ _ (placed _ _ _ _ (row-is _ _ _ (c .before .before .before .before .before .before .before .before .before .before .pre .1 .0) (sym (c .before .before .before .before .before .before .before .before .before .before .pre .0)) (small-is _ (λ j. c .before .before .before .before .before .before .before .before .shared-slice-known2 .given j .fits))) _ _ _ (search needs) (c .before .before .before .before .wide .ensures) refl) (c .before .before .before .before .before .before .before .before .before .before .pre .1 .1) (c .before .before .if2 .taken)
 
--- src/lib.rt:457:32
 mul-popcount : tie.Need-mul-popcount Inv-loop μ-loop
 mul-popcount c = search needs
 
--- src/lib.rt:457:32
 shared-slice-read-popcount : tie.Need-shared-slice-read-popcount Inv-loop μ-loop
 shared-slice-read-popcount c = search needs
 
--- src/lib.rt:457:17
 popcount-requires : tie.Need-popcount-requires Inv-loop μ-loop
 popcount-requires c κs = search needs
 
--- src/lib.rt:457:9
 add-rank : tie.Need-add-rank Inv-loop μ-loop
-add-rank c = search needs
+add-rank c = let q = ranking-fits _ _ _ _ _ (c .before .before .before .before .before .before .before .loop .inv) _ _ (placed _ _ _ _ (row-is _ _ _ (c .before .before .before .before .before .before .before .before .before .before .pre .1 .0) (sym (c .before .before .before .before .before .before .before .before .before .before .pre .0)) (small-is _ (λ j. c .before .before .before .before .before .before .before .before .shared-slice-known2 .given j .fits))) _ _ _ (search needs) (c .before .before .before .before .wide .ensures) refl) in omega (arith, q, c .popcount .ensures, c .before .before .before .before .before .before .before .before .before .before .fits .ncols .fits)
 
--- src/lib.rt:458:9
 add-i : tie.Need-add-i Inv-loop μ-loop
 add-i c = search needs
 
--- src/lib.rt:449:5
 loop-less : tie.Need-loop-less Inv-loop μ-loop
 loop-less c = search needs
 
--- src/lib.rt:449:5
 loop-again : tie.Need-loop-again Inv-loop μ-loop
-loop-again c = search needs
+loop-again c = rw (c .popcount .ensures) (ranking-more _ _ _ _ _ (c .before .before .before .before .before .before .before .loop .inv) _ _ (placed _ _ _ _ (row-is _ _ _ (c .before .before .before .before .before .before .before .before .before .before .pre .1 .0) (sym (c .before .before .before .before .before .before .before .before .before .before .pre .0)) (small-is _ (λ j. c .before .before .before .before .before .before .before .before .shared-slice-known2 .given j .fits))) _ _ _ (search needs) (c .before .before .before .before .wide .ensures) refl) (search needs))
 
--- src/lib.rt:442:1
 returns-3 : tie.Need-returns-3 Inv-loop μ-loop
-returns-3 c = search needs
+returns-3 c = ranking-done _ _ _ _ _ (c .before .loop .inv) (c .before .before .before .before .pre .1 .1) (at-end _ _ _ _ (row-is _ _ _ (c .before .before .before .before .pre .1 .0) (sym (c .before .before .before .before .pre .0)) (small-is _ (λ j. c .before .before .shared-slice-known2 .given j .fits))) _ (search needs))
 
 pub rank-in-spec : {M : Type 1} → statement M
 rank-in-spec =

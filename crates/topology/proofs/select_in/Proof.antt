@@ -1,97 +1,82 @@
+-- `topology::select_in` meets its contract. Assumes nothing.
+use Rattle.word.proofs.BelowLaws.{selected-small}
+use Rattle.word.specs.Word.{toldSelect}
+use Rattle.topology.proofs.FrontLaws.{Selecting, selecting-none, selecting-more, selecting-at, selecting-gives, selecting-done, placed, at-end}
+use Rattle.topology.proofs.RowLaws.{row-is, small-is}
+use Rattle.topology.specs.Words.{rowMember}
+use lib.ListN.{length}
+use native.Mathlib.Omega.{arith}
+use Prim.Native.Nat.{_-_, _+_, _*_, _%_, _^_, _<_}
+use mathlib.Core.Path.{_≡_, refl, sym, ap, _∙_}
 use borrow.Author.Needs.{needs}
 use Rattle.topology.proofs.select_in.Statement.{statement}
 use Rattle.topology.proofs.select_in.Tie as tie
-use Rattle.topology.proofs.select_in.Reads as reads
-use Rattle.topology.proofs.select_in.Lts as lts
-use Rattle.hybit_core.proofs.wide.Reads as wide-reads
-use Rattle.word.proofs.popcount.Reads as popcount-reads
-use Rattle.word.proofs.select.Reads as select-reads
 
 abbrev Inv-loop : tie.InvT-loop
-Inv-loop ncols words masks ordinal left₀ i₀ left i = ?
+Inv-loop ncols words masks ordinal left₀ i₀ left i = Selecting (rowMember words masks) ncols ordinal i left
 
 abbrev μ-loop : tie.MeasureT-loop
-μ-loop ncols words masks ordinal left₀ i₀ left i = ?
+μ-loop ncols words masks ordinal left₀ i₀ left i = length words - i
 
--- src/lib.rt:530:5
 loop-holds : tie.Need-loop-holds Inv-loop μ-loop
-loop-holds c = search needs
+loop-holds c = selecting-none _ _ _
 
--- src/lib.rt:531:35
 mul-popcount : tie.Need-mul-popcount Inv-loop μ-loop
 mul-popcount c = search needs
 
--- src/lib.rt:531:35
 shared-slice-read-popcount : tie.Need-shared-slice-read-popcount Inv-loop μ-loop
 shared-slice-read-popcount c = search needs
 
--- src/lib.rt:531:13
 popcount-requires : tie.Need-popcount-requires Inv-loop μ-loop
 popcount-requires c κs = search needs
 
--- src/lib.rt:533:55
 mul-select : tie.Need-mul-select Inv-loop μ-loop
 mul-select c = search needs
 
--- src/lib.rt:533:55
 shared-slice-read-select : tie.Need-shared-slice-read-select Inv-loop μ-loop
 shared-slice-read-select c = search needs
 
--- src/lib.rt:533:42
 select-requires : tie.Need-select-requires Inv-loop μ-loop
 select-requires c κs = search needs
 
--- src/lib.rt:533:32
 enum-known-offset : tie.Need-enum-known-offset Inv-loop μ-loop
 enum-known-offset c = search needs
 
--- src/lib.rt:534:17
 enum-told : tie.Need-enum-told Inv-loop μ-loop
 enum-told c = search needs
 
--- src/lib.rt:534:17
 returns : tie.Need-returns Inv-loop μ-loop
-returns c = search needs
+returns c = selecting-gives _ _ _ _ _ (c .before .before .before .before .before .before .before .before .loop .inv) _ _ (placed _ _ _ _ (row-is _ _ _ (c .before .before .before .before .before .before .before .before .before .before .before .pre .1) (sym (c .before .before .before .before .before .before .before .before .before .before .before .pre .0)) (small-is _ (λ j. c .before .before .before .before .before .before .before .before .before .shared-slice-known2 .given j .fits))) _ _ _ (search needs) refl refl) (sym (ap toldSelect (c .enum-told .given .1)) ∙ c .before .before .select .ensures) (rw (← c .before .before .before .before .before .popcount .ensures) (c .before .before .before .before .if1 .taken))
 
--- src/lib.rt:536:57
 mul-wide : tie.Need-mul-wide Inv-loop μ-loop
 mul-wide c = search needs
 
--- src/lib.rt:536:57
 shared-slice-read-wide : tie.Need-shared-slice-read-wide Inv-loop μ-loop
 shared-slice-read-wide c = search needs
 
--- src/lib.rt:536:40
 wide-requires : tie.Need-wide-requires Inv-loop μ-loop
 wide-requires c κs = search needs
 
--- src/lib.rt:536:35
 mul-t20 : tie.Need-mul-t20 Inv-loop μ-loop
-mul-t20 c = search needs
+mul-t20 c = let h = c .before .shared-slice-known5 .given (c .before .before .before .before .before .before .before .before .before .before .before .loop .i) .fits in omega (arith, h, c .wide .ensures)
 
--- src/lib.rt:536:35
 add-t21 : tie.Need-add-t21 Inv-loop μ-loop
-add-t21 c = search needs
+add-t21 c = let e = sym (ap toldSelect (c .before .before .before .offset .given .1)) ∙ c .before .before .before .before .before .select .ensures in let h = c .before .shared-slice-known5 .given (c .before .before .before .before .before .before .before .before .before .before .before .loop .i) .fits in omega (arith, h, c .wide .ensures, selected-small _ _ _ _ e)
 
--- src/lib.rt:536:13
 returns-2 : tie.Need-returns-2 Inv-loop μ-loop
-returns-2 c = search needs
+returns-2 c = let e = sym (ap toldSelect (c .before .before .before .offset .given .1)) ∙ c .before .before .before .before .before .select .ensures in selecting-at _ _ _ _ _ (c .before .before .before .before .before .before .before .before .before .before .before .loop .inv) _ _ (placed _ _ _ _ (row-is _ _ _ (c .before .before .before .before .before .before .before .before .before .before .before .before .before .before .pre .1) (sym (c .before .before .before .before .before .before .before .before .before .before .before .before .before .before .pre .0)) (small-is _ (λ j. c .before .before .before .before .before .before .before .before .before .before .before .before .shared-slice-known2 .given j .fits))) _ _ _ (search needs) (c .wide .ensures) refl) _ e (rw (← c .before .before .before .before .before .before .before .before .popcount .ensures) (c .before .before .before .before .before .before .before .if1 .taken))
 
--- src/lib.rt:539:9
 add-i : tie.Need-add-i Inv-loop μ-loop
 add-i c = search needs
 
--- src/lib.rt:530:5
 loop-less : tie.Need-loop-less Inv-loop μ-loop
 loop-less c = search needs
 
--- src/lib.rt:530:5
 loop-again : tie.Need-loop-again Inv-loop μ-loop
-loop-again c = search needs
+loop-again c = rw (c .before .popcount .ensures) (selecting-more _ _ _ _ _ (c .before .before .before .before .loop .inv) _ _ (placed _ _ _ _ (row-is _ _ _ (c .before .before .before .before .before .before .before .pre .1) (sym (c .before .before .before .before .before .before .before .pre .0)) (small-is _ (λ j. c .before .before .before .before .before .shared-slice-known2 .given j .fits))) _ _ _ (search needs) refl refl) (search needs))
 
--- src/lib.rt:524:1
 returns-3 : tie.Need-returns-3 Inv-loop μ-loop
-returns-3 c = search needs
+returns-3 c = selecting-done _ _ _ _ _ (c .before .loop .inv) (at-end _ _ _ _ (row-is _ _ _ (c .before .before .before .before .pre .1) (sym (c .before .before .before .before .pre .0)) (small-is _ (λ j. c .before .before .shared-slice-known2 .given j .fits))) _ (search needs))
 
 pub select-in-spec : {M : Type 1} → statement M
 select-in-spec =

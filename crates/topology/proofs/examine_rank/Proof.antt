@@ -1,0 +1,28 @@
+-- `topology::examine_rank` meets its contract. Assumes nothing.
+use Rattle.hybit_core.proofs.AnswerLaws.{checks}
+use Rattle.hybit_core.proofs.BoolLaws.{tests}
+use borrow.Author.Needs.{needs}
+use Rattle.topology.proofs.examine_rank.Statement.{statement}
+use Rattle.topology.proofs.examine_rank.Tie as tie
+
+check-row-requires : tie.Need-check-row-requires
+check-row-requires c κs = search needs
+
+enum-known-v : tie.Need-enum-known-v
+enum-known-v c = search needs
+
+returns : tie.Need-returns
+returns c = search (checks, tests, needs)
+
+enum-told : tie.Need-enum-told
+enum-told c = search needs
+
+returns-2 : tie.Need-returns-2
+returns-2 c = search (checks, tests, needs)
+
+returns-3 : tie.Need-returns-3
+returns-3 c = search (checks, tests, needs)
+
+pub examine-rank-spec : {M : Type 1} → statement M
+examine-rank-spec =
+    tie.close (tie.spec check-row-requires enum-known-v returns enum-told returns-2 returns-3)

@@ -504,19 +504,19 @@ def drawn(seed, count):
     return words
 
 
-def generated(case, n, cols, entries, most, keep, seed, whole):
-    lengths = [w % most for w in drawn(seed, n)]
+def generated(case, cols, keep, seed, whole):
+    n, entries = 200, 3000
+    lengths = [w % 40 for w in drawn(seed, n)]
     ptr = [min(sum(lengths[:r]), entries) for r in range(n + 1)]
-    assert ptr[-1] == entries
     col = [(w & keep) % cols for w in drawn(drawn(seed, 1)[0], entries)]
     val = [(0.0, -0.0, 1.5, -1.5)[i % 4] for i in range(entries)]
     return build(case, whole, n, cols, ptr, col, val)
 
 
-def matrices(n, cols, entries, most, keep, room):
-    a = generated("first", n, cols, entries, most, keep, 0x123456789ABCDEF1, (n + 3, room, room))
-    b = generated("second", n, cols, entries, most, keep, 0x9E3779B97F4A7C15, (n + 2, room, room + 1))
-    whole = (n + 3, 2 * room - 2, 2 * room - 2)
+def matrices(cols, keep):
+    a = generated("first", cols, keep, 0x123456789ABCDEF1, (203, 3002, 3002))
+    b = generated("second", cols, keep, 0x9E3779B97F4A7C15, (202, 3002, 3003))
+    whole = (203, 6002, 6002)
     pair("generated", a, b, whole)
     pair("swapped", b, a, whole)
     pair("itself", a, a, whole)
@@ -540,7 +540,7 @@ records()
 builds()
 pairs()
 all_places()
-matrices(20, 300, 500, 80, ONES, 102)
-matrices(40, DIMENSION, 1200, 80, ONES, 1202)
-matrices(200, 5000, 3000, 40, 0x0C00000000000C3F, 3002)
+matrices(300, ONES)
+matrices(5000, 0x0C00000000000C3F)
+matrices(DIMENSION, ONES)
 largest()

@@ -894,7 +894,8 @@ fn built(
     n: usize,
     total: usize,
 ) {
-    if p.len() <= nrows {
+    let r = after(nrows);
+    if p.len() < r {
         return;
     }
     if w.len() < n {
@@ -903,8 +904,8 @@ fn built(
     if m.len() < n {
         return;
     }
-    record(case, nrows, ncols, &p[..nrows + 1], &w[..n], &m[..n], total);
-    rows(case, nrows, ncols, &p[..nrows + 1], &w[..n], &m[..n], total);
+    record(case, nrows, ncols, &p[..r], &w[..n], &m[..n], total);
+    rows(case, nrows, ncols, &p[..r], &w[..n], &m[..n], total);
 }
 
 fn build(
@@ -1791,35 +1792,25 @@ fn make_values(val: &mut [f64]) {
     }
 }
 
+// 3,000 entries in 200 rows.
 fn generated(
     case: &[u8],
-    nrows: usize,
     ncols: u64,
-    entries: u32,
-    most: u64,
     keep: u64,
     seed: u64,
-    ptr: &mut [u32],
-    col: &mut [u32],
-    val: &mut [f64],
     p: &mut [u32],
     w: &mut [u32],
     m: &mut [u64],
 ) -> TopologyAnswer {
-    make_pointers(ptr, entries, most, seed);
-    make_columns(col, ncols, keep, next(seed));
-    make_values(val);
-    let a = build_rooms(case, nrows, ncols as usize, ptr, col, val, p, w, m);
-    built(
-        case,
-        nrows,
-        ncols as usize,
-        p,
-        w,
-        m,
-        words_in(a),
-        ones_in(a),
-    );
+    let mut ptr = [0u32; 201];
+    let mut col = [0u32; 3000];
+    let mut val = [0.0f64; 3000];
+    make_pointers(&mut ptr, 3000, 40, seed);
+    make_columns(&mut col, ncols, keep, next(seed));
+    make_values(&mut val);
+    let n = ncols as usize;
+    let a = build_rooms(case, 200, n, &ptr, &col, &val, p, w, m);
+    built(case, 200, n, p, w, m, words_in(a), ones_in(a));
     a
 }
 
@@ -1886,14 +1877,15 @@ fn used_pair(
     w: &mut [u32],
     m: &mut [u64],
 ) {
-    if ap.len() <= nrows {
+    let r = after(nrows);
+    if ap.len() < r {
         return;
     }
-    if bp.len() <= nrows {
+    if bp.len() < r {
         return;
     }
-    let x = &ap[..nrows + 1];
-    let y = &bp[..nrows + 1];
+    let x = &ap[..r];
+    let y = &bp[..r];
     pair(
         b"generated",
         nrows,
@@ -1930,100 +1922,7 @@ fn used_pair(
 }
 
 // Two generated plot lists of one frame, and their set operations.
-fn matrices(
-    nrows: usize,
-    ncols: u64,
-    entries: u32,
-    most: u64,
-    keep: u64,
-    ptr: &mut [u32],
-    col: &mut [u32],
-    val: &mut [f64],
-    ap: &mut [u32],
-    aw: &mut [u32],
-    am: &mut [u64],
-    bp: &mut [u32],
-    bw: &mut [u32],
-    bm: &mut [u64],
-    p: &mut [u32],
-    w: &mut [u32],
-    m: &mut [u64],
-) {
-    let one = 0x123456789abcdef1;
-    let two = 0x9e3779b97f4a7c15;
-    let a = generated(
-        b"first",
-        nrows,
-        ncols,
-        entries,
-        most,
-        keep,
-        one,
-        ptr,
-        col,
-        val,
-        ap,
-        aw,
-        am,
-    );
-    let b = generated(
-        b"second",
-        nrows,
-        ncols,
-        entries,
-        most,
-        keep,
-        two,
-        ptr,
-        col,
-        val,
-        bp,
-        bw,
-        bm,
-    );
-    built_pair(nrows, ncols as usize, ap, aw, am, a, bp, bw, bm, b, p, w, m);
-}
-
-// Many columns of few words.
-fn narrow_matrices() {
-    let mut ptr = [0u32; 21];
-    let mut col = [0u32; 500];
-    let mut val = [0.0f64; 500];
-    let mut ap = [0u32; 23];
-    let mut aw = [0u32; 102];
-    let mut am = [0u64; 102];
-    let mut bp = [0u32; 22];
-    let mut bw = [0u32; 102];
-    let mut bm = [0u64; 103];
-    let mut p = [0u32; 23];
-    let mut w = [0u32; 202];
-    let mut m = [0u64; 202];
-    matrices(
-        20,
-        300,
-        500,
-        80,
-        ONES,
-        &mut ptr,
-        &mut col,
-        &mut val,
-        &mut ap,
-        &mut aw,
-        &mut am,
-        &mut bp,
-        &mut bw,
-        &mut bm,
-        &mut p,
-        &mut w,
-        &mut m,
-    );
-}
-
-// 5,000 columns, which is no whole number of words. Of a drawn word ten bits count, so columns share words.
-fn middle_matrices() {
-    let mut ptr = [0u32; 201];
-    let mut col = [0u32; 3000];
-    let mut val = [0.0f64; 3000];
+fn matrices(ncols: u64, keep: u64) {
     let mut ap = [0u32; 203];
     let mut aw = [0u32; 3002];
     let mut am = [0u64; 3002];
@@ -2033,60 +1932,34 @@ fn middle_matrices() {
     let mut p = [0u32; 203];
     let mut w = [0u32; 6002];
     let mut m = [0u64; 6002];
-    matrices(
+    let one = 0x123456789abcdef1;
+    let two = 0x9e3779b97f4a7c15;
+    let a = generated(b"first", ncols, keep, one, &mut ap, &mut aw, &mut am);
+    let b = generated(b"second", ncols, keep, two, &mut bp, &mut bw, &mut bm);
+    let n = ncols as usize;
+    built_pair(
         200,
-        5000,
-        3000,
-        40,
-        0x0c00000000000c3f,
-        &mut ptr,
-        &mut col,
-        &mut val,
-        &mut ap,
-        &mut aw,
-        &mut am,
-        &mut bp,
-        &mut bw,
-        &mut bm,
+        n,
+        &ap,
+        &aw,
+        &am,
+        a,
+        &bp,
+        &bw,
+        &bm,
+        b,
         &mut p,
         &mut w,
         &mut m,
     );
 }
 
-// As many columns as there can be.
-fn wide_matrices() {
-    let mut ptr = [0u32; 41];
-    let mut col = [0u32; 1200];
-    let mut val = [0.0f64; 1200];
-    let mut ap = [0u32; 43];
-    let mut aw = [0u32; 1202];
-    let mut am = [0u64; 1202];
-    let mut bp = [0u32; 42];
-    let mut bw = [0u32; 1202];
-    let mut bm = [0u64; 1203];
-    let mut p = [0u32; 43];
-    let mut w = [0u32; 2402];
-    let mut m = [0u64; 2402];
-    matrices(
-        40,
-        1048576,
-        1200,
-        80,
-        ONES,
-        &mut ptr,
-        &mut col,
-        &mut val,
-        &mut ap,
-        &mut aw,
-        &mut am,
-        &mut bp,
-        &mut bw,
-        &mut bm,
-        &mut p,
-        &mut w,
-        &mut m,
-    );
+// Few words; 5,000 columns, which is no whole number of words, of which ten bits of a drawn word choose one, so that columns
+// share words; as many columns as there can be.
+fn generated_matrices() {
+    matrices(300, ONES);
+    matrices(5000, 0x0c00000000000c3f);
+    matrices(1048576, ONES);
 }
 
 // Rows without words, with a pointer for each of the most rows of all, and for one more. No output list has room for so many.
@@ -2206,8 +2079,6 @@ fn main() {
     builds();
     pairs();
     all_places();
-    narrow_matrices();
-    wide_matrices();
-    middle_matrices();
+    generated_matrices();
     largest();
 }

@@ -1,7 +1,6 @@
 -- `topology_test::every_ordinal` meets its contract. Assumes nothing.
 use borrow.Author.Needs.{needs}
 use Prim.Native.Nat.{_≤_, _-_}
-use lib.Seq.{length-take-le}
 use Rattle.topology_test.proofs.every_ordinal.Statement.{statement}
 use Rattle.topology_test.proofs.every_ordinal.Tie as tie
 
@@ -12,7 +11,7 @@ abbrev μ-loop : tie.MeasureT-loop
 μ-loop nrows ncols ptr word mask total row k₀ k = 132 - k
 
 slice-aggregate-text : tie.Need-slice-aggregate-text Inv-loop μ-loop
-slice-aggregate-text c = search (length-take-le, needs)
+slice-aggregate-text c = search needs
 
 text-requires : tie.Need-text-requires Inv-loop μ-loop
 text-requires c κs = search needs
@@ -21,7 +20,7 @@ size-requires : tie.Need-size-requires Inv-loop μ-loop
 size-requires c κs = search needs
 
 slice-aggregate-text-2 : tie.Need-slice-aggregate-text-2 Inv-loop μ-loop
-slice-aggregate-text-2 c = search (length-take-le, needs)
+slice-aggregate-text-2 c = search needs
 
 text-requires-2 : tie.Need-text-requires-2 Inv-loop μ-loop
 text-requires-2 c κs = search needs

@@ -4,7 +4,6 @@ use mathlib.Core.Path.{_≡_, sym}
 use mathlib.Core.Bool.{true, not, true≢false}
 use lib.Dec.{T}
 use lib.Ieee.{Float, nan, inf, fin, eq, isNan}
-use lib.Seq.{length-take-le}
 use Rattle.topology_test.proofs.float.Statement.{statement}
 use Rattle.topology_test.proofs.float.Tie as tie
 
@@ -21,7 +20,7 @@ bits-requires : tie.Need-bits-requires
 bits-requires c κs = search needs
 
 slice-aggregate-text : tie.Need-slice-aggregate-text
-slice-aggregate-text c = search (length-take-le, needs)
+slice-aggregate-text c = search needs
 
 text-requires : tie.Need-text-requires
 text-requires c κs = search needs

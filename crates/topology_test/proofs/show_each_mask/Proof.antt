@@ -2,7 +2,6 @@
 use borrow.Author.Needs.{needs}
 use Prim.Native.Nat.{_≤_, _-_}
 use lib.ListN.{length}
-use lib.Seq.{length-take-le}
 use Rattle.topology_test.proofs.show_each_mask.Statement.{statement}
 use Rattle.topology_test.proofs.show_each_mask.Tie as tie
 
@@ -13,7 +12,7 @@ abbrev μ-loop : tie.MeasureT-loop
 μ-loop s i₀ t4 i = length s - i
 
 slice-aggregate-text : tie.Need-slice-aggregate-text Inv-loop μ-loop
-slice-aggregate-text c = search (length-take-le, needs)
+slice-aggregate-text c = search needs
 
 text-requires : tie.Need-text-requires Inv-loop μ-loop
 text-requires c κs = search needs
@@ -40,7 +39,7 @@ loop-again : tie.Need-loop-again Inv-loop μ-loop
 loop-again c = search needs
 
 slice-aggregate-text-2 : tie.Need-slice-aggregate-text-2 Inv-loop μ-loop
-slice-aggregate-text-2 c = search (length-take-le, needs)
+slice-aggregate-text-2 c = search needs
 
 text-requires-2 : tie.Need-text-requires-2 Inv-loop μ-loop
 text-requires-2 c κs = search needs

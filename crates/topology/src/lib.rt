@@ -526,17 +526,19 @@ fn select_in(ncols: usize, words: &[u32], masks: &[u64], ordinal: usize) -> Word
     ensures { λ r. ⌜ toldSelect r ≡ selected (rowMember (now (words .entry)) (now (masks .entry))) ncols ordinal ⌝ }
 {
     let mut left = ordinal;
-    let mut i: usize = 0;
-    while i < words.len() {
-        let ones = word::popcount(masks[i]);
+    let mut k: usize = 0;
+    while k < words.len() {
+        let ones = word::popcount(masks[k]);
         if left < ones {
-            let WordSelect::At(offset) = word::select(masks[i], left) else {
+            let WordSelect::At(offset) = word::select(masks[k], left) else {
                 return WordSelect::Nothing;
             };
-            return WordSelect::At(64 * hybit_core::wide(words[i]) + offset);
+            let base = 64 * hybit_core::wide(words[k]);
+            let col = base + offset;
+            return WordSelect::At(col);
         }
         left -= ones;
-        i += 1;
+        k += 1;
     }
     WordSelect::Nothing
 }

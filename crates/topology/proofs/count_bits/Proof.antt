@@ -1,4 +1,3 @@
--- `topology::count_bits` meets its contract. Assumes nothing.
 use Rattle.topology.proofs.ScanLaws.{bits-none, bits-more, bits-done}
 use Rattle.topology.specs.Words.{setBits}
 use lib.ListN.{length, take}
@@ -36,7 +35,7 @@ loop-less : tie.Need-loop-less Inv-loop μ-loop
 loop-less c = search needs
 
 loop-again : tie.Need-loop-again Inv-loop μ-loop
-loop-again c = search (bits-more, needs)
+loop-again c = bits-more _ (c .before .before .before .before .loop .i) _ _ _ (search needs) (c .before .before .before .before .loop .inv) (c .before .popcount .ensures) (c .wrapping-add-usize .ensures)
 
 returns : tie.Need-returns Inv-loop μ-loop
 returns c = search (bits-done, needs)

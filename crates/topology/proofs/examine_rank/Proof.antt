@@ -1,4 +1,5 @@
--- `topology::examine_rank` meets its contract. Assumes nothing.
+use Rattle.hybit_core.proofs.BoolLaws.{is-within, is-above}
+use Rattle.hybit_core.proofs.AnswerLaws.{call-accepted, last-fails, last-passes}
 use Rattle.hybit_core.proofs.AnswerLaws.{checks}
 use Rattle.hybit_core.proofs.BoolLaws.{tests}
 use borrow.Author.Needs.{needs}
@@ -18,10 +19,10 @@ enum-told : tie.Need-enum-told
 enum-told c = search needs
 
 returns-2 : tie.Need-returns-2
-returns-2 c = search (checks, tests, needs)
+returns-2 c = call-accepted _ _ _ _ (c .before .before .before .check-row .ensures) (c .before .enum-told .given .1) (last-fails _ 7 (is-above _ _ (c .if1 .taken)))
 
 returns-3 : tie.Need-returns-3
-returns-3 c = search (checks, tests, needs)
+returns-3 c = call-accepted _ _ _ _ (c .before .before .before .check-row .ensures) (c .before .enum-told .given .1) (last-passes _ 7 (is-within _ _ (c .if1 .left)))
 
 pub examine-rank-spec : {M : Type 1} → statement M
 examine-rank-spec =

@@ -1,4 +1,3 @@
--- `topology::masks_of` meets its contract. Assumes nothing.
 use Rattle.lent.proofs.ListLaws.{part-lent}
 use borrow.Author.Needs.{needs}
 use Rattle.topology.proofs.masks_of.Statement.{statement}
@@ -38,7 +37,7 @@ part-result-end : tie.Need-part-result-end
 part-result-end c = search needs
 
 returns : tie.Need-returns
-returns c = search (part-lent, needs)
+returns c = part-lent _ _ _ _ _ (c .before .before .before .wide .ensures) (c .before .wide2 .ensures)
 
 pub masks-of-spec : {M : Type 1} → statement M
 masks-of-spec =

@@ -30,7 +30,7 @@ wide-requires : tie.Need-wide-requires Inv-loop μ-loop
 wide-requires c κs = search needs
 
 returns : tie.Need-returns Inv-loop μ-loop
-returns c = row-falls _ _ _ _ _ (c .before .before .before .before .loop .inv) (c .before .before .before .before .before .before .before .pre) (search needs) _ _ (c .before .wide .ensures) refl (c .if1 .taken)
+returns c = row-falls _ _ _ _ _ (c .before .before .before .before .loop .inv) (c .before .before .before .before .before .before .before .pre) (search needs) _ _ (c .before .wide .ensures) refl (search needs)
 
 mul-word-holds : tie.Need-mul-word-holds Inv-loop μ-loop
 mul-word-holds c = search needs

@@ -13,10 +13,10 @@ use Rattle.topology.proofs.select_in.Statement.{statement}
 use Rattle.topology.proofs.select_in.Tie as tie
 
 abbrev Inv-loop : tie.InvT-loop
-Inv-loop ncols words masks ordinal left₀ i₀ left i = Selecting (rowMember words masks) ncols ordinal i left
+Inv-loop ncols words masks ordinal left₀ k₀ left k = Selecting (rowMember words masks) ncols ordinal k left
 
 abbrev μ-loop : tie.MeasureT-loop
-μ-loop ncols words masks ordinal left₀ i₀ left i = length words - i
+μ-loop ncols words masks ordinal left₀ k₀ left k = length words - k
 
 loop-holds : tie.Need-loop-holds Inv-loop μ-loop
 loop-holds c = selecting-none _ _ _
@@ -57,17 +57,17 @@ shared-slice-read-wide c = search needs
 wide-requires : tie.Need-wide-requires Inv-loop μ-loop
 wide-requires c κs = search needs
 
-mul-t20 : tie.Need-mul-t20 Inv-loop μ-loop
-mul-t20 c = let h = c .before .shared-slice-known5 .given (c .before .before .before .before .before .before .before .before .before .before .before .loop .i) .fits in omega (arith, h, c .wide .ensures)
+mul-base : tie.Need-mul-base Inv-loop μ-loop
+mul-base c = let h = c .before .shared-slice-known5 .given (c .before .before .before .before .before .before .before .before .before .before .before .loop .k) .fits in omega (arith, h, c .wide .ensures)
 
-add-t21 : tie.Need-add-t21 Inv-loop μ-loop
-add-t21 c = let e = sym (ap toldSelect (c .before .before .before .offset .given .1)) ∙ c .before .before .before .before .before .select .ensures in let h = c .before .shared-slice-known5 .given (c .before .before .before .before .before .before .before .before .before .before .before .loop .i) .fits in omega (arith, h, c .wide .ensures, selected-small _ _ _ _ e)
+add-col : tie.Need-add-col Inv-loop μ-loop
+add-col c = let e = sym (ap toldSelect (c .before .before .before .offset .given .1)) ∙ c .before .before .before .before .before .select .ensures in let h = c .before .shared-slice-known5 .given (c .before .before .before .before .before .before .before .before .before .before .before .loop .k) .fits in omega (arith, h, c .wide .ensures, selected-small _ _ _ _ e)
 
 returns-2 : tie.Need-returns-2 Inv-loop μ-loop
 returns-2 c = let e = sym (ap toldSelect (c .before .before .before .offset .given .1)) ∙ c .before .before .before .before .before .select .ensures in selecting-at _ _ _ _ _ (c .before .before .before .before .before .before .before .before .before .before .before .loop .inv) _ _ (placed _ _ _ _ (row-is _ _ _ (c .before .before .before .before .before .before .before .before .before .before .before .before .before .before .pre .1) (sym (c .before .before .before .before .before .before .before .before .before .before .before .before .before .before .pre .0)) (small-is _ (λ j. c .before .before .before .before .before .before .before .before .before .before .before .before .shared-slice-known2 .given j .fits))) _ _ _ (search needs) (c .wide .ensures) refl) _ e (rw (← c .before .before .before .before .before .before .before .before .popcount .ensures) (c .before .before .before .before .before .before .before .if1 .taken))
 
-add-i : tie.Need-add-i Inv-loop μ-loop
-add-i c = search needs
+add-k : tie.Need-add-k Inv-loop μ-loop
+add-k c = search needs
 
 loop-less : tie.Need-loop-less Inv-loop μ-loop
 loop-less c = search needs
@@ -97,10 +97,10 @@ select-in-spec =
     mul-wide
     shared-slice-read-wide
     wide-requires
-    mul-t20
-    add-t21
+    mul-base
+    add-col
     returns-2
-    add-i
+    add-k
     loop-less
     loop-again
     returns-3)

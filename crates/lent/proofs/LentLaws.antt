@@ -5,7 +5,7 @@ use Prim.Native.Nat.{ℕ, zero, suc, _+_, _-_, _≤_, _<_}
 use native.Mathlib.Nat.{sub-zero, add-zero}
 use native.Mathlib.Numerals.{add-one}
 use native.Mathlib.Omega.{arith}
-use lib.ListN.{List·getD-append, length, take, drop, getD, set, replicate, length-append, length-replicate, length-set, length-drop, drop-of-length-le, replicate-append-replicate}
+use lib.ListN.{List·getD-append, length, take, drop, getD, set, replicate, length-append, length-replicate, length-set, length-drop, drop-of-length-le, take-append-drop, replicate-append-replicate}
 use lib.Seq.{getD-drop, getD-append-add, take-all, take-at, take-suc-set, length-take-le, drop-cons, set-at, append-snoc}
 use Rattle.hybit_core.specs.Answer.{Answer, accepted, refused}
 use Rattle.hybit_core.specs.Table.{paper, told}
@@ -15,7 +15,7 @@ use Rattle.hybit_core.specs.declared.HybitError.{HybitError}
 use Rattle.hybit_core.proofs.AnswerLaws.{accepted-by, refused-by}
 use Rattle.lent.specs.Lists.{joined, each}
 use Rattle.lent.specs.Lent.{padded, built, kept, handed, Appended}
-use Rattle.lent.proofs.ListLaws.{length-each}
+use Rattle.lent.proofs.ListLaws.{length-each, part-mid}
 
 -- ---- padded
 
@@ -155,6 +155,13 @@ module _ {A : Type 0} where
     list = b .list ∙ ap (λ (t : List A). t ++ more) (a .list) ∙ append-assoc (take from old) new more;
   }
 
+  -- one place more
+  pub appended-snoc : (new : List A) (from to : ℕ) (old out : List A) (v : A) → Appended new from to old out → to < length out → Appended (new ++ (v ∷ [])) from (to + 1) old (set out to v)
+  appended-snoc new from to old out v a h = record {
+    next = omega (arith, a .next, length-append new (v ∷ []));
+    list = ap (λ (n : ℕ). take n (set out to v)) (add-one to) ∙ take-suc-set out to v h ∙ ap (λ (t : List A). t ++ (v ∷ [])) (a .list) ∙ append-assoc (take from old) new (v ∷ []);
+  }
+
   -- written from 0 on, and cleared past it
   pub appended-cleared : (z : A) (new : List A) (to : ℕ) (old out last : List A) → Appended new 0 to old out → length out ≡ length old → last ≡ padded z (length out) (take to out) → last ≡ padded z (length old) new
   appended-cleared z new to old out last a s e = e ∙ ap₂ (λ (n : ℕ) (l : List A). padded z n l) s (a .list)
@@ -175,3 +182,9 @@ module _ {A : Type 0} where
   built-accepted z n a v new out h k r = rw (accepted-by a v h k) r
 
 pub ruleset lists = (kept-refused, kept-accepted, built-refused, built-accepted)
+
+-- ---- what was written, as a part of the list
+
+pub appended-part : {A : Type 0} (new : List A) (from to : ℕ) (old out : List A) → Appended new from to old out → from ≤ length old → take (to - from) (drop from out) ≡ new
+appended-part {A} new from to old out a h =
+    part-mid from to (take from old) new (drop to out) out (sym (take-append-drop to out) ∙ ap (λ (t : List A). t ++ drop to out) (a .list)) (length-take-le from old h) (a .next)

@@ -335,6 +335,35 @@ some-snoc p (b ∷ l) a = ap (λ (t : Bool). p b || t) (some-snoc p l a) ∙ sym
     or-assoc true t u = refl
     or-assoc false t u = refl
 
+-- ---- tests of a list in two parts, and of one of its elements
+
+module _ {A : Type 0} (p : A → Bool) where
+  pub every-front : (l m : List A) → every p (l ++ m) ≡ true → every p l ≡ true
+  unfolding every
+  every-front [] m e = refl
+  every-front (a ∷ l) m e = and-both (p a) (every p l) (and-left (p a) (every p (l ++ m)) e) (every-front l m (and-right (p a) (every p (l ++ m)) e))
+
+  pub every-back : (l m : List A) → every p (l ++ m) ≡ true → every p m ≡ true
+  unfolding every
+  every-back [] m e = e
+  every-back (a ∷ l) m e = every-back l m (and-right (p a) (every p (l ++ m)) e)
+
+  pub some-getD : (l : List A) (k : ℕ) (d : A) → k < length l → p (getD l k d) ≡ true → some p l ≡ true
+  unfolding some
+  some-getD [] k d h e = absurd (not-suc-le-zero h)
+  some-getD (a ∷ l) zero d h e = ap (λ (t : Bool). t || some p l) e
+  some-getD (a ∷ l) (suc k) d h e = ap (λ (t : Bool). p a || t) (some-getD l k d (omega arith) e) ∙ or-true (p a)
+    where
+      or-true : (t : Bool) → (t || true) ≡ true
+      or-true true = refl
+      or-true false = refl
+
+-- the places from a to b, as a part of a list in three parts
+pub part-mid : {A : Type 0} (a b : ℕ) (front mid rest l : List A) → l ≡ (front ++ mid) ++ rest → length front ≡ a → b ≡ a + length mid → take (b - a) (drop a l) ≡ mid
+part-mid {A} a b front mid rest l e h k =
+    ap (λ (t : List A). take (b - a) (drop a t)) (e ∙ append-assoc front mid rest)
+    ∙ ap (take (b - a)) (drop-at front (mid ++ rest) a h) ∙ take-at mid rest (b - a) (omega arith)
+
 -- ---- spread
 
 pub spread-map : {A B C : Type 0} (f : B → List C) (g : A → B) (l : List A) → spread f (map g l) ≡ spread (λ a. f (g a)) l

@@ -129,7 +129,7 @@ pub record Setting (n : ℕ) (is : List ℕ) (old : List ℕ) (k : ℕ) (ws : Li
   pub inside : k ≤ length is
   pub list : ws ≡ padded 0 (length old) (maskWords (listed (take k is)) n)
 
-empty-words : (n : ℕ) → maskWords (λ c. false) n ≡ replicate (ceil64 n) 0
+pub empty-words : (n : ℕ) → maskWords (λ c. false) n ≡ replicate (ceil64 n) 0
 unfolding maskWords maskOf
 empty-words n = each-cong (λ w. wordOf (λ i. within n (λ c. false) (64 * w + i))) (λ w. 0) (ceil64 n) (λ w h. none w) ∙ each-same 0 (ceil64 n)
   where

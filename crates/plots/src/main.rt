@@ -4,6 +4,9 @@ use hybit_core::BoolAnswer;
 use hybit_core::CountAnswer;
 use hybit_core::HybitError;
 use hybit_core::Verdict;
+use topology::SelectAnswer;
+use topology::StatsAnswer;
+use topology::TopologyAnswer;
 use word::Operation;
 use word::WordSelect;
 
@@ -148,6 +151,171 @@ fn show_mask(plots: &[usize], words: &mut [u64], members: &mut [usize]) {
     text(b"\n");
 }
 
+fn show_u32(numbers: &[u32]) {
+    let mut k: usize = 0;
+    while k < numbers.len() {
+        number(numbers[k] as u64);
+        k += 1;
+    }
+}
+
+fn topology_answer(a: TopologyAnswer) {
+    match a {
+        TopologyAnswer::Built {
+            words,
+            structural_nnz,
+        } => {
+            text(b" words");
+            size(words);
+            text(b", ones");
+            size(structural_nnz);
+        }
+        TopologyAnswer::Refused(e) => refused(e),
+    }
+}
+
+fn show_lists(ptr: &[u32], words: &[u32], masks: &[u64]) {
+    text(b", pointers");
+    show_u32(ptr);
+    text(b", numbers");
+    show_u32(words);
+    text(b", masks");
+    show_words(masks);
+    text(b"\n");
+}
+
+// The words of one row of 70 columns.
+fn show_row(
+    row_ptr: &[u32],
+    cols: &[u32],
+    values: &[f64],
+    ptr: &mut [u32],
+    words: &mut [u32],
+    masks: &mut [u64],
+) {
+    text(b"row");
+    show_u32(cols);
+    text(b" of 70:");
+    topology_answer(topology_build::from_csr32(1, 70, row_ptr, cols, values, ptr, words, masks));
+    show_lists(ptr, words, masks);
+}
+
+fn show_rank(ptr: &[u32], words: &[u32], masks: &[u64], col: usize) {
+    count_answer(topology::row_rank(1, 70, ptr, words, masks, 3, 0, col));
+}
+
+fn show_ranks(ptr: &[u32], words: &[u32], masks: &[u64]) {
+    text(b"ranks at 0 4 64 65 70 71:");
+    show_rank(ptr, words, masks, 0);
+    show_rank(ptr, words, masks, 4);
+    show_rank(ptr, words, masks, 64);
+    show_rank(ptr, words, masks, 65);
+    show_rank(ptr, words, masks, 70);
+    show_rank(ptr, words, masks, 71);
+    text(b"\n");
+}
+
+fn show_select(ptr: &[u32], words: &[u32], masks: &[u64], ordinal: usize) {
+    match topology::row_select(1, 70, ptr, words, masks, 3, 0, ordinal) {
+        SelectAnswer::At(c) => size(c),
+        SelectAnswer::Nothing => text(b" Nothing"),
+        SelectAnswer::Refused(e) => refused(e),
+    }
+}
+
+fn show_selects(ptr: &[u32], words: &[u32], masks: &[u64]) {
+    text(b"selects 0 1 2 3:");
+    show_select(ptr, words, masks, 0);
+    show_select(ptr, words, masks, 1);
+    show_select(ptr, words, masks, 2);
+    show_select(ptr, words, masks, 3);
+    text(b"\n");
+}
+
+fn show_stats(ptr: &[u32], words: &[u32], masks: &[u64]) {
+    text(b"metadata_bytes");
+    match topology::stats(1, 70, ptr, words, masks, 3) {
+        StatsAnswer::Stats(s) => size(s.metadata_bytes),
+        StatsAnswer::Refused(e) => refused(e),
+    }
+    text(b"\n");
+}
+
+// Two one-row records with one mask of two bits each.
+fn show_combined(name: &[u8], operation: Operation, masks: &[u64], other_masks: &[u64]) {
+    let ptr: [u32; 2] = [0, 1];
+    let words: [u32; 1] = [0];
+    let mut out_ptr: [u32; 2] = [9; 2];
+    let mut out_words: [u32; 1] = [9];
+    let mut out_masks: [u64; 1] = [9];
+    text(name);
+    text(b":");
+    topology_answer(topology_combine::combine(
+        operation,
+        1,
+        64,
+        &ptr,
+        &words,
+        masks,
+        2,
+        1,
+        64,
+        &ptr,
+        &words,
+        other_masks,
+        2,
+        &mut out_ptr,
+        &mut out_words,
+        &mut out_masks,
+    ));
+    show_lists(&out_ptr, &out_words, &out_masks);
+}
+
+fn show_sets() {
+    let six: [u64; 1] = [6];
+    let three: [u64; 1] = [3];
+    show_combined(b"6 union 3", Operation::Union, &six, &three);
+    show_combined(b"6 intersection 3", Operation::Intersection, &six, &three);
+    show_combined(b"6 and_not 3", Operation::AndNot, &six, &three);
+    show_combined(b"6 xor 3", Operation::Xor, &six, &three);
+    show_combined(b"6 xor 6", Operation::Xor, &six, &six);
+}
+
+// The 70-column row, with lists of exactly the used lengths, and what is asked of its words.
+fn show_plots() {
+    let row_ptr: [u32; 2] = [0, 4];
+    let cols: [u32; 4] = [65, 3, 3, 64];
+    let values: [f64; 4] = [2.0, 1.0, 0.5, 4.0];
+    let mut ptr: [u32; 2] = [9; 2];
+    let mut words: [u32; 2] = [9; 2];
+    let mut masks: [u64; 2] = [9; 2];
+    show_row(&row_ptr, &cols, &values, &mut ptr, &mut words, &mut masks);
+    show_ranks(&ptr, &words, &masks);
+    show_selects(&ptr, &words, &masks);
+    show_stats(&ptr, &words, &masks);
+}
+
+// Column 5 with 1.0 and -1.0: present.
+fn show_cancelling() {
+    let row_ptr: [u32; 2] = [0, 2];
+    let cols: [u32; 2] = [5, 5];
+    let values: [f64; 2] = [1.0, -1.0];
+    let mut ptr: [u32; 2] = [9; 2];
+    let mut words: [u32; 2] = [9; 2];
+    let mut masks: [u64; 2] = [9; 2];
+    show_row(&row_ptr, &cols, &values, &mut ptr, &mut words, &mut masks);
+}
+
+fn show_empty() {
+    let row_ptr: [u32; 2] = [0, 0];
+    let cols: [u32; 0] = [];
+    let values: [f64; 0] = [];
+    let mut ptr: [u32; 2] = [9; 2];
+    let mut words: [u32; 2] = [9; 2];
+    let mut masks: [u64; 2] = [9; 2];
+    show_row(&row_ptr, &cols, &values, &mut ptr, &mut words, &mut masks);
+}
+
 fn main() {
     show_word(b"word 0", 8, 0, 4);
     show_word(b"word 1", 3, 1, 6);
@@ -157,4 +325,8 @@ fn main() {
     let mut words: [u64; 2] = [0; 2];
     let mut members: [usize; 4] = [9; 4];
     show_mask(&plots, &mut words, &mut members);
+    show_plots();
+    show_cancelling();
+    show_empty();
+    show_sets();
 }

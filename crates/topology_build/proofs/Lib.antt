@@ -1,0 +1,5 @@
+pub mod LevelLaws
+pub mod EmitLaws
+pub mod ClearLaws
+pub mod RowsLaws
+pub mod AnswerLaws

@@ -1,1 +1,2 @@
 pub mod Combine
+pub mod Merge

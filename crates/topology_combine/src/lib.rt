@@ -1,18 +1,21 @@
 // topology.rs: `AbtmTopology::combine`, with union, intersection, and_not and xor named by an enum. Two rows are merged by
 // their word numbers in one walk over both.
 ghost use mathlib.Core.Path.{_≡_};
-ghost use mathlib.Core.Bool.{true, cond, _&&_};
+ghost use mathlib.Core.Bool.{true, cond};
 ghost use mathlib.Core.List.{map};
 ghost use Prim.Native.Nat.{_+_, _≤_, _<_, _^_};
-ghost use lib.Dec.{eqb, leb, ltb};
+ghost use lib.Dec.{ltb};
 ghost use lib.ListN.{length, getD};
 ghost use Rattle.hybit_core.specs.Answer.{answers};
+ghost use Rattle.hybit_core.specs.Domain.{many};
 ghost use Rattle.hybit_core.specs.Table.{told};
 ghost use Rattle.lent.specs.Lent.{built, Appended};
 ghost use Rattle.word.specs.Bits.{maskOf, wordsOf};
 ghost use Rattle.word.specs.Word.{combined};
-ghost use Rattle.topology.specs.Words.{asWords, rowMember, rowRule};
-ghost use Rattle.topology.specs.Calls.{asRoom, usedOf, toldTopology};
+ghost use Rattle.lent.proofs.LentLaws.{Filled};
+ghost use Rattle.topology.specs.Words.{asWords};
+ghost use Rattle.topology.specs.Calls.{asRoom, usedOf, toldTopology, fitsWords};
+ghost use Rattle.topology_combine.specs.Merge.{TwoRows, Stepped, TwoRecords, roomAnswer};
 ghost use Rattle.topology_combine.specs.Combine.{combinedWords, combinedRow, pairAnswer, combineAnswer};
 use hybit_core::HybitError;
 use hybit_core::Verdict;
@@ -46,7 +49,10 @@ fn next_word(
     other_words: &[u32],
     other_masks: &[u64],
     other_at: usize,
-) -> Step {
+) -> Step
+    requires { ⌜ length (now masks) ≡ length (now words) ⌝ ∗ ⌜ length (now «other_masks») ≡ length (now «other_words») ⌝ ∗ ⌜ at + «other_at» < length (now words) + length (now «other_words») ⌝ ∗ ⌜ at ≤ length (now words) ⌝ ∗ ⌜ «other_at» ≤ length (now «other_words») ⌝ }
+    ensures { λ r. ⌜ Stepped operation (now (words .entry)) (now (masks .entry)) (now («other_words» .entry)) (now («other_masks» .entry)) at «other_at» (r .index) (r .mask) (r .next) (r .«other_next») ⌝ }
+{
     let left = head(words, at);
     let right = head(other_words, other_at);
     if left < right {
@@ -82,7 +88,7 @@ fn count_row(
     other_words: &[u32],
     other_masks: &[u64],
 ) -> usize
-    requires { ⌜ length (now masks) ≡ length (now words) ⌝ ∗ ⌜ rowRule ncols (now words) (now masks) ≡ true ⌝ ∗ ⌜ length (now «other_masks») ≡ length (now «other_words») ⌝ ∗ ⌜ rowRule ncols (now «other_words») (now «other_masks») ≡ true ⌝ }
+    requires { ⌜ TwoRows ncols (now words) (now masks) (now «other_words») (now «other_masks») ⌝ }
     ensures { λ r. ⌜ r ≡ length (wordsOf (combinedRow operation (now (words .entry)) (now (masks .entry)) (now («other_words» .entry)) (now («other_masks» .entry))) ncols) ⌝ }
 {
     let all = words.len() + other_words.len();
@@ -120,7 +126,7 @@ fn merge_row(
     out_words: &mut [u32],
     out_masks: &mut [u64],
 ) -> usize
-    requires { ⌜ length (now masks) ≡ length (now words) ⌝ ∗ ⌜ rowRule ncols (now words) (now masks) ≡ true ⌝ ∗ ⌜ length (now «other_masks») ≡ length (now «other_words») ⌝ ∗ ⌜ rowRule ncols (now «other_words») (now «other_masks») ≡ true ⌝ ∗ ⌜ from + length (wordsOf (combinedRow operation (now words) (now masks) (now «other_words») (now «other_masks»)) ncols) ≤ length (now «out_words») ⌝ ∗ ⌜ from + length (wordsOf (combinedRow operation (now words) (now masks) (now «other_words») (now «other_masks»)) ncols) ≤ length (now «out_masks») ⌝ }
+    requires { ⌜ TwoRows ncols (now words) (now masks) (now «other_words») (now «other_masks») ⌝ ∗ ⌜ from + length (wordsOf (combinedRow operation (now words) (now masks) (now «other_words») (now «other_masks»)) ncols) ≤ length (now «out_words») ⌝ ∗ ⌜ from + length (wordsOf (combinedRow operation (now words) (now masks) (now «other_words») (now «other_masks»)) ncols) ≤ length (now «out_masks») ⌝ }
     ensures numbers { λ r. ⌜ Appended (wordsOf (combinedRow operation (now (words .entry)) (now (masks .entry)) (now («other_words» .entry)) (now («other_masks» .entry))) ncols) from r (now («out_words» .entry)) (now («out_words» .exit)) ⌝ }
     ensures bits { λ r. ⌜ Appended (map (maskOf (combinedRow operation (now (words .entry)) (now (masks .entry)) (now («other_words» .entry)) (now («other_masks» .entry))) ncols) (wordsOf (combinedRow operation (now (words .entry)) (now (masks .entry)) (now («other_words» .entry)) (now («other_masks» .entry))) ncols)) from r (now («out_masks» .entry)) (now («out_masks» .exit)) ⌝ }
 {
@@ -140,7 +146,7 @@ fn merge_row(
         );
         at = s.next;
         other_at = s.other_next;
-        if s.mask != 0 {
+        if s.mask > 0 {
             out_words[to] = hybit_core::narrow(s.index);
             out_masks[to] = s.mask;
             to += 1;
@@ -160,21 +166,24 @@ fn count_words(
     other_row_word_ptr: &[u32],
     other_word_indices: &[u32],
     other_masks: &[u64],
-) -> usize {
+) -> usize
+    requires { ⌜ TwoRecords nrows ncols (now «row_word_ptr») (now «word_indices») (now masks) (now «other_row_word_ptr») (now «other_word_indices») (now «other_masks») ⌝ }
+    ensures { λ r. ⌜ r ≡ length (combinedWords operation (asWords nrows ncols (now («row_word_ptr» .entry)) (now («word_indices» .entry)) (now (masks .entry)) 0) (asWords nrows ncols (now («other_row_word_ptr» .entry)) (now («other_word_indices» .entry)) (now («other_masks» .entry)) 0) .word) ⌝ }
+{
     let mut count: usize = 0;
     let mut row: usize = 0;
     while row < nrows {
-        let start = hybit_core::wide(row_word_ptr[row]);
-        let end = hybit_core::wide(row_word_ptr[row + 1]);
-        let other_start = hybit_core::wide(other_row_word_ptr[row]);
-        let other_end = hybit_core::wide(other_row_word_ptr[row + 1]);
+        let from = hybit_core::wide(row_word_ptr[row]);
+        let to = hybit_core::wide(row_word_ptr[row + 1]);
+        let other_from = hybit_core::wide(other_row_word_ptr[row]);
+        let other_to = hybit_core::wide(other_row_word_ptr[row + 1]);
         count += count_row(
             operation,
             ncols,
-            &word_indices[start..end],
-            &masks[start..end],
-            &other_word_indices[other_start..other_end],
-            &other_masks[other_start..other_end],
+            &word_indices[from..to],
+            &masks[from..to],
+            &other_word_indices[other_from..other_to],
+            &other_masks[other_from..other_to],
         );
         row += 1;
     }
@@ -195,7 +204,12 @@ fn merge_rows(
     out_ptr: &mut [u32],
     out_words: &mut [u32],
     out_masks: &mut [u64],
-) -> usize {
+) -> usize
+    requires { ⌜ TwoRecords nrows ncols (now «row_word_ptr») (now «word_indices») (now masks) (now «other_row_word_ptr») (now «other_word_indices») (now «other_masks») ⌝ ∗ ⌜ many (length (combinedWords operation (asWords nrows ncols (now «row_word_ptr») (now «word_indices») (now masks) 0) (asWords nrows ncols (now «other_row_word_ptr») (now «other_word_indices») (now «other_masks») 0) .word)) ≡ true ⌝ ∗ ⌜ fitsWords (combinedWords operation (asWords nrows ncols (now «row_word_ptr») (now «word_indices») (now masks) 0) (asWords nrows ncols (now «other_row_word_ptr») (now «other_word_indices») (now «other_masks») 0)) (asRoom (length (now «out_ptr»)) (length (now «out_words»)) (length (now «out_masks»))) ≡ true ⌝ }
+    ensures pointers { λ r. ⌜ Filled (λ k. getD (combinedWords operation (asWords nrows ncols (now («row_word_ptr» .entry)) (now («word_indices» .entry)) (now (masks .entry)) 0) (asWords nrows ncols (now («other_row_word_ptr» .entry)) (now («other_word_indices» .entry)) (now («other_masks» .entry)) 0) .ptr) k 0) (now («out_ptr» .entry)) nrows (now («out_ptr» .exit)) ⌝ }
+    ensures numbers { λ r. ⌜ Appended (combinedWords operation (asWords nrows ncols (now («row_word_ptr» .entry)) (now («word_indices» .entry)) (now (masks .entry)) 0) (asWords nrows ncols (now («other_row_word_ptr» .entry)) (now («other_word_indices» .entry)) (now («other_masks» .entry)) 0) .word) 0 r (now («out_words» .entry)) (now («out_words» .exit)) ⌝ }
+    ensures bits { λ r. ⌜ Appended (combinedWords operation (asWords nrows ncols (now («row_word_ptr» .entry)) (now («word_indices» .entry)) (now (masks .entry)) 0) (asWords nrows ncols (now («other_row_word_ptr» .entry)) (now («other_word_indices» .entry)) (now («other_masks» .entry)) 0) .mask) 0 r (now («out_masks» .entry)) (now («out_masks» .exit)) ⌝ }
+{
     let mut to: usize = 0;
     let mut row: usize = 0;
     while row < nrows {
@@ -227,7 +241,9 @@ fn examine_room(
     ptr_room: usize,
     word_room: usize,
     mask_room: usize,
-) -> Verdict {
+) -> Verdict
+    ensures { λ r. ⌜ told r ≡ roomAnswer nrows words (asRoom «ptr_room» «word_room» «mask_room») ⌝ }
+{
     if !hybit_core::entries_fit(words) {
         return Verdict::Refused(HybitError::SizeOverflow);
     }

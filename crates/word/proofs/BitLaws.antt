@@ -12,11 +12,11 @@ use lib.Pow.{pow-pos}
 use mir.Val.{boolByte}
 use borrow.Author.Tests.{lt-ltb, le-ltb, eq-eqb, ne-eqb, ltb-true, ltb-false, le-leb, leb-true, eqb-true, eqb-false}
 use Rattle.word.specs.Bits.{has, from, below, between, both, within, number, members, maskOf, ceil64, wordsOf}
-use Rattle.lent.specs.Lists.{consIf, first, every, climbs}
+use Rattle.lent.specs.Lists.{consIf, first, every, some, climbs}
 use Rattle.word.proofs.BelowLaws.{byte-le, below-cong, below-same, below-zero, below-snoc, below-at-rank, below-trim, rank-lt, length-below-suc, length-block}
 use Rattle.word.proofs.HasLaws.{has-zero, has-suc, has-past, has-ext}
 use Rattle.hybit_core.proofs.BoolLaws.{and-left, and-right, and-both, same-test}
-use Rattle.lent.proofs.ListLaws.{every-append, every-getD}
+use Rattle.lent.proofs.ListLaws.{every-append, every-getD, some-getD}
 
 byte-odd : (t : Bool) (n : ℕ) → eqb ((boolByte t + 2 * n) % 2) 1 ≡ t
 byte-odd true n = eq-eqb ((1 + 2 * n) % 2) 1 (omega arith)
@@ -214,3 +214,7 @@ unfolding wordsOf
 words-le p n =
     let t : below (within n p) (64 * ceil64 n) ≡ below (within n p) n = below-trim (within n p) n (64 * ceil64 n) (omega arith) (λ i l u. ap (λ (b : Bool). b && p i) (le-ltb i n l)) in
     omega (arith, words-blocks p n (ceil64 n), ap length t, count-cong n (within n p) p (within-in n p))
+
+-- some listed number passes
+pub some-below : (t q : ℕ → Bool) (n c : ℕ) → c < n → q c ≡ true → t c ≡ true → some t (below q n) ≡ true
+some-below t q n c h l e = some-getD t (below q n) (length (below q c)) 0 (rank-lt q c n h l) (ap t (below-at-rank q n c h l) ∙ e)

@@ -6,15 +6,18 @@ use Prim.Native.Nat.{ℕ, zero, suc, _+_, _-_, _*_, _/_, _%_, _^_, _≤_, _<_, z
 use native.Mathlib.Decide.{decLt}
 use native.Mathlib.Omega.{arith}
 use lib.Bits.{bitAnd, and-le-l, and-zero-l}
+use lib.Count.{trailingZeros}
 use lib.Dec.{leb, eqb, ltb}
 use lib.ListN.{length, getD, List·getD-eq-default}
-use borrow.Author.Tests.{lt-ltb, le-ltb, eq-eqb, eqb-true, ltb-true, ltb-false}
+use borrow.Author.Tests.{lt-ltb, le-ltb, eq-eqb, eqb-true, eqb-false, ltb-true, ltb-false, not-true}
 use Rattle.word.specs.Bits.{has, from, below, between, both, within, maskOf, number, ceil64, wordsOf}
 use Rattle.lent.specs.Lists.{joined, consIf, only, spread}
 use Rattle.lent.proofs.ListLaws.{joined-cong, spread-append, only-append}
 use Rattle.word.proofs.BelowLaws.{below-cong, below-zero, below-snoc, below-between, below-trim, between-split, between-block, from-none, rank-lt}
 use Rattle.word.proofs.HasLaws.{has-ext, has-past, has-and}
 use Rattle.word.proofs.BitLaws.{has-number, number-lt, has-mask-of, has-none, within-in}
+use Rattle.word.proofs.LowestLaws.{lowest-lt, lowest-has}
+use Rattle.hybit_core.proofs.BoolLaws.{and-left, and-right}
 
 -- words that add nothing may be left out
 pub joined-spread : {B : Type 0} (f : ℕ → List B) (q : ℕ → Bool) (n : ℕ) → ((w : ℕ) → q w ≡ false → f w ≡ []) → joined f n ≡ spread f (below q n)
@@ -132,3 +135,16 @@ active-words p a n =
     go : (w : ℕ) (b : Bool) → not (eqb (maskOf p n w) 0) ≡ b → not (eqb (bitAnd (maskOf p n w) (maskOf a n w)) 0) ≡ (b && not (eqb (bitAnd (maskOf p n w) (maskOf a n w)) 0))
     go w true e = refl
     go w false e = ap not (eq-eqb (bitAnd (maskOf p n w) (maskOf a n w)) 0 (ap (λ (m : ℕ). bitAnd m (maskOf a n w)) (mask-none p n w e) ∙ and-zero-l (maskOf a n w)))
+
+-- a word that is not 0 holds a column of the test
+pub hit-member : (q : ℕ → Bool) (n w : ℕ) → not (eqb (maskOf q n w) 0) ≡ true → (c : ℕ) × (c < n) × (q c ≡ true) × (c / 64 ≡ w)
+unfolding maskOf
+hit-member q n w e =
+    let m : ℕ = maskOf q n w in
+    let small : maskOf q n w < 2 ^ 64 = number-lt (λ i. within n q (64 * w + i)) 64 in
+    let z : maskOf q n w ≡ 0 → ⊥ = eqb-false (maskOf q n w) 0 (not-true (eqb (maskOf q n w) 0) e) in
+    let some : 0 < maskOf q n w = omega arith in
+    let i : ℕ = trailingZeros 64 m in
+    let b : trailingZeros 64 (maskOf q n w) < 64 = lowest-lt 64 64 (maskOf q n w) some small in
+    let x : within n q (64 * w + i) ≡ true = sym (has-mask-of q n w i b) ∙ lowest-has 64 m some small in
+    (64 * w + i, ltb-true (64 * w + i) n (and-left (ltb (64 * w + i) n) (q (64 * w + i)) x), and-right (ltb (64 * w + i) n) (q (64 * w + i)) x, omega arith)

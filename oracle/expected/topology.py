@@ -247,7 +247,7 @@ def figures(rows, cols, nnz, words, size):
 def record(case, *t):
     rows, cols, ptr, word, mask, total = t
     refusal = judged(t)
-    print("record", case, rows, cols, show(ptr), show(word), show_masks(mask), total, "=", refusal or "accepted")
+    print("check", case, rows, cols, show(ptr), show(word), show_masks(mask), total, "=", refusal or "accepted")
     if refusal:
         print("stats", case, "=", refusal)
     else:

@@ -315,7 +315,7 @@ fn product(
     end();
 }
 
-// Vectors of a case in three rows and six columns: a good pair, and x or y or both of another length.
+// Vectors for four rows and six columns: a good pair, and x or y or both of another length.
 
 fn vectors(case: &[u8], nrows: usize, ncols: usize, ptr: &[u32], col: &[u32], val: &[f64]) {
     let x = [1.0f64, 2.0, 3.0, -4.0, 5.0, 0.5];

@@ -42,7 +42,7 @@ fn flag(b: bool) {
     }
 }
 
-// The bits of a ratio, which is no NaN.
+// A float's bits; a NaN has none that are compared.
 fn float(x: f64) {
     if x == x {
         bits(f64::to_bits(x));
@@ -245,6 +245,12 @@ fn fill_masks(list: &mut [u64]) {
     }
 }
 
+fn fill_all(p: &mut [u32], w: &mut [u32], m: &mut [u64]) {
+    fill(p);
+    fill(w);
+    fill_masks(m);
+}
+
 // Words by value.
 
 fn word_head(name: &[u8], word: AbtmTopologyWord) {
@@ -345,9 +351,7 @@ fn counts() {
 }
 
 fn clear_on(rows: usize, words: usize, p: &mut [u32], w: &mut [u32], m: &mut [u64]) {
-    fill(p);
-    fill(w);
-    fill_masks(m);
+    fill_all(p, w, m);
     topology::clear_past(rows, words, p, w, m);
     text(b"clear_past");
     size(rows);
@@ -436,7 +440,7 @@ fn record(
     mask: &[u64],
     total: usize,
 ) {
-    asks(b"record", case);
+    asks(b"check", case);
     size(nrows);
     size(ncols);
     show(ptr);
@@ -805,9 +809,7 @@ fn build_on(
     w: &mut [u32],
     m: &mut [u64],
 ) -> TopologyAnswer {
-    fill(p);
-    fill(w);
-    fill_masks(m);
+    fill_all(p, w, m);
     let a = topology_build::from_csr32(nrows, ncols, ptr, col, val, p, w, m);
     asks(b"from_csr32", case);
     outcome(a, p, w, m);
@@ -1059,164 +1061,96 @@ fn entries_refused() {
     refused_build(b"3_4", 3, 65, &ptr, &col, &nan);
 }
 
-// Set operations, into lists that hold something else.
+// Set operations, into lists that hold something else. The operands are a and b, by rows, columns, pointers, words, masks and
+// total; from `combine_in` on they have one frame.
 
 fn combine_on(
     case: &[u8],
-    operation: Operation,
-    nrows: usize,
-    ncols: usize,
-    ptr: &[u32],
-    word: &[u32],
-    mask: &[u64],
-    total: usize,
-    other_nrows: usize,
-    other_ncols: usize,
-    other_ptr: &[u32],
-    other_word: &[u32],
-    other_mask: &[u64],
-    other_total: usize,
+    o: Operation,
+    an: usize,
+    ac: usize,
+    ap: &[u32],
+    aw: &[u32],
+    am: &[u64],
+    at: usize,
+    bn: usize,
+    bc: usize,
+    bp: &[u32],
+    bw: &[u32],
+    bm: &[u64],
+    bt: usize,
     p: &mut [u32],
     w: &mut [u32],
     m: &mut [u64],
 ) -> TopologyAnswer {
-    fill(p);
-    fill(w);
-    fill_masks(m);
-    let a = topology_combine::combine(
-        operation,
-        nrows,
-        ncols,
-        ptr,
-        word,
-        mask,
-        total,
-        other_nrows,
-        other_ncols,
-        other_ptr,
-        other_word,
-        other_mask,
-        other_total,
-        p,
-        w,
-        m,
-    );
+    fill_all(p, w, m);
+    let a = topology_combine::combine(o, an, ac, ap, aw, am, at, bn, bc, bp, bw, bm, bt, p, w, m);
     asks(b"combine", case);
-    operation_name(operation);
+    operation_name(o);
     outcome(a, p, w, m);
     a
 }
 
 fn combine_in(
     case: &[u8],
-    operation: Operation,
-    nrows: usize,
-    ncols: usize,
-    ptr: &[u32],
-    word: &[u32],
-    mask: &[u64],
-    total: usize,
-    other_ptr: &[u32],
-    other_word: &[u32],
-    other_mask: &[u64],
-    other_total: usize,
+    o: Operation,
+    n: usize,
+    c: usize,
+    ap: &[u32],
+    aw: &[u32],
+    am: &[u64],
+    at: usize,
+    bp: &[u32],
+    bw: &[u32],
+    bm: &[u64],
+    bt: usize,
     room: Room,
     p: &mut [u32],
     w: &mut [u32],
     m: &mut [u64],
 ) {
-    let np = room.p;
-    let nw = room.w;
-    let nm = room.m;
-    if p.len() < np {
+    let i = room.p;
+    let j = room.w;
+    let k = room.m;
+    if p.len() < i {
         return;
     }
-    if w.len() < nw {
+    if w.len() < j {
         return;
     }
-    if m.len() < nm {
+    if m.len() < k {
         return;
     }
-    combine_on(
-        case,
-        operation,
-        nrows,
-        ncols,
-        ptr,
-        word,
-        mask,
-        total,
-        nrows,
-        ncols,
-        other_ptr,
-        other_word,
-        other_mask,
-        other_total,
-        &mut p[..np],
-        &mut w[..nw],
-        &mut m[..nm],
-    );
+    let x = &mut p[..i];
+    let y = &mut w[..j];
+    let z = &mut m[..k];
+    combine_on(case, o, n, c, ap, aw, am, at, n, c, bp, bw, bm, bt, x, y, z);
 }
 
-// Two records of one frame, in the whole lists and in lists of each length.
+// In the whole lists and in lists of each length.
 fn combine_rooms(
     case: &[u8],
-    operation: Operation,
-    nrows: usize,
-    ncols: usize,
-    ptr: &[u32],
-    word: &[u32],
-    mask: &[u64],
-    total: usize,
-    other_ptr: &[u32],
-    other_word: &[u32],
-    other_mask: &[u64],
-    other_total: usize,
+    o: Operation,
+    n: usize,
+    c: usize,
+    ap: &[u32],
+    aw: &[u32],
+    am: &[u64],
+    at: usize,
+    bp: &[u32],
+    bw: &[u32],
+    bm: &[u64],
+    bt: usize,
     p: &mut [u32],
     w: &mut [u32],
     m: &mut [u64],
 ) {
-    let a = combine_on(
-        case,
-        operation,
-        nrows,
-        ncols,
-        ptr,
-        word,
-        mask,
-        total,
-        nrows,
-        ncols,
-        other_ptr,
-        other_word,
-        other_mask,
-        other_total,
-        p,
-        w,
-        m,
-    );
-    let n = words_in(a);
+    let a = combine_on(case, o, n, c, ap, aw, am, at, n, c, bp, bw, bm, bt, p, w, m);
+    let words = words_in(a);
     let mut k: usize = 0;
     while k < 7 {
-        let room = room_of(k, after(nrows), n);
-        combine_in(
-            case,
-            operation,
-            nrows,
-            ncols,
-            ptr,
-            word,
-            mask,
-            total,
-            other_ptr,
-            other_word,
-            other_mask,
-            other_total,
-            room,
-            p,
-            w,
-            m,
-        );
+        let room = room_of(k, after(n), words);
+        combine_in(case, o, n, c, ap, aw, am, at, bp, bw, bm, bt, room, p, w, m);
         k += 1;
     }
 }
@@ -1232,91 +1166,79 @@ fn operation_of(k: usize) -> Operation {
 
 fn pair(
     case: &[u8],
-    nrows: usize,
-    ncols: usize,
-    ptr: &[u32],
-    word: &[u32],
-    mask: &[u64],
-    total: usize,
-    other_ptr: &[u32],
-    other_word: &[u32],
-    other_mask: &[u64],
-    other_total: usize,
+    n: usize,
+    c: usize,
+    ap: &[u32],
+    aw: &[u32],
+    am: &[u64],
+    at: usize,
+    bp: &[u32],
+    bw: &[u32],
+    bm: &[u64],
+    bt: usize,
     p: &mut [u32],
     w: &mut [u32],
     m: &mut [u64],
 ) {
     let mut k: usize = 0;
     while k < 4 {
-        let operation = operation_of(k);
-        combine_rooms(
-            case,
-            operation,
-            nrows,
-            ncols,
-            ptr,
-            word,
-            mask,
-            total,
-            other_ptr,
-            other_word,
-            other_mask,
-            other_total,
-            p,
-            w,
-            m,
-        );
+        let o = operation_of(k);
+        combine_rooms(case, o, n, c, ap, aw, am, at, bp, bw, bm, bt, p, w, m);
         k += 1;
     }
 }
 
 // A pair, and the operands swapped.
+fn both_ways(
+    case: &[u8],
+    n: usize,
+    c: usize,
+    ap: &[u32],
+    aw: &[u32],
+    am: &[u64],
+    at: usize,
+    bp: &[u32],
+    bw: &[u32],
+    bm: &[u64],
+    bt: usize,
+    p: &mut [u32],
+    w: &mut [u32],
+    m: &mut [u64],
+) {
+    pair(case, n, c, ap, aw, am, at, bp, bw, bm, bt, p, w, m);
+    pair(case, n, c, bp, bw, bm, bt, ap, aw, am, at, p, w, m);
+}
+
 fn small_pair(
     case: &[u8],
-    nrows: usize,
-    ncols: usize,
-    ptr: &[u32],
-    word: &[u32],
-    mask: &[u64],
-    other_ptr: &[u32],
-    other_word: &[u32],
-    other_mask: &[u64],
+    n: usize,
+    c: usize,
+    ap: &[u32],
+    aw: &[u32],
+    am: &[u64],
+    bp: &[u32],
+    bw: &[u32],
+    bm: &[u64],
 ) {
-    let total = topology::count_bits(mask);
-    let other = topology::count_bits(other_mask);
+    let at = topology::count_bits(am);
+    let bt = topology::count_bits(bm);
     let mut p = [0u32; 8];
     let mut w = [0u32; 8];
     let mut m = [0u64; 8];
-    record(case, nrows, ncols, ptr, word, mask, total);
-    record(case, nrows, ncols, other_ptr, other_word, other_mask, other);
-    pair(
+    record(case, n, c, ap, aw, am, at);
+    record(case, n, c, bp, bw, bm, bt);
+    both_ways(
         case,
-        nrows,
-        ncols,
-        ptr,
-        word,
-        mask,
-        total,
-        other_ptr,
-        other_word,
-        other_mask,
-        other,
-        &mut p,
-        &mut w,
-        &mut m,
-    );
-    pair(
-        case,
-        nrows,
-        ncols,
-        other_ptr,
-        other_word,
-        other_mask,
-        other,
-        ptr,
-        word,
-        mask,
-        total,
+        n,
+        c,
+        ap,
+        aw,
+        am,
+        at,
+        bp,
+        bw,
+        bm,
+        bt,
         &mut p,
         &mut w,
         &mut m,
@@ -1352,48 +1274,28 @@ fn one_row_pairs() {
 
 // Words of one side only, before, between and after the other's; rows that are empty on one side, on both, on none.
 fn several_row_pairs() {
-    let ptr = [0u32, 2, 2, 3, 3, 4];
-    let word = [1u32, 3, 2, 0];
-    let mask = [2u64, 0x80, 0x8000000000000000, ONES];
-    let other_ptr = [0u32, 3, 4, 4, 4, 5];
-    let other_word = [0u32, 2, 3, 1, 0];
-    let other_mask = [1u64, 0xffff, 0x81, 5, 0x0123456789abcdef];
+    let ap = [0u32, 2, 2, 3, 3, 4];
+    let aw = [1u32, 3, 2, 0];
+    let am = [2u64, 0x80, 0x8000000000000000, ONES];
+    let bp = [0u32, 3, 4, 4, 4, 5];
+    let bw = [0u32, 2, 3, 1, 0];
+    let bm = [1u64, 0xffff, 0x81, 5, 0x0123456789abcdef];
     let zeros = [0u32, 0, 0, 0, 0, 0];
     let none = [0u32; 0];
     let no_masks = [0u64; 0];
-    small_pair(
-        b"rows",
-        5,
-        200,
-        &ptr,
-        &word,
-        &mask,
-        &other_ptr,
-        &other_word,
-        &other_mask,
-    );
+    small_pair(b"rows", 5, 200, &ap, &aw, &am, &bp, &bw, &bm);
     small_pair(
         b"rows_and_none",
         5,
         200,
-        &ptr,
-        &word,
-        &mask,
+        &ap,
+        &aw,
+        &am,
         &zeros,
         &none,
         &no_masks,
     );
-    small_pair(
-        b"rows_themselves",
-        5,
-        200,
-        &ptr,
-        &word,
-        &mask,
-        &ptr,
-        &word,
-        &mask,
-    );
+    small_pair(b"rows_themselves", 5, 200, &ap, &aw, &am, &ap, &aw, &am);
 }
 
 fn empty_pairs() {
@@ -1439,37 +1341,40 @@ fn empty_pairs() {
 // Records that are handed in, damaged or of another frame: all calls, and both places in a set operation, beside the record of
 // four rows and 200 columns that they are damaged from, or beside one with pointers that fall.
 
-fn beside(
+fn unions(
     case: &[u8],
-    nrows: usize,
-    ncols: usize,
-    ptr: &[u32],
-    word: &[u32],
-    mask: &[u64],
-    total: usize,
-    other_ptr: &[u32],
+    n: usize,
+    c: usize,
+    ap: &[u32],
+    aw: &[u32],
+    am: &[u64],
+    at: usize,
+    bp: &[u32],
+    bw: &[u32],
+    bm: &[u64],
     p: &mut [u32],
     w: &mut [u32],
     m: &mut [u64],
 ) {
-    let good = [0u32, 1, 1, 2, 3, 0];
-    let masks = [0x8000000000000009u64, 0x8000000000000001, 2, 4, 0x80, ONES];
     let o = Operation::Union;
+    let bn = 4;
+    let bc = 200;
+    let bt = 72;
     combine_on(
         case,
         o,
-        nrows,
-        ncols,
-        ptr,
-        word,
-        mask,
-        total,
-        4,
-        200,
-        other_ptr,
-        &good,
-        &masks,
-        72,
+        n,
+        c,
+        ap,
+        aw,
+        am,
+        at,
+        bn,
+        bc,
+        bp,
+        bw,
+        bm,
+        bt,
         p,
         w,
         m,
@@ -1477,33 +1382,43 @@ fn beside(
     combine_on(
         case,
         o,
-        4,
-        200,
-        other_ptr,
-        &good,
-        &masks,
-        72,
-        nrows,
-        ncols,
-        ptr,
-        word,
-        mask,
-        total,
+        bn,
+        bc,
+        bp,
+        bw,
+        bm,
+        bt,
+        n,
+        c,
+        ap,
+        aw,
+        am,
+        at,
         p,
         w,
         m,
     );
 }
 
-fn besides(
+fn beside(
     case: &[u8],
-    nrows: usize,
-    ncols: usize,
-    ptr: &[u32],
-    word: &[u32],
-    mask: &[u64],
-    total: usize,
+    n: usize,
+    c: usize,
+    ap: &[u32],
+    aw: &[u32],
+    am: &[u64],
+    at: usize,
+    bp: &[u32],
+    p: &mut [u32],
+    w: &mut [u32],
+    m: &mut [u64],
 ) {
+    let bw = [0u32, 1, 1, 2, 3, 0];
+    let bm = [0x8000000000000009u64, 0x8000000000000001, 2, 4, 0x80, ONES];
+    unions(case, n, c, ap, aw, am, at, bp, &bw, &bm, p, w, m);
+}
+
+fn besides(case: &[u8], n: usize, c: usize, ap: &[u32], aw: &[u32], am: &[u64], at: usize) {
     let good = [0u32, 2, 2, 5, 6];
     let fall = [0u32, 2, 1, 5, 6];
     let mut p = [0u32; 8];
@@ -1511,40 +1426,16 @@ fn besides(
     let mut m = [0u64; 7];
     let mut none = [0u32; 0];
     let mut no_masks = [0u64; 0];
+    beside(case, n, c, ap, aw, am, at, &good, &mut p, &mut w, &mut m);
+    beside(case, n, c, ap, aw, am, at, &fall, &mut p, &mut w, &mut m);
     beside(
         case,
-        nrows,
-        ncols,
-        ptr,
-        word,
-        mask,
-        total,
-        &good,
-        &mut p,
-        &mut w,
-        &mut m,
-    );
-    beside(
-        case,
-        nrows,
-        ncols,
-        ptr,
-        word,
-        mask,
-        total,
-        &fall,
-        &mut p,
-        &mut w,
-        &mut m,
-    );
-    beside(
-        case,
-        nrows,
-        ncols,
-        ptr,
-        word,
-        mask,
-        total,
+        n,
+        c,
+        ap,
+        aw,
+        am,
+        at,
         &good,
         &mut none,
         &mut w,
@@ -1677,7 +1568,7 @@ fn masked(case: &[u8], mask: &[u64], total: usize) {
     handed(case, 4, 200, &ptr, &word, mask, total);
 }
 
-// Each but the first with the total of its bits.
+// All but the first with the total of their bits.
 fn masks() {
     let other = [0x8000000000000009u64, 0x8000000000000001, 2, 4, 0xc0, ONES];
     let first_empty = [0u64, 0x8000000000000001, 2, 4, 0x80, ONES];
@@ -1814,10 +1705,40 @@ fn generated(
     a
 }
 
-// What two builds left, by their used parts.
+// What two builds left, by their used parts: the pair, the operands swapped, and the first with itself.
+
+fn used_pair(
+    n: usize,
+    c: usize,
+    ap: &[u32],
+    aw: &[u32],
+    am: &[u64],
+    at: usize,
+    bp: &[u32],
+    bw: &[u32],
+    bm: &[u64],
+    bt: usize,
+    p: &mut [u32],
+    w: &mut [u32],
+    m: &mut [u64],
+) {
+    let r = after(n);
+    if ap.len() < r {
+        return;
+    }
+    if bp.len() < r {
+        return;
+    }
+    let x = &ap[..r];
+    let y = &bp[..r];
+    pair(b"generated", n, c, x, aw, am, at, y, bw, bm, bt, p, w, m);
+    pair(b"swapped", n, c, y, bw, bm, bt, x, aw, am, at, p, w, m);
+    pair(b"itself", n, c, x, aw, am, at, x, aw, am, at, p, w, m);
+}
+
 fn built_pair(
-    nrows: usize,
-    ncols: usize,
+    n: usize,
+    c: usize,
     ap: &[u32],
     aw: &[u32],
     am: &[u64],
@@ -1830,95 +1751,27 @@ fn built_pair(
     w: &mut [u32],
     m: &mut [u64],
 ) {
-    let na = words_in(a);
-    let nb = words_in(b);
-    if aw.len() < na {
+    let i = words_in(a);
+    let j = words_in(b);
+    let at = ones_in(a);
+    let bt = ones_in(b);
+    if aw.len() < i {
         return;
     }
-    if am.len() < na {
+    if am.len() < i {
         return;
     }
-    if bw.len() < nb {
+    if bw.len() < j {
         return;
     }
-    if bm.len() < nb {
+    if bm.len() < j {
         return;
     }
-    used_pair(
-        nrows,
-        ncols,
-        ap,
-        &aw[..na],
-        &am[..na],
-        ones_in(a),
-        bp,
-        &bw[..nb],
-        &bm[..nb],
-        ones_in(b),
-        p,
-        w,
-        m,
-    );
-}
-
-// The pair, the operands swapped, and the first with itself.
-fn used_pair(
-    nrows: usize,
-    ncols: usize,
-    ap: &[u32],
-    aw: &[u32],
-    am: &[u64],
-    a: usize,
-    bp: &[u32],
-    bw: &[u32],
-    bm: &[u64],
-    b: usize,
-    p: &mut [u32],
-    w: &mut [u32],
-    m: &mut [u64],
-) {
-    let r = after(nrows);
-    if ap.len() < r {
-        return;
-    }
-    if bp.len() < r {
-        return;
-    }
-    let x = &ap[..r];
-    let y = &bp[..r];
-    pair(
-        b"generated",
-        nrows,
-        ncols,
-        x,
-        aw,
-        am,
-        a,
-        y,
-        bw,
-        bm,
-        b,
-        p,
-        w,
-        m,
-    );
-    pair(
-        b"swapped",
-        nrows,
-        ncols,
-        y,
-        bw,
-        bm,
-        b,
-        x,
-        aw,
-        am,
-        a,
-        p,
-        w,
-        m,
-    );
-    pair(b"itself", nrows, ncols, x, aw, am, a, x, aw, am, a, p, w, m);
+    let aw = &aw[..i];
+    let am = &am[..i];
+    let bw = &bw[..j];
+    let bm = &bm[..j];
+    used_pair(n, c, ap, aw, am, at, bp, bw, bm, bt, p, w, m);
 }
 
 // Two generated plot lists of one frame, and their set operations.
@@ -1964,30 +1817,20 @@ fn generated_matrices() {
 
 // Rows without words, with a pointer for each of the most rows of all, and for one more. No output list has room for so many.
 
-fn empty_rows(case: &[u8], nrows: usize, ptr: &[u32]) {
+fn empty_rows(case: &[u8], n: usize, ptr: &[u32]) {
     let word = [0u32; 0];
     let mask = [0u64; 0];
     let val = [0.0f64; 0];
     let mut p = [0u32; 8];
     let mut w = [0u32; 1];
     let mut m = [0u64; 1];
-    record(case, nrows, 1048576, ptr, &word, &mask, 0);
-    row_parts(case, nrows, 1048576, ptr, &word, &mask, 0, before(nrows));
-    row_counts(case, nrows, 1048576, ptr, &word, &mask, 0, nrows);
-    build_on(
-        case,
-        nrows,
-        1048576,
-        ptr,
-        &word,
-        &val,
-        &mut p,
-        &mut w,
-        &mut m,
-    );
+    record(case, n, 1048576, ptr, &word, &mask, 0);
+    row_parts(case, n, 1048576, ptr, &word, &mask, 0, before(n));
+    row_counts(case, n, 1048576, ptr, &word, &mask, 0, n);
+    build_on(case, n, 1048576, ptr, &word, &val, &mut p, &mut w, &mut m);
     beside(
         case,
-        nrows,
+        n,
         200,
         ptr,
         &word,
@@ -1998,25 +1841,38 @@ fn empty_rows(case: &[u8], nrows: usize, ptr: &[u32]) {
         &mut w,
         &mut m,
     );
+    empty_pair(case, n, ptr, &word, &mask, &mut p, &mut w, &mut m);
+}
+
+fn empty_pair(
+    case: &[u8],
+    n: usize,
+    ptr: &[u32],
+    word: &[u32],
+    mask: &[u64],
+    p: &mut [u32],
+    w: &mut [u32],
+    m: &mut [u64],
+) {
     let o = Operation::Xor;
     combine_on(
         case,
         o,
-        nrows,
+        n,
         200,
         ptr,
-        &word,
-        &mask,
+        word,
+        mask,
         0,
-        nrows,
+        n,
         200,
         ptr,
-        &word,
-        &mask,
+        word,
+        mask,
         0,
-        &mut p,
-        &mut w,
-        &mut m,
+        p,
+        w,
+        m,
     );
 }
 

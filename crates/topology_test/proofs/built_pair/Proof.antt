@@ -10,6 +10,12 @@ words-in-requires c κs = search needs
 words-in-requires-2 : tie.Need-words-in-requires-2
 words-in-requires-2 c κs = search needs
 
+ones-in-requires : tie.Need-ones-in-requires
+ones-in-requires c κs = search needs
+
+ones-in-requires-2 : tie.Need-ones-in-requires-2
+ones-in-requires-2 c κs = search needs
+
 returns : tie.Need-returns
 returns c = search needs
 
@@ -22,23 +28,17 @@ returns-3 c = search needs
 returns-4 : tie.Need-returns-4
 returns-4 c = search needs
 
-slice-aggregate-used-pair : tie.Need-slice-aggregate-used-pair
-slice-aggregate-used-pair c = search (length-take-le, needs)
+slice-aggregate-aw : tie.Need-slice-aggregate-aw
+slice-aggregate-aw c = search (length-take-le, needs)
 
-slice-aggregate-used-pair-2 : tie.Need-slice-aggregate-used-pair-2
-slice-aggregate-used-pair-2 c = search (length-take-le, needs)
+slice-aggregate-am : tie.Need-slice-aggregate-am
+slice-aggregate-am c = search (length-take-le, needs)
 
-ones-in-requires : tie.Need-ones-in-requires
-ones-in-requires c κs = search needs
+slice-aggregate-bw : tie.Need-slice-aggregate-bw
+slice-aggregate-bw c = search (length-take-le, needs)
 
-slice-aggregate-used-pair-3 : tie.Need-slice-aggregate-used-pair-3
-slice-aggregate-used-pair-3 c = search (length-take-le, needs)
-
-slice-aggregate-used-pair-4 : tie.Need-slice-aggregate-used-pair-4
-slice-aggregate-used-pair-4 c = search (length-take-le, needs)
-
-ones-in-requires-2 : tie.Need-ones-in-requires-2
-ones-in-requires-2 c κs = search needs
+slice-aggregate-bm : tie.Need-slice-aggregate-bm
+slice-aggregate-bm c = search (length-take-le, needs)
 
 used-pair-requires : tie.Need-used-pair-requires
 used-pair-requires c κs = search needs
@@ -61,16 +61,16 @@ built-pair-spec =
     (tie.spec
     words-in-requires
     words-in-requires-2
+    ones-in-requires
+    ones-in-requires-2
     returns
     returns-2
     returns-3
     returns-4
-    slice-aggregate-used-pair
-    slice-aggregate-used-pair-2
-    ones-in-requires
-    slice-aggregate-used-pair-3
-    slice-aggregate-used-pair-4
-    ones-in-requires-2
+    slice-aggregate-aw
+    slice-aggregate-am
+    slice-aggregate-bw
+    slice-aggregate-bm
     used-pair-requires
     same-length
     same-length-2

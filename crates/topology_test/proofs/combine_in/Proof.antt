@@ -13,23 +13,23 @@ returns-2 c = search needs
 returns-3 : tie.Need-returns-3
 returns-3 c = search needs
 
-slice-relend-prefix-combine-on : tie.Need-slice-relend-prefix-combine-on
-slice-relend-prefix-combine-on c = search needs
+slice-relend-prefix-x : tie.Need-slice-relend-prefix-x
+slice-relend-prefix-x c = search needs
 
-slice-aggregate-combine-on : tie.Need-slice-aggregate-combine-on
-slice-aggregate-combine-on c = search (length-take-le, needs)
+slice-aggregate-x : tie.Need-slice-aggregate-x
+slice-aggregate-x c = search (length-take-le, needs)
 
-slice-relend-prefix-combine-on-2 : tie.Need-slice-relend-prefix-combine-on-2
-slice-relend-prefix-combine-on-2 c = search needs
+slice-relend-prefix-y : tie.Need-slice-relend-prefix-y
+slice-relend-prefix-y c = search needs
 
-slice-aggregate-combine-on-2 : tie.Need-slice-aggregate-combine-on-2
-slice-aggregate-combine-on-2 c = search (length-take-le, needs)
+slice-aggregate-y : tie.Need-slice-aggregate-y
+slice-aggregate-y c = search (length-take-le, needs)
 
-slice-relend-prefix-combine-on-3 : tie.Need-slice-relend-prefix-combine-on-3
-slice-relend-prefix-combine-on-3 c = search needs
+slice-relend-prefix-z : tie.Need-slice-relend-prefix-z
+slice-relend-prefix-z c = search needs
 
-slice-aggregate-combine-on-3 : tie.Need-slice-aggregate-combine-on-3
-slice-aggregate-combine-on-3 c = search (length-take-le, needs)
+slice-aggregate-z : tie.Need-slice-aggregate-z
+slice-aggregate-z c = search (length-take-le, needs)
 
 combine-on-requires : tie.Need-combine-on-requires
 combine-on-requires c κs = search needs
@@ -53,12 +53,12 @@ combine-in-spec =
     returns
     returns-2
     returns-3
-    slice-relend-prefix-combine-on
-    slice-aggregate-combine-on
-    slice-relend-prefix-combine-on-2
-    slice-aggregate-combine-on-2
-    slice-relend-prefix-combine-on-3
-    slice-aggregate-combine-on-3
+    slice-relend-prefix-x
+    slice-aggregate-x
+    slice-relend-prefix-y
+    slice-aggregate-y
+    slice-relend-prefix-z
+    slice-aggregate-z
     combine-on-requires
     same-length
     same-length-2

@@ -154,7 +154,7 @@ fn show_mask(plots: &[usize], words: &mut [u64], members: &mut [usize]) {
 fn show_u32(numbers: &[u32]) {
     let mut k: usize = 0;
     while k < numbers.len() {
-        number(numbers[k] as u64);
+        size(hybit_core::wide(numbers[k]));
         k += 1;
     }
 }

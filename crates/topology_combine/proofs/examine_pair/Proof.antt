@@ -52,14 +52,14 @@ returns-5 c =
     let a = c .before .before .before .before .before .before .before .before .before .before .before .before .before .before .before .before .before .args in
     let s = flag-on _ _ (c .before .before .before .before .before .before .before .before .before .before .sizes-fit .ensures) (c .before .before .before .before .before .before .before .before .before .if1 .left) in
     let t = flag-on _ _ (c .before .before .before .before .before .before .before .before .sizes-fit2 .ensures) (c .before .before .before .before .before .before .before .if2 .left) in
-    pair-frames (asWords (a .nrows) (a .ncols) (a .row-word-ptr .now) (a .word-indices .now) (a .masks .now) (a .structural-nnz)) (asWords (a .other-nrows) (a .other-ncols) (a .other-row-word-ptr .now) (a .other-word-indices .now) (a .other-masks .now) (a .other-structural-nnz)) _ s t (c .before .before .before .before .before .before .check .ensures) _ (c .before .before .before .before .enum-told .given .1) (c .before .before .before .check2 .ensures) (c .before .enum-told2 .given .1) (and-first _ _ (is-unequal _ _ (c .if3 .taken)))
+    pair-frames (asWords (a .nrows) (a .ncols) (a .row-word-ptr .now) (a .word-indices .now) (a .masks .now) (a .structural-nnz)) (asWords (a .other-nrows) (a .other-ncols) (a .other-row-word-ptr .now) (a .other-word-indices .now) (a .other-masks .now) (a .other-structural-nnz)) _ s t (c .before .before .before .before .before .before .check .ensures) _ (c .before .before .before .before .enum-told .given .1) (c .before .before .before .check2 .ensures) (c .before .enum-told2 .given .1) (and-first _ _ (is-unequal (a .nrows) (a .other-nrows) (λ h. omega arith)))
 
 returns-6 : tie.Need-returns-6
 returns-6 c =
     let a = c .before .before .before .before .before .before .before .before .before .before .before .before .before .before .before .before .before .before .args in
     let s = flag-on _ _ (c .before .before .before .before .before .before .before .before .before .before .before .sizes-fit .ensures) (c .before .before .before .before .before .before .before .before .before .before .if1 .left) in
     let t = flag-on _ _ (c .before .before .before .before .before .before .before .before .before .sizes-fit2 .ensures) (c .before .before .before .before .before .before .before .before .if2 .left) in
-    pair-frames (asWords (a .nrows) (a .ncols) (a .row-word-ptr .now) (a .word-indices .now) (a .masks .now) (a .structural-nnz)) (asWords (a .other-nrows) (a .other-ncols) (a .other-row-word-ptr .now) (a .other-word-indices .now) (a .other-masks .now) (a .other-structural-nnz)) _ s t (c .before .before .before .before .before .before .before .check .ensures) _ (c .before .before .before .before .before .enum-told .given .1) (c .before .before .before .before .check2 .ensures) (c .before .before .enum-told2 .given .1) (and-next _ _ _ (is-equal (a .nrows) (a .other-nrows) (omega arith)) (is-unequal _ _ (c .if4 .taken)))
+    pair-frames (asWords (a .nrows) (a .ncols) (a .row-word-ptr .now) (a .word-indices .now) (a .masks .now) (a .structural-nnz)) (asWords (a .other-nrows) (a .other-ncols) (a .other-row-word-ptr .now) (a .other-word-indices .now) (a .other-masks .now) (a .other-structural-nnz)) _ s t (c .before .before .before .before .before .before .before .check .ensures) _ (c .before .before .before .before .before .enum-told .given .1) (c .before .before .before .before .check2 .ensures) (c .before .before .enum-told2 .given .1) (and-next _ _ _ (is-equal (a .nrows) (a .other-nrows) (omega arith)) (is-unequal (a .ncols) (a .other-ncols) (λ h. omega arith)))
 
 returns-7 : tie.Need-returns-7
 returns-7 c =

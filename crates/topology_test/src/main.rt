@@ -1357,47 +1357,11 @@ fn unions(
     m: &mut [u64],
 ) {
     let o = Operation::Union;
-    let bn = 4;
-    let bc = 200;
+    let r = 4;
+    let s = 200;
     let bt = 72;
-    combine_on(
-        case,
-        o,
-        n,
-        c,
-        ap,
-        aw,
-        am,
-        at,
-        bn,
-        bc,
-        bp,
-        bw,
-        bm,
-        bt,
-        p,
-        w,
-        m,
-    );
-    combine_on(
-        case,
-        o,
-        bn,
-        bc,
-        bp,
-        bw,
-        bm,
-        bt,
-        n,
-        c,
-        ap,
-        aw,
-        am,
-        at,
-        p,
-        w,
-        m,
-    );
+    combine_on(case, o, n, c, ap, aw, am, at, r, s, bp, bw, bm, bt, p, w, m);
+    combine_on(case, o, r, s, bp, bw, bm, bt, n, c, ap, aw, am, at, p, w, m);
 }
 
 fn beside(

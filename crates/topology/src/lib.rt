@@ -54,37 +54,60 @@ pub enum TopologyAnswer {
     Refused(HybitError),
 }
 
-// The first column of a word.
-pub fn base_col(word: AbtmTopologyWord) -> usize
-    ensures { λ r. ⌜ r ≡ 64 * word .«word_index» ⌝ }
-{
-    64 * hybit_core::wide(word.word_index)
+impl AbtmTopologyWord {
+    // The first column of the word.
+    pub fn base_col(self) -> usize
+        ensures { λ r. ⌜ r ≡ 64 * self .«word_index» ⌝ }
+    {
+        64 * hybit_core::wide(self.word_index)
+    }
+
+    pub fn popcount(self) -> usize
+        ensures { λ r. ⌜ r ≡ count (has (self .mask)) 64 ⌝ }
+    {
+        word::popcount(self.mask)
+    }
+
+    // False from 64 on.
+    pub fn contains_offset(self, offset: usize) -> bool
+        ensures { λ r. ⌜ r ≡ has (self .mask) offset ⌝ }
+    {
+        word::contains_offset(self.mask, offset)
+    }
+
+    // Offsets from 0 to 64, 64 giving all ones; refused above.
+    pub fn rank(self, offset: usize) -> CountAnswer
+        ensures { λ r. ⌜ toldCount r ≡ wordRankAnswer (self .mask) offset ⌝ }
+    {
+        word::rank(self.mask, offset)
+    }
+
+    pub fn select(self, ordinal: usize) -> WordSelect
+        ensures { λ r. ⌜ toldSelect r ≡ selected (has (self .mask)) 64 ordinal ⌝ }
+    {
+        word::select(self.mask, ordinal)
+    }
 }
 
-pub fn word_popcount(word: AbtmTopologyWord) -> usize
-    ensures { λ r. ⌜ r ≡ count (has (word .mask)) 64 ⌝ }
-{
-    word::popcount(word.mask)
-}
+// The ratios are of the figures, whatever numbers they are.
+impl AbtmTopologyStats {
+    pub fn average_word_nnz(self) -> f64
+        ensures { λ r. ⌜ r ≡ averageWord self ⌝ }
+    {
+        hybit_core::ratio(self.structural_nnz as u64, self.nonempty_words as u64)
+    }
 
-// False from 64 on.
-pub fn word_contains_offset(word: AbtmTopologyWord, offset: usize) -> bool
-    ensures { λ r. ⌜ r ≡ has (word .mask) offset ⌝ }
-{
-    word::contains_offset(word.mask, offset)
-}
+    pub fn word_fill_ratio(self) -> f64
+        ensures { λ r. ⌜ r ≡ wordFill self ⌝ }
+    {
+        self.average_word_nnz() / hybit_core::count_as_f64(64)
+    }
 
-// Offsets from 0 to 64, 64 giving all ones; refused above.
-pub fn word_rank(word: AbtmTopologyWord, offset: usize) -> CountAnswer
-    ensures { λ r. ⌜ toldCount r ≡ wordRankAnswer (word .mask) offset ⌝ }
-{
-    word::rank(word.mask, offset)
-}
-
-pub fn word_select(word: AbtmTopologyWord, ordinal: usize) -> WordSelect
-    ensures { λ r. ⌜ toldSelect r ≡ selected (has (word .mask)) 64 ordinal ⌝ }
-{
-    word::select(word.mask, ordinal)
+    pub fn metadata_bytes_per_nnz(self) -> f64
+        ensures { λ r. ⌜ r ≡ bytesPerOne self ⌝ }
+    {
+        hybit_core::ratio(self.metadata_bytes as u64, self.structural_nnz as u64)
+    }
 }
 
 fn word_holds(ncols: usize, index: usize, mask: u64) -> bool
@@ -604,23 +627,4 @@ pub fn stats(
         nonempty_words: words,
         metadata_bytes: 4 * (nrows + 1) + 12 * words,
     })
-}
-
-// The ratios are of the record, whatever numbers it holds.
-pub fn average_word_nnz(stats: AbtmTopologyStats) -> f64
-    ensures { λ r. ⌜ r ≡ averageWord stats ⌝ }
-{
-    hybit_core::ratio(stats.structural_nnz as u64, stats.nonempty_words as u64)
-}
-
-pub fn word_fill_ratio(stats: AbtmTopologyStats) -> f64
-    ensures { λ r. ⌜ r ≡ wordFill stats ⌝ }
-{
-    average_word_nnz(stats) / hybit_core::count_as_f64(64)
-}
-
-pub fn metadata_bytes_per_nnz(stats: AbtmTopologyStats) -> f64
-    ensures { λ r. ⌜ r ≡ bytesPerOne stats ⌝ }
-{
-    hybit_core::ratio(stats.metadata_bytes as u64, stats.structural_nnz as u64)
 }

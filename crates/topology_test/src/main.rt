@@ -263,8 +263,8 @@ fn word_head(name: &[u8], word: AbtmTopologyWord) {
 fn word_offset(word: AbtmTopologyWord, offset: usize) {
     size(offset);
     text(b":");
-    flag(topology::word_contains_offset(word, offset));
-    count_answer(topology::word_rank(word, offset));
+    flag(word.contains_offset(offset));
+    count_answer(word.rank(offset));
 }
 
 fn word_offsets(word: AbtmTopologyWord) {
@@ -285,7 +285,7 @@ fn word_offsets(word: AbtmTopologyWord) {
 fn word_ordinal(word: AbtmTopologyWord, ordinal: usize) {
     size(ordinal);
     text(b":");
-    word_select_answer(topology::word_select(word, ordinal));
+    word_select_answer(word.select(ordinal));
 }
 
 fn word_ordinals(word: AbtmTopologyWord) {
@@ -305,10 +305,10 @@ fn word_ordinals(word: AbtmTopologyWord) {
 fn word_case(word_index: u32, mask: u64) {
     let word = AbtmTopologyWord { word_index, mask };
     word_head(b"base_col", word);
-    size(topology::base_col(word));
+    size(word.base_col());
     end();
     word_head(b"word_popcount", word);
-    size(topology::word_popcount(word));
+    size(word.popcount());
     end();
     word_offsets(word);
     word_ordinals(word);
@@ -392,9 +392,9 @@ fn figures(s: AbtmTopologyStats) {
     size(s.nonempty_words);
     size(s.metadata_bytes);
     text(b" ratios");
-    float(topology::average_word_nnz(s));
-    float(topology::word_fill_ratio(s));
-    float(topology::metadata_bytes_per_nnz(s));
+    float(s.average_word_nnz());
+    float(s.word_fill_ratio());
+    float(s.metadata_bytes_per_nnz());
     end();
 }
 

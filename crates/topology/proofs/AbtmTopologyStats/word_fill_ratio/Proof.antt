@@ -1,10 +1,9 @@
--- `topology::word_fill_ratio` meets its contract. Assumes nothing.
+-- `topology::AbtmTopologyStats::word_fill_ratio` meets its contract. Assumes nothing.
 use lib.Ieee.{Float, binary64, div}
 use mathlib.Core.Path.{ap₂}
 use borrow.Author.Needs.{needs}
-use Rattle.topology.proofs.word_fill_ratio.Statement.{statement}
-use Rattle.topology.proofs.word_fill_ratio.Tie as tie
-use Rattle.hybit_core.proofs.count_as_f64.Reads as count-as-f64-reads
+use Rattle.topology.proofs.AbtmTopologyStats.word_fill_ratio.Statement.{statement}
+use Rattle.topology.proofs.AbtmTopologyStats.word_fill_ratio.Tie as tie
 
 average-word-nnz-requires : tie.Need-average-word-nnz-requires
 average-word-nnz-requires c κs = search needs

@@ -9,8 +9,8 @@ use native.Mathlib.Omega.{arith}
 use lib.Dec.{eqb, ltb}
 use lib.ListN.{length, length-map, length-append}
 use lib.Seq.{ext-getD}
-use borrow.Author.Tests.{eq-eqb, eqb-true, leb-true}
-use Rattle.hybit_core.specs.Answer.{accepted, demand}
+use borrow.Author.Tests.{eq-eqb, eqb-true, le-leb, leb-true}
+use Rattle.hybit_core.specs.Answer.{accepted, demand, _andThen_}
 use Rattle.hybit_core.specs.Domain.{few, many, sizesFit}
 use Rattle.hybit_core.proofs.BoolLaws.{and-left, and-right, and-both}
 use Rattle.hybit_core.proofs.AnswerLaws.{demand-accepted, then-first, then-second}
@@ -96,12 +96,17 @@ module _ (rows cols : ℕ) (p : ℕ → ℕ → Bool) where
         (λ w l e. and-both (hit (p r) cols w) (every (λ i. ltb (64 * w + i) cols) (below (has (maskOf (p r) cols w)) 64)) e
         (every-below (λ i. ltb (64 * w + i) cols) (has (maskOf (p r) cols w)) 64 (λ i d b. and-left (ltb (64 * w + i) cols) (p r (64 * w + i)) (sym (has-mask-of (p r) cols w i d) ∙ b)))))
 
+  -- as many masks as words
+  pub topology-sides : length (topologyOf rows cols p .word) ≡ length (topologyOf rows cols p .mask)
+  unfolding topologyOf
+  topology-sides = joined-lengths (λ r. wordsOf (p r) cols) (λ r. map (maskOf (p r) cols) (wordsOf (p r) cols)) rows (λ r. sym (length-map (wordsOf (p r) cols) (maskOf (p r) cols)))
+
   -- `check`'s 11 finds nothing in it
   pub topology-accepted : wordRules (topologyOf rows cols p) ≡ true
   unfolding wordRules framedLists rowRules topologyOf
   topology-accepted =
       let t : Words = topologyOf rows cols p in
-      let same : length (t .word) ≡ length (t .mask) = sides in
+      let same : length (t .word) ≡ length (t .mask) = topology-sides in
       let pointers : framed (t .rows) (t .ptr) (length (t .mask)) ≡ true = frame in
       and-both (framedLists (t .rows) (t .ptr) (length (t .word)) (length (t .mask)) && rowRules t) (eqb (t .total) (setBits (t .mask)))
       (and-both (framedLists (t .rows) (t .ptr) (length (t .word)) (length (t .mask))) (rowRules t)
@@ -110,11 +115,20 @@ module _ (rows cols : ℕ) (p : ℕ → ℕ → Bool) where
       (λ r h e. ap₂ (λ (s m : List ℕ). rowRule cols s m) (row-words r h) (row-masks r h) ∙ keeps-rule r h)))
       (eq-eqb (t .total) (setBits (t .mask)) (sym total-bits))
     where
-      sides : length (topologyOf rows cols p .word) ≡ length (topologyOf rows cols p .mask)
-      sides = joined-lengths (λ r. wordsOf (p r) cols) (λ r. map (maskOf (p r) cols) (wordsOf (p r) cols)) rows (λ r. sym (length-map (wordsOf (p r) cols) (maskOf (p r) cols)))
-
       frame : framed rows (topologyOf rows cols p .ptr) (length (topologyOf rows cols p .mask)) ≡ true
-      frame = framed-starts (λ r. wordsOf (p r) cols) rows (length (topologyOf rows cols p .mask)) (sym sides)
+      frame = framed-starts (λ r. wordsOf (p r) cols) rows (length (topologyOf rows cols p .mask)) (sym topology-sides)
+
+  -- `check` accepts it where its sizes lie in the domain
+  pub topology-checked : rows ≤ 2 ^ 20 → cols ≤ 2 ^ 20 → length (topologyOf rows cols p .word) ≤ 2 ^ 24 → wordAnswer (topologyOf rows cols p) ≡ accepted
+  unfolding wordAnswer sizesFit topologyOf
+  topology-checked a b c =
+      let w : ℕ = length (topologyOf rows cols p .word) in
+      let m : ℕ = length (topologyOf rows cols p .mask) in
+      let d : m ≤ 2 ^ 24 = omega (arith, topology-sides) in
+      ap₂ (λ (x y : Bool). demand x 1 andThen demand y 11)
+      (and-both (few rows && few cols && many w) (many m)
+      (and-both (few rows && few cols) (many w) (and-both (few rows) (few cols) (le-leb rows (2 ^ 20) a) (le-leb cols (2 ^ 20) b)) (le-leb w (2 ^ 24) c)) (le-leb m (2 ^ 24) d))
+      topology-accepted
 
 -- a record is fixed by its membership inside the frame
 pub topology-cong : (rows cols : ℕ) (p q : ℕ → ℕ → Bool) → ((r c : ℕ) → r < rows → c < cols → p r c ≡ q r c) → topologyOf rows cols p ≡ topologyOf rows cols q

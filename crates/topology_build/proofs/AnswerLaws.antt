@@ -28,9 +28,9 @@ use Rattle.mask.specs.Calls.{listed}
 use Rattle.csr32.specs.Csr.{Csr, asCsr, csrAnswer, entries, present}
 use Rattle.csr32.proofs.FrameLaws.{Framed, parts-all}
 use Rattle.csr32.proofs.CsrLaws.{Valid, checked, present-row}
-use Rattle.topology.specs.Words.{Words, topologyOf, setBits}
+use Rattle.topology.specs.Words.{Words, topologyOf, setBits, wordAnswer}
 use Rattle.topology.specs.Calls.{asRoom, fitsWords, usedOf}
-use Rattle.topology.proofs.TopologyLaws.{total-bits}
+use Rattle.topology.proofs.TopologyLaws.{total-bits, topology-sides, topology-checked}
 use Rattle.topology_build.specs.Build.{topologyFrom, buildAnswer}
 use Rattle.topology_build.specs.Levels.{Source, rowTest, rowWords, Rows, Ended}
 use Rattle.topology_build.proofs.LevelLaws.{listed-few, columns-few}
@@ -74,8 +74,7 @@ unfolding topologyOf
 pointers-long rows cols p = length-starts (λ r. wordsOf (p r) cols) rows
 
 masks-long : (rows cols : ℕ) (p : ℕ → ℕ → Bool) → length (topologyOf rows cols p .mask) ≡ length (topologyOf rows cols p .word)
-unfolding topologyOf
-masks-long rows cols p = joined-lengths (λ r. map (maskOf (p r) cols) (wordsOf (p r) cols)) (λ r. wordsOf (p r) cols) rows (λ r. length-map (wordsOf (p r) cols) (maskOf (p r) cols))
+masks-long rows cols p = sym (topology-sides rows cols p)
 
 -- at most as many words and columns as entries
 module _ (rows cols : ℕ) (ptr col : List ℕ) (src : Source rows cols ptr col) where
@@ -121,6 +120,10 @@ module _ (rows cols : ℕ) (ptr col : List ℕ) (val : List Float) (v : Verdict)
     -- the record, by the rows as the code reads them
     record-is : topologyOf rows cols (rowTest ptr col) ≡ topologyFrom m
     record-is = ap (topologyOf rows cols) tests
+
+    accepts : wordAnswer (topologyFrom m) ≡ accepted
+    unfolding topologyOf
+    accepts = ap wordAnswer (sym record-is) ∙ topology-checked rows cols (rowTest ptr col) (ok .rows-in) (ok .cols-in) (omega (arith, words-few rows cols ptr col source-by, ok .entries-in))
 
     decides : (b : Bool) → fitsWords (topologyOf rows cols (rowTest ptr col)) (asRoom (length op) (length ow) (length om)) ≡ b → whole ≡ demand b 13
     unfolding buildAnswer
@@ -203,3 +206,8 @@ module _ (rows cols : ℕ) (ptr col : List ℕ) (val : List Float) (v : Verdict)
             (x ∙ ap₂ (λ (i : ℕ) (s : List ℕ). padded 0 i s) (length-set op1 rows w ∙ lo) (starts-are w h ew))
             (y ∙ ap₂ (λ (i : ℕ) (s : List ℕ). padded 0 i s) words-same words-are)
             (z ∙ ap₂ (λ (i : ℕ) (s : List ℕ). padded 0 i s) masks-same masks-are))
+
+-- ---- the words of an accepted plot list are accepted by `topology::check`
+
+pub built-accepted : (m : Csr) → csrAnswer m ≡ accepted → wordAnswer (topologyFrom m) ≡ accepted
+built-accepted m e = accepts (m .rows) (m .cols) (m .ptr) (m .col) (m .val) Accepted (sym e) [] [] [] refl

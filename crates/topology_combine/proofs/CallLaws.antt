@@ -28,7 +28,7 @@ use Rattle.word.specs.declared.Operation.{Operation}
 use Rattle.topology.specs.Words.{Words, asWords, member, rowRules, setBits, wordSizes, wordRules, wordAnswer}
 use Rattle.topology.specs.Calls.{Room, asRoom, fitsWords, usedOf}
 use Rattle.topology.proofs.RowLaws.{small}
-use Rattle.topology.proofs.TopologyLaws.{Accepted, accepted-facts, total-bits}
+use Rattle.topology.proofs.TopologyLaws.{Accepted, accepted-facts, total-bits, topology-checked}
 use Rattle.topology.proofs.CallLaws.{bits-whole}
 use Rattle.topology_combine.specs.Combine.{combinedWords, pairAnswer, combineAnswer}
 use Rattle.topology_combine.specs.Merge.{TwoRecords, roomAnswer}
@@ -278,3 +278,14 @@ module _ (op : Operation) (a b : Words) (ptr₀ words₀ masks₀ : List ℕ) (v
         let bits : t ≡ combinedWords op a b .total =
         bits-whole (combinedWords op a b .mask) t (omega (arith, end-few)) (e ∙ ap (λ (l : List ℕ). setBits l % 2 ^ 64) used) ∙ total-bits (a .rows) (a .cols) (λ r c. combined op (member a r c) (member b r c)) in
         ap₂ (λ (i j : ℕ). (i, j)) (many-words ∙ ap (λ (x : Words). length (x .word)) (sym (combined-same op a b))) bits
+
+-- ---- what an accepted set operation left is accepted by `topology::check`
+
+pub combined-accepted : (op : Operation) (a b : Words) (room : Room) → combineAnswer op a b room ≡ accepted → wordAnswer (combinedWords op a b) ≡ accepted
+unfolding combineAnswer
+combined-accepted op a b room e =
+    let n : ℕ = length (combinedWords op a b .word) in
+    let rest : Answer = demand (many n) 1 andThen demand (fitsWords (combinedWords op a b) room) 13 in
+    let k : Pair a b = pair-of a b (then-first (pairAnswer a b) rest e) in
+    let few-words : many n ≡ true = demand-accepted (many n) 1 (then-first (demand (many n) 1) (demand (fitsWords (combinedWords op a b) room) 13) (then-second (pairAnswer a b) rest e)) in
+    topology-checked (a .rows) (a .cols) (λ r c. combined op (member a r c) (member b r c)) (k .one .rows-in) (k .one .cols-in) (leb-true n (2 ^ 24) few-words)

@@ -5,9 +5,8 @@
 import math
 import struct
 
-HUGE = 2**64 - 1
-DIMENSION = 2**20
-ENTRIES = 2**24
+from shared import DIMENSION, HUGE, digest, flag, framed, plots_refused
+
 BEFORE = 7.5
 SHOWN = 8
 INF, NAN = math.inf, math.nan
@@ -26,47 +25,21 @@ def float_text(x):
 def show(elements, form=str, number=int):
     if len(elements) <= SHOWN:
         return "[ " + "".join(form(x) + " " for x in elements) + "]"
-    total = 0
-    for x in elements:
-        rotated = (total * 2) % 2**64 + total // 2**63
-        total = (3 * rotated + number(x)) % 2**64
-    return f"length {len(elements)} sum {total:016x}"
+    return f"length {len(elements)} sum {digest([number(x) for x in elements])}"
 
 
 def show_floats(elements):
     return show(elements, float_text, bits)
 
 
-def flag(b):
-    return "true" if b else "false"
-
-
 def refused(number, expected=0, actual=0):
     return f"refused {number} {expected} {actual}"
 
 
-# The rules of a frame, as document 01 lists them under 2.
-def framed(rows, ptr, left, right):
-    return (
-        len(ptr) == rows + 1
-        and left == right
-        and ptr[0] == 0
-        and ptr[-1] == right
-        and sorted(ptr) == list(ptr)
-    )
-
-
 # The refusal of a record, or None.
 def judged(rows, cols, ptr, col, val):
-    if rows > DIMENSION or cols > DIMENSION or len(col) > ENTRIES or len(val) > ENTRIES:
-        return refused(1)
-    if not framed(rows, ptr, len(col), len(val)):
-        return refused(2)
-    if any(c >= cols for c in col):
-        return refused(3)
-    if any(math.isnan(v) or math.isinf(v) for v in val):
-        return refused(4)
-    return None
+    number = plots_refused(rows, cols, ptr, col, val)
+    return refused(number) if number else None
 
 
 def row_product(pairs, x):

@@ -3,7 +3,8 @@
 # set of its members, each answer and each lent list by document 01's refusals, their order, and what a refusal leaves of a
 # list. crates/mask_test/stdout is this script's output.
 
-HUGE = 2**64 - 1
+from shared import HUGE, digest, flag
+
 ONES = 2**64 - 1
 STEP = 0x9E3779B97F4A7C15
 LIMIT = 2**20
@@ -16,12 +17,8 @@ SHOWN = 4
 def show(elements, form):
     if len(elements) <= SHOWN:
         return "[ " + "".join(form(x) + " " for x in elements) + "]"
-    total = 0
-    for x in elements:
-        rotated = (total * 2) % 2**64 + total // 2**63
-        total = (3 * rotated + x) % 2**64
     nonzero = len([x for x in elements if x != 0])
-    return f"length {len(elements)} nonzero {nonzero} sum {total:016x}"
+    return f"length {len(elements)} nonzero {nonzero} sum {digest(elements)}"
 
 
 def show_words(words):
@@ -30,10 +27,6 @@ def show_words(words):
 
 def show_indices(indices):
     return show(indices, str)
-
-
-def flag(b):
-    return "true" if b else "false"
 
 
 def refused(number, expected=0, actual=0):

@@ -5,10 +5,9 @@
 import math
 import struct
 
-HUGE = 2**64 - 1
+from shared import DIMENSION, ENTRIES, HUGE, digest, flag, framed, over_size, plots_refused
+
 ONES = 2**64 - 1
-DIMENSION = 2**20
-ENTRIES = 2**24
 SHOWN = 8
 # What a list holds before a build.
 NUMBER, MASK = 77, 0x7777777777777777
@@ -17,11 +16,7 @@ NUMBER, MASK = 77, 0x7777777777777777
 def show(elements, form=str):
     if len(elements) <= SHOWN:
         return "[ " + "".join(form(x) + " " for x in elements) + "]"
-    total = 0
-    for x in elements:
-        rotated = (total * 2) % 2**64 + total // 2**63
-        total = (3 * rotated + x) % 2**64
-    return f"length {len(elements)} sum {total:016x}"
+    return f"length {len(elements)} sum {digest(elements)}"
 
 
 def mask_text(w):
@@ -34,10 +29,6 @@ def show_masks(masks):
 
 def float_text(x):
     return struct.pack(">d", x).hex()
-
-
-def flag(b):
-    return "true" if b else "false"
 
 
 def refused(number):
@@ -86,15 +77,6 @@ def written(rows, cols, sets):
     return rows, cols, ptr, word, mask, sum(len(columns) for columns in sets)
 
 
-def framed(rows, ptr, left, right):
-    return len(ptr) == rows + 1 and left == right and ptr[0] == 0 and ptr[-1] == right and sorted(ptr) == ptr
-
-
-def over_size(record):
-    rows, cols, _, left, right = record[:5]
-    return rows > DIMENSION or cols > DIMENSION or len(left) > ENTRIES or len(right) > ENTRIES
-
-
 # Document 01's rules of words, each by its own test.
 def broken(record):
     rows, cols, ptr, word, mask, total = record
@@ -113,7 +95,7 @@ def broken(record):
 
 # 1, 11; None where neither applies.
 def judged(record):
-    if over_size(record):
+    if over_size(*record[:2], *record[3:5]):
         return refused(1)
     return refused(11) if broken(record) else None
 
@@ -155,15 +137,8 @@ def fits(room, whole):
 
 # The plot list that words are built from: 1, 2, 3, 4.
 def plots_judged(rows, cols, ptr, col, val):
-    if rows > DIMENSION or cols > DIMENSION or len(col) > ENTRIES or len(val) > ENTRIES:
-        return refused(1)
-    if not framed(rows, ptr, len(col), len(val)):
-        return refused(2)
-    if any(c >= cols for c in col):
-        return refused(3)
-    if any(math.isnan(v) or math.isinf(v) for v in val):
-        return refused(4)
-    return None
+    number = plots_refused(rows, cols, ptr, col, val)
+    return refused(number) if number else None
 
 
 def words_of_plots(rows, cols, ptr, col, val):
@@ -181,7 +156,7 @@ OPERATIONS = [
 
 
 def combined(operation, a, b):
-    if over_size(a) or over_size(b):
+    if over_size(*a[:2], *a[3:5]) or over_size(*b[:2], *b[3:5]):
         return refused(1), None
     if broken(a) or broken(b):
         return refused(11), None

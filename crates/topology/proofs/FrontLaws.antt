@@ -21,6 +21,9 @@ use Rattle.word.proofs.WordLaws.{mask-none}
 use Rattle.lent.proofs.ListLaws.{getD-map-lt}
 use Rattle.topology.proofs.RowLaws.{Row}
 
+pub some-is : (a b : ℕ) → _≡_ {A = Option ℕ} (some a) (some b) → a ≡ b
+some-is a b e = cc
+
 module _ (p : ℕ → Bool) (n : ℕ) where
   -- ---- words
 
@@ -212,9 +215,6 @@ module _ (p : ℕ → Bool) (n : ℕ) where
             count-frame (64 * w + o) (omega arith) ∙ count-in w o (omega (arith, y .bound)) ∙ ap (λ (j : ℕ). count (within n p) (64 * w) + count (has j) o) (sym (x .mask))
             ∙ ap (λ (j : ℕ). count (within n p) (64 * w) + j) (y .ranked) ∙ omega (arith, start) in
             sym (ap (selected p n) (sym r) ∙ selected-of-rank p n (64 * w + o) inside (and-right (ltb (64 * w + o) n) (p (64 * w + o)) b))
-          where
-            some-is : (a b : ℕ) → _≡_ {A = Option ℕ} (some a) (some b) → a ≡ b
-            some-is a b e = cc
 
         -- a word with more ones than are left has one to give
         pub selecting-gives : {A : Type 0} → none ≡ selected (has m) 64 left → left < count (has m) 64 → A

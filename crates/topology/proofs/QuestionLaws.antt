@@ -12,14 +12,12 @@ use Rattle.word.proofs.BelowLaws.{Selects, selected-finds, selected-nothing, se
 use Rattle.topology.specs.Words.{Words, member, setBits}
 use Rattle.topology.specs.Calls.{rank, select}
 use Rattle.topology.proofs.RowLaws.{small}
+use Rattle.topology.proofs.FrontLaws.{some-is}
 use Rattle.topology.proofs.TopologyLaws.{Accepted, row-of, row-bits}
 
 abbrev is-some : Option ℕ → Bool
 is-some none = false
 is-some (some c) = true
-
-some-is : (a b : ℕ) → _≡_ {A = Option ℕ} (some a) (some b) → a ≡ b
-some-is a b e = cc
 
 module _ (t : Words) (r : ℕ) where
   -- select undoes rank

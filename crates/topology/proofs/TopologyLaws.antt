@@ -96,6 +96,11 @@ module _ (rows cols : ℕ) (p : ℕ → ℕ → Bool) where
         (λ w l e. and-both (hit (p r) cols w) (every (λ i. ltb (64 * w + i) cols) (below (has (maskOf (p r) cols w)) 64)) e
         (every-below (λ i. ltb (64 * w + i) cols) (has (maskOf (p r) cols w)) 64 (λ i d b. and-left (ltb (64 * w + i) cols) (p r (64 * w + i)) (sym (has-mask-of (p r) cols w i d) ∙ b)))))
 
+  -- a pointer for each row, and one more
+  pub topology-pointers : length (topologyOf rows cols p .ptr) ≡ suc rows
+  unfolding topologyOf
+  topology-pointers = length-starts (λ r. wordsOf (p r) cols) rows
+
   -- as many masks as words
   pub topology-sides : length (topologyOf rows cols p .word) ≡ length (topologyOf rows cols p .mask)
   unfolding topologyOf

@@ -1,6 +1,6 @@
 -- Laws of the public build: the tests of its rows, which lists are too short, and what each of its ends answers and leaves. Assumes nothing.
 use mathlib.Core.Bool.{Bool, true, false, _&&_, and-false}
-use mathlib.Core.List.{List, [], _∷_, _++_, map}
+use mathlib.Core.List.{List, [], _∷_, _++_}
 use mathlib.Core.Path.{_≡_, refl, sym, ap, ap₂, _∙_, subst}
 use Prim.Native.Nat.{ℕ, suc, min, _+_, _%_, _^_, _≤_, _<_}
 use native.Mathlib.Nat.{mod-eq-of-lt}
@@ -10,7 +10,7 @@ use native.Mathlib.Decide.{decLt}
 use borrow.Author.Tests.{eq-eqb, eqb-true, le-leb, lt-leb}
 use lib.Dec.{eqb, leb}
 use lib.Ieee.{Float}
-use lib.ListN.{length, take, drop, set, length-append, length-map, length-set, length-take, length-drop}
+use lib.ListN.{length, take, drop, set, length-append, length-set, length-take, length-drop}
 use lib.Seq.{take-append-le, take-suc-set, take-all, length-take-le}
 use Rattle.hybit_core.specs.Answer.{Answer, accepted, refused, demand, _andThen_, Given, gives, refuses, answers}
 use Rattle.hybit_core.specs.Table.{paper, told}
@@ -22,15 +22,15 @@ use Rattle.hybit_core.proofs.BoolLaws.{and-both, same-test}
 use Rattle.hybit_core.proofs.AnswerLaws.{accepted-by, refused-by}
 use Rattle.lent.specs.Lists.{joined, each, starts, part, some}
 use Rattle.lent.specs.Lent.{padded, built}
-use Rattle.lent.proofs.ListLaws.{length-starts, joined-lengths, joined-le}
-use Rattle.word.specs.Bits.{below, maskOf, wordsOf}
+use Rattle.lent.proofs.ListLaws.{joined-le}
+use Rattle.word.specs.Bits.{below}
 use Rattle.mask.specs.Calls.{listed}
 use Rattle.csr32.specs.Csr.{Csr, asCsr, csrAnswer, entries, present}
 use Rattle.csr32.proofs.FrameLaws.{Framed, parts-all}
 use Rattle.csr32.proofs.CsrLaws.{Valid, checked, present-row}
 use Rattle.topology.specs.Words.{Words, topologyOf, setBits, wordAnswer}
 use Rattle.topology.specs.Calls.{asRoom, fitsWords, usedOf}
-use Rattle.topology.proofs.TopologyLaws.{total-bits, topology-sides, topology-checked}
+use Rattle.topology.proofs.TopologyLaws.{total-bits, topology-pointers, topology-sides, topology-checked}
 use Rattle.topology_build.specs.Build.{topologyFrom, buildAnswer}
 use Rattle.topology_build.specs.Levels.{Source, rowTest, rowWords, Rows, Ended}
 use Rattle.topology_build.proofs.LevelLaws.{listed-few, columns-few}
@@ -67,16 +67,7 @@ module _ (t : Words) (np nw nm : ℕ) where
       and-both (leb (length (t .ptr)) np && leb (length (t .word)) nw) (leb (length (t .mask)) nm)
       (and-both (leb (length (t .ptr)) np) (leb (length (t .word)) nw) (le-leb (length (t .ptr)) np x) (le-leb (length (t .word)) nw y)) (le-leb (length (t .mask)) nm z)
 
--- ---- the record of the rows that the code writes
-
-pointers-long : (rows cols : ℕ) (p : ℕ → ℕ → Bool) → length (topologyOf rows cols p .ptr) ≡ suc rows
-unfolding topologyOf
-pointers-long rows cols p = length-starts (λ r. wordsOf (p r) cols) rows
-
-masks-long : (rows cols : ℕ) (p : ℕ → ℕ → Bool) → length (topologyOf rows cols p .mask) ≡ length (topologyOf rows cols p .word)
-masks-long rows cols p = sym (topology-sides rows cols p)
-
--- at most as many words and columns as entries
+-- ---- at most as many words and columns as entries
 module _ (rows cols : ℕ) (ptr col : List ℕ) (src : Source rows cols ptr col) where
   words-few : length (joined (rowWords (rowTest ptr col) cols) rows) ≤ length col
   words-few =
@@ -135,7 +126,7 @@ module _ (rows cols : ℕ) (ptr col : List ℕ) (val : List Float) (v : Verdict)
         → Result whole (refuses (paper ShortList)) (topologyFrom m) (length op) (length ow) (length om) op2 ow2 om2
     from-no-rows op2 ow2 om2 h x y z =
         refusal whole ShortList (topologyFrom m) (length op) (length ow) (length om) op2 ow2 om2
-        (decides false (no-pointers (topologyOf rows cols (rowTest ptr col)) (length op) (length ow) (length om) (omega (arith, pointers-long rows cols (rowTest ptr col))))) x y z
+        (decides false (no-pointers (topologyOf rows cols (rowTest ptr col)) (length op) (length ow) (length om) (omega (arith, topology-pointers rows cols (rowTest ptr col))))) x y z
 
     -- the rows are written to the fronts of the lists, of `room` places, and n is what `build` answered
     module _ (room : ℕ) (er : room ≡ min (length ow) (length om)) (n : ℕ) (op1 ws1 ms1 : List ℕ) (f : Ended (rowTest ptr col) cols rows n op1 ws1 ms1)
@@ -158,7 +149,7 @@ module _ (rows cols : ℕ) (ptr col : List ℕ) (val : List Float) (v : Verdict)
       from-short op2 ow2 om2 h x y z =
           let over : length ws1 < length (joined (rowWords (rowTest ptr col) cols) rows) = f .over (omega (arith, words-room)) in
           refusal whole ShortList (topologyFrom m) (length op) (length ow) (length om) op2 ow2 om2
-          (decides false (no-words (topologyOf rows cols (rowTest ptr col)) (length op) (length ow) (length om) (masks-long rows cols (rowTest ptr col)) (omega (arith, words-room))))
+          (decides false (no-words (topologyOf rows cols (rowTest ptr col)) (length op) (length ow) (length om) (sym (topology-sides rows cols (rowTest ptr col))) (omega (arith, words-room))))
           (x ∙ ap (λ (i : ℕ). padded 0 i []) lo) (y ∙ ap (λ (i : ℕ). padded 0 i []) words-same) (z ∙ ap (λ (i : ℕ). padded 0 i []) masks-same)
 
       module _ (l : n ≤ room) where
@@ -200,8 +191,8 @@ module _ (rows cols : ℕ) (ptr col : List ℕ) (val : List Float) (v : Verdict)
             subst (λ (s : Words). Result whole (gives (n, b)) s (length op) (length ow) (length om) op2 ow2 om2) record-is
             (success whole n b (topologyOf rows cols (rowTest ptr col)) (length op) (length ow) (length om) op2 ow2 om2
             (decides true
-            (has-room (topologyOf rows cols (rowTest ptr col)) (length op) (length ow) (length om) (omega (arith, pointers-long rows cols (rowTest ptr col))) (omega (arith, count-is))
-            (omega (arith, count-is, masks-long rows cols (rowTest ptr col)))))
+            (has-room (topologyOf rows cols (rowTest ptr col)) (length op) (length ow) (length om) (omega (arith, topology-pointers rows cols (rowTest ptr col))) (omega (arith, count-is))
+            (omega (arith, count-is, sym (topology-sides rows cols (rowTest ptr col))))))
             count-is (total-is om2 b z eb)
             (x ∙ ap₂ (λ (i : ℕ) (s : List ℕ). padded 0 i s) (length-set op1 rows w ∙ lo) (starts-are w h ew))
             (y ∙ ap₂ (λ (i : ℕ) (s : List ℕ). padded 0 i s) words-same words-are)

@@ -13,11 +13,13 @@ use Rattle.hybit_core.specs.Domain.{many}
 use Rattle.hybit_core.proofs.BoolLaws.{and-left, and-right}
 use Rattle.lent.specs.Lists.{joined}
 use Rattle.lent.specs.Lent.{Appended}
-use Rattle.lent.proofs.ListLaws.{joined-lengths, length-joined-suc, length-joined-le, getD-starts, length-starts}
+use Rattle.lent.proofs.ListLaws.{joined-lengths, length-joined-suc, length-joined-le, getD-starts}
 use Rattle.lent.proofs.LentLaws.{Filled, filled-none, filled-more, filled-length, appended-none, appended-join}
+use Rattle.word.specs.Word.{combined}
 use Rattle.word.specs.declared.Operation.{Operation}
-use Rattle.topology.specs.Words.{Words}
+use Rattle.topology.specs.Words.{Words, member}
 use Rattle.topology.specs.Calls.{asRoom, fitsWords}
+use Rattle.topology.proofs.TopologyLaws.{topology-pointers}
 use Rattle.topology_combine.specs.Combine.{combinedWords}
 use Rattle.topology_combine.proofs.RowsLaws.{wordsAt, masksAt, combined-words, combined-masks, combined-ptr, masks-long}
 
@@ -27,7 +29,7 @@ module _ (op : Operation) (a b : Words) where
   masks-total r = joined-lengths (masksAt op a b) (wordsAt op a b) r (masks-long op a b)
 
   pub pointers-long : length (combinedWords op a b .ptr) ≡ suc (a .rows)
-  pointers-long = ap length (combined-ptr op a b) ∙ length-starts (wordsAt op a b) (a .rows)
+  pointers-long = topology-pointers (a .rows) (a .cols) (λ r c. combined op (member a r c) (member b r c))
 
   pub pointer-at : (r : ℕ) → r ≤ a .rows → getD (combinedWords op a b .ptr) r 0 ≡ length (joined (wordsAt op a b) r)
   pointer-at r h = ap (λ (l : List ℕ). getD l r 0) (combined-ptr op a b) ∙ getD-starts (wordsAt op a b) (a .rows) r h

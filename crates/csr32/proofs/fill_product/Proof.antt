@@ -1,4 +1,5 @@
 -- `csr32::fill_product` meets its contract. Assumes nothing.
+use native.Mathlib.Omega.{arith}
 use borrow.Author.Needs.{needs}
 use mathlib.Core.Path.{_≡_}
 use Prim.Native.Nat.{_-_, _≤_}
@@ -33,7 +34,9 @@ loop-less : tie.Need-loop-less Inv-loop μ-loop
 loop-less c = search needs
 
 loop-again : tie.Need-loop-again Inv-loop μ-loop
-loop-again c = search (filled-more, needs)
+loop-again c =
+    let h = c .before .loop-test .taken in
+    (omega (arith, h), search needs, filled-more _ (c .before .before .before .before .before .before .before .before .args .y .now) _ _ (c .before .before .loop .inv .2) _ (c .row-product .ensures) (omega (arith, h, c .before .before .before .before .before .before .before .before .pre .1 .1)))
 
 same-length : tie.Need-same-length Inv-loop μ-loop
 same-length c = search needs

@@ -74,7 +74,8 @@ fn columns_inside(col_idx: &[u32], ncols: usize) -> bool
     true
 }
 
-fn all_finite(values: &[f64]) -> bool
+// Whether every value is finite, for any list: stores ask it of theirs.
+pub fn all_finite(values: &[f64]) -> bool
     ensures { λ r. ⌜ r ≡ every finite (now (values .entry)) ⌝ }
 {
     let mut i: usize = 0;

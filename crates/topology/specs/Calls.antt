@@ -27,7 +27,7 @@ unfoldable pub rowAnswer : Words → ℕ → Answer
 rowAnswer t r = wordAnswer t andThen demand (ltb r (t .rows)) 7
 
 -- a part of a list as an answer: empty where the call is refused
-abbrev pub partGiven : Answer → List ℕ → List ℕ
+abbrev pub partGiven : {A : Type 0} → Answer → List A → List A
 partGiven a l = kept a l []
 
 -- how many present columns lie below c

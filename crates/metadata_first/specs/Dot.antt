@@ -3,7 +3,7 @@
 use Prim.Native.Nat.{ℕ, _+_, _-_, _^_}
 use mathlib.Core.Bool.{Bool, not, _&&_}
 use mathlib.Core.List.{List, foldl}
-use lib.Dec.{leb, ltb}
+use lib.Dec.{ltb}
 use lib.ListN.{length}
 use lib.Ieee.{Float, binary64, add, mul}
 use Rattle.hybit_core.specs.Answer.{Answer, Given, gives, refuses, demand, lengthIs, answers, _andThen_}
@@ -63,10 +63,6 @@ sparseDotRow s a x r = answers (dotAnswer s a x r) (dotOn s a x r)
 abbrev pub toldDot : DotAnswer → Given AbtmRowDot
 toldDot (dotted.Dot d) = gives d
 toldDot (dotted.Refused e) = refuses (paper e)
-
--- sparse_dot_rows, into two lists of so many places: then 13
-unfoldable pub dotsAnswer : Store → Mask → List Float → ℕ → ℕ → Answer
-dotsAnswer s a x sums counts = operandsAnswer s a x andThen demand (leb (s .words .rows) sums && leb (s .words .rows) counts) 13
 
 -- ---- ratios and totals of the counts
 

@@ -1,0 +1,29 @@
+-- A row in the making: where the values of its words start, and what the private functions require and ensure.
+use Prim.Native.Nat.{ℕ, _+_, _/_, _%_, _≤_, _<_}
+use mathlib.Core.Bool.{Bool, true}
+use mathlib.Core.List.{List}
+use mathlib.Core.Path.{_≡_}
+use lib.ListN.{length, getD}
+use Rattle.hybit_core.specs.Answer.{Answer, Told, accepted, refused, plain}
+use Rattle.word.specs.Bits.{has, count, ceil64}
+use Rattle.csr32.specs.Csr.{Csr, csrAnswer, entries, present}
+use Rattle.topology.specs.Words.{topologyOf}
+
+-- the rank of each column of the test over n columns can be read: the place of its word's first value, and the ones of its
+-- word's mask below it
+pub record Ranks (p : ℕ → Bool) (n : ℕ) (bits starts : List ℕ) : Type 0 where
+  pub bits-room : ceil64 n ≤ length bits
+  pub starts-room : ceil64 n ≤ length starts
+  pub rank-is : (c : ℕ) → c < n → p c ≡ true → getD starts (c / 64) 0 + count (has (getD bits (c / 64) 0)) (c % 64) ≡ count p c
+
+-- an accepted plot list and the lists of its words
+pub record Source (m : Csr) (ptr word mask : List ℕ) : Type 0 where
+  pub list-accepted : csrAnswer m ≡ accepted
+  pub pointers-are : ptr ≡ topologyOf (m .rows) (m .cols) (λ r. present (entries m r)) .ptr
+  pub words-are : word ≡ topologyOf (m .rows) (m .cols) (λ r. present (entries m r)) .word
+  pub masks-are : mask ≡ topologyOf (m .rows) (m .cols) (λ r. present (entries m r)) .mask
+
+-- the refusal of a build that is refused: that of the checks, or else 13
+abbrev pub lastRefusal : Answer → Told
+lastRefusal accepted = plain 13
+lastRefusal (refused t) = t

@@ -280,7 +280,7 @@ pub fn from_csr32(
         &mut row_value_ptr[..nrows + 1],
         &mut packed[..structural_nnz],
     );
-    if !csr32::all_finite(packed) {
+    if !csr32::all_finite(&packed[..structural_nnz]) {
         return refuse(
             nrows,
             ncols,

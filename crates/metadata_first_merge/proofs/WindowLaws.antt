@@ -12,8 +12,9 @@ use lib.Seq.{ext-getD, getD-set-same, getD-set-other, drop-cons}
 use lib.Ieee.{Float, nan, binary64, add}
 use borrow.Author.Tests.{lt-ltb, le-ltb, le-leb, lt-leb, ltb-true, eq-eqb, ne-eqb}
 use Rattle.hybit_core.specs.Floats.{zero64, finite}
+use Rattle.hybit_core.proofs.BoolLaws.{flag-on, flag-off}
 use Rattle.lent.specs.Lists.{each, every, some}
-use Rattle.lent.proofs.ListLaws.{length-each, getD-each, each-set, each-cong, each-is, every-all, some-none}
+use Rattle.lent.proofs.ListLaws.{length-each, getD-each, each-set, each-cong, each-is, every-all, every-more, every-fails, every-done, some-none}
 use Rattle.csr32.specs.Csr.{Entry, merged}
 use Rattle.csr32.proofs.CsrLaws.{present-columns}
 use Rattle.metadata_first_merge.specs.Merge.{rowValues}
@@ -85,6 +86,39 @@ module _ (base width c : ℕ) (t : Bool) where
   pub test-in : base ≤ c → c - base < width → (r : Bool) → r ≡ t → r ≡ (not (inWindow base width c) || t)
   test-in h k r e = e ∙ ap₂ (λ (r s : Bool). not (r && s) || t) (sym (le-leb base c h)) (sym (lt-ltb (c - base) width k))
 
+-- the test of the sums, as a loop over the columns finds: what is left decides
+
+module _ (cs : List ℕ) (base : ℕ) (sums : List Float) (k : ℕ) (inv : sumsFinite base sums cs ≡ sumsFinite base sums (drop k cs)) where
+  pub sums-done : length cs ≤ k → true ≡ sumsFinite base sums cs
+  unfolding sumsFinite
+  sums-done h = every-done (λ c. not (inWindow base (length sums) c) || finite (getD sums (c - base) nan)) cs k inv h
+
+  -- c is the column at place k, as the code reads it
+  module _ (c : ℕ) (h : k < length cs) (e : c ≡ getD cs k 0) where
+    next : true ≡ (not (inWindow base (length sums) c) || finite (getD sums (c - base) nan)) → sumsFinite base sums cs ≡ sumsFinite base sums (drop (k + 1) cs)
+    unfolding sumsFinite
+    next t =
+        every-more (λ c. not (inWindow base (length sums) c) || finite (getD sums (c - base) nan)) cs k inv 0 h
+        (t ∙ ap (λ (c : ℕ). not (inWindow base (length sums) c) || finite (getD sums (c - base) nan)) e)
+
+    pub sums-before : c < base → sumsFinite base sums cs ≡ sumsFinite base sums (drop (k + 1) cs)
+    sums-before b = next (test-before base (length sums) c (finite (getD sums (c - base) nan)) b)
+
+    pub sums-past : base ≤ c → length sums ≤ c - base → sumsFinite base sums cs ≡ sumsFinite base sums (drop (k + 1) cs)
+    sums-past b g = next (test-past base (length sums) c (finite (getD sums (c - base) nan)) b g)
+
+    -- t is the test of the column's sum, as the code finds it
+    module _ (b : base ≤ c) (g : c - base < length sums) (t : Bool) (f : t ≡ finite (getD sums (c - base) nan)) where
+      pub sums-more : not t ≡ false → sumsFinite base sums cs ≡ sumsFinite base sums (drop (k + 1) cs)
+      sums-more q = next (test-in base (length sums) c (finite (getD sums (c - base) nan)) b g true (flag-on (finite (getD sums (c - base) nan)) t f q))
+
+      pub sums-fails : not t ≡ true → false ≡ sumsFinite base sums cs
+      unfolding sumsFinite
+      sums-fails q =
+          every-fails (λ c. not (inWindow base (length sums) c) || finite (getD sums (c - base) nan)) cs k inv 0 h
+          (test-in base (length sums) c (finite (getD sums (c - base) nan)) b g false (flag-off (finite (getD sums (c - base) nan)) t f q)
+          ∙ ap (λ (c : ℕ). not (inWindow base (length sums) c) || finite (getD sums (c - base) nan)) e)
+
 -- ---- clearing: 0.0 but at the columns from place k on
 
 pub outside-none : (cs : List ℕ) (base : ℕ) (sums : List Float) → Outside cs base sums → Outside (drop 0 cs) base sums
@@ -119,6 +153,9 @@ module _ (cs : List ℕ) (base k : ℕ) (sums : List Float) (inv : Outside (drop
 
 -- ---- the window of a whole row
 
+pub zeros-long : (sums : List Float) (m n : ℕ) → sums ≡ replicate m zero64 → m ≡ n → sums ≡ replicate n zero64
+zeros-long sums m n e h = e ∙ ap (λ (k : ℕ). replicate k zero64) h
+
 module _ (cs : List ℕ) (vs : List Float) (base width : ℕ) (sums : List Float) (l : length vs ≡ length cs) (e : sums ≡ each (λ i. merged (zip cs vs) (base + i)) width) where
   sums-length : length sums ≡ width
   sums-length = ap length e ∙ length-each (λ i. merged (zip cs vs) (base + i)) width
@@ -152,12 +189,12 @@ module _ (cs : List ℕ) (vs : List Float) where
   pub searched-none : Searched cs vs 0
   searched-none = record { is = every-all (λ c. leb 0 c || finite (merged (zip cs vs) c)) cs (λ c. ap (λ (t : Bool). t || finite (merged (zip cs vs) c)) (le-leb 0 c (omega arith))) }
 
-  pub searched-more : (base width : ℕ) → Searched cs vs base → true ≡ windowFinite base width cs vs → Searched cs vs (base + width)
+  pub searched-more : (base n width : ℕ) → Searched cs vs base → true ≡ windowFinite base n cs vs → n ≡ width → Searched cs vs (base + width)
   unfolding windowFinite
-  searched-more base width inv e =
+  searched-more base n width inv e h =
       record {
         is = every-by (λ c. leb base c || finite (merged (zip cs vs) c)) (λ c. not (inWindow base width c) || finite (merged (zip cs vs) c)) (λ c. leb (base + width) c || finite (merged (zip cs vs) c)) cs
-          (λ c. one c (finite (merged (zip cs vs) c)) (decLt c base) (decLt (c - base) width)) (inv .is) (sym e);
+          (λ c. one c (finite (merged (zip cs vs) c)) (decLt c base) (decLt (c - base) width)) (inv .is) (ap (λ (k : ℕ). windowFinite base k cs vs) (sym h) ∙ sym e);
       }
     where
       one : (c : ℕ) (t : Bool) → Dec (c < base) → Dec (c - base < width) → (leb base c || t) ≡ true → (not (inWindow base width c) || t) ≡ true → (leb (base + width) c || t) ≡ true

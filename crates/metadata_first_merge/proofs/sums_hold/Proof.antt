@@ -4,8 +4,7 @@ use Prim.Native.Nat.{_-_, _≤_}
 use native.Mathlib.Omega.{arith}
 use lib.ListN.{length, drop, length-set}
 use Rattle.metadata_first_merge.specs.Window.{sumsFinite}
-use Rattle.lent.proofs.ListLaws.{every-more, every-fails, every-done}
-use Rattle.metadata_first_merge.proofs.WindowLaws.{test-before, test-past, test-in}
+use Rattle.metadata_first_merge.proofs.WindowLaws.{sums-before, sums-past, sums-more, sums-fails, sums-done}
 use borrow.Author.Needs.{needs}
 use Rattle.metadata_first_merge.proofs.sums_hold.Statement.{statement}
 use Rattle.metadata_first_merge.proofs.sums_hold.Tie as tie
@@ -45,28 +44,47 @@ is-finite-requires : tie.Need-is-finite-requires Inv-loop μ-loop
 is-finite-requires c κs = search needs
 
 returns : tie.Need-returns Inv-loop μ-loop
-returns c = search needs
+returns c =
+    let s = c .before .before .before .before .before .before .before .before .before .before .before in
+    let l = c .before .before .before .before .before .before .before .before .loop in
+    let w = c .before .before .before .before .before .wide in
+    sums-fails (s .args .cols .now) (s .args .base) (s .args .sums .now) (l .k) (l .inv) (w .result) (omega arith) (w .ensures) (omega arith) (omega arith) (c .before .is-finite .result) (c .before .is-finite .ensures) (c .if3 .taken)
 
 loop-less : tie.Need-loop-less Inv-loop μ-loop
 loop-less c = search needs
 
 loop-again : tie.Need-loop-again Inv-loop μ-loop
-loop-again c = search needs
+loop-again c =
+    let s = c .before .before .before .before .before .before .before .before .before .before .before in
+    let l = c .before .before .before .before .before .before .before .before .loop in
+    let w = c .before .before .before .before .before .wide in
+    sums-more (s .args .cols .now) (s .args .base) (s .args .sums .now) (l .k) (l .inv) (w .result) (omega arith) (w .ensures) (omega arith) (omega arith) (c .before .is-finite .result) (c .before .is-finite .ensures) (c .if3 .left)
 
 loop-less-2 : tie.Need-loop-less-2 Inv-loop μ-loop
 loop-less-2 c = search needs
 
 loop-again-2 : tie.Need-loop-again-2 Inv-loop μ-loop
-loop-again-2 c = search needs
+loop-again-2 c =
+    let s = c .before .before .before .before .before .before .before .before in
+    let l = c .before .before .before .before .before .loop in
+    let w = c .before .before .wide in
+    sums-past (s .args .cols .now) (s .args .base) (s .args .sums .now) (l .k) (l .inv) (w .result) (omega arith) (w .ensures) (omega arith) (omega arith)
 
 loop-less-3 : tie.Need-loop-less-3 Inv-loop μ-loop
 loop-less-3 c = search needs
 
 loop-again-3 : tie.Need-loop-again-3 Inv-loop μ-loop
-loop-again-3 c = search needs
+loop-again-3 c =
+    let s = c .before .before .before .before .before .before .before in
+    let l = c .before .before .before .before .loop in
+    let w = c .before .wide in
+    sums-before (s .args .cols .now) (s .args .base) (s .args .sums .now) (l .k) (l .inv) (w .result) (omega arith) (w .ensures) (omega arith)
 
 returns-2 : tie.Need-returns-2 Inv-loop μ-loop
-returns-2 c = search needs
+returns-2 c =
+    let s = c .before .before .before .before in
+    let l = c .before .loop in
+    sums-done (s .args .cols .now) (s .args .base) (s .args .sums .now) (l .k) (l .inv) (omega arith)
 
 pub sums-hold-spec : {M : Type 1} → statement M
 sums-hold-spec =

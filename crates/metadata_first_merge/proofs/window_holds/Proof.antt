@@ -1,3 +1,9 @@
+-- `metadata_first_merge::window_holds` meets its contract. Assumes nothing.
+use mathlib.Core.Path.{_≡_, refl, sym, _∙_}
+use Prim.Native.Nat.{_-_, _+_, _^_, _≤_}
+use native.Mathlib.Omega.{arith}
+use lib.ListN.{length, replicate}
+use Rattle.metadata_first_merge.proofs.WindowLaws.{zeros-long, window-outside, window-test}
 use borrow.Author.Needs.{needs}
 use Rattle.metadata_first_merge.proofs.window_holds.Statement.{statement}
 use Rattle.metadata_first_merge.proofs.window_holds.Tie as tie
@@ -7,25 +13,27 @@ use Rattle.metadata_first_merge.proofs.add_window.Reads as add-window-r
 use Rattle.metadata_first_merge.proofs.clear_window.Reads as clear-window-reads
 use Rattle.metadata_first_merge.proofs.sums_hold.Reads as sums-hold-reads
 
--- src/lib.rt:84:5
 add-window-requires : tie.Need-add-window-requires
 add-window-requires c κs = search needs
 
--- src/lib.rt:85:9
 sums-hold-requires : tie.Need-sums-hold-requires
 sums-hold-requires c κs = search needs
 
--- src/lib.rt:86:5
 clear-window-requires : tie.Need-clear-window-requires
-clear-window-requires c κs = search needs
+clear-window-requires c κs =
+    let s = c .before .before .before .before .before .before .before .before .before .before in
+    let f = c .before .before .before .before .before .add-window in
+    window-outside (s .args .cols .now) (s .args .vals .now) (s .args .base) (length (s .args .sums .now)) _ (s .pre .0) (f .ensures)
 
--- src/lib.rt:79:1
 same-length : tie.Need-same-length
 same-length c = search needs
 
--- src/lib.rt:79:1
 returns : tie.Need-returns
-returns c = search needs
+returns c =
+    let s = c .before .before .before .before .before .before .before .before .before .before .before .before .before in
+    let f = c .before .before .before .before .before .before .before .before .add-window in
+    let g = c .before .before .clear-window in
+    (window-test (s .args .cols .now) (s .args .vals .now) (s .args .base) (length (s .args .sums .now)) _ (s .pre .0) (f .ensures) _ (c .before .before .before .before .sums-hold .ensures), zeros-long _ _ _ (g .ensures) (f .kept .1 .1 .1 .0))
 
 pub window-holds-spec : {M : Type 1} → statement M
 window-holds-spec =

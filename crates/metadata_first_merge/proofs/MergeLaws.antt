@@ -1,24 +1,24 @@
 -- Laws of merged values: one entry more, columns without an entry, and finite merged values by columns and row after row. Assumes nothing.
-use mathlib.Core.Bool.{Bool, true, false, _&&_, _||_, true≢false}
+use mathlib.Core.Bool.{Bool, true, false, not, _&&_, _||_, true≢false}
 use mathlib.Core.List.{List, [], _∷_, _++_, map, zip, zipWith, foldl, foldl-append}
 use mathlib.Core.Path.{_≡_, refl, sym, ap, ap₂, _∙_}
-use Prim.Native.Nat.{ℕ, zero, suc, _+_, _≤_, _<_}
+use Prim.Native.Nat.{ℕ, zero, suc, _+_, _-_, _≤_, _<_}
 use native.Mathlib.Nat.{not-suc-le-zero}
 use native.Mathlib.Numerals.{add-one}
 use native.Mathlib.Omega.{arith}
 use lib.Dec.{eqb, ltb}
-use lib.ListN.{length, getD, take}
+use lib.ListN.{length, getD, take, drop}
 use lib.Seq.{take-all}
 use lib.Ieee.{Float, nan, binary64, add}
 use borrow.Author.Tests.{ltb-true, eqb-true, eq-eqb}
 use Rattle.hybit_core.specs.Floats.{zero64, finite}
-use Rattle.hybit_core.proofs.BoolLaws.{and-left, and-right, and-both, same-test}
+use Rattle.hybit_core.proofs.BoolLaws.{and-left, and-right, and-both, same-test, not-both, flag-on, flag-off}
 use Rattle.lent.specs.Lists.{joined, consIf, only, every, some}
 use Rattle.lent.proofs.ListLaws.{only-append, every-append, every-front, every-back, every-map, every-getD, some-every, some-getD, joined-at}
 use Rattle.word.specs.Bits.{below}
 use Rattle.word.proofs.BitLaws.{every-below, every-below-at}
 use Rattle.csr32.specs.Csr.{Csr, Entry, ofColumn, entries, present, merged}
-use Rattle.csr32.proofs.CsrLaws.{present-columns, column-below}
+use Rattle.csr32.proofs.CsrLaws.{present-columns, entries-lent}
 use Rattle.metadata_first_merge.specs.Merge.{rowValues, mergedFinite}
 
 -- ---- one entry more
@@ -123,14 +123,9 @@ module _ (m : Csr) where
   unfolding joined every
   rows-none = record { is = refl }
 
-  module _ (r : ℕ) (inv : RowsFinite m r) where
-    pub rows-more : true ≡ every finite (rowValues (m .cols) (entries m r)) → RowsFinite m (r + 1)
-    unfolding joined
-    rows-more e = record { is = ap (λ (n : ℕ). every finite (joined (λ i. rowValues (m .cols) (entries m i)) n)) (add-one r) ∙ every-append finite (joined (λ i. rowValues (m .cols) (entries m i)) r) (rowValues (m .cols) (entries m r)) (inv .is) (sym e) }
-
-    pub rows-done : r ≤ m .rows → m .rows ≤ r → true ≡ mergedFinite m
-    unfolding mergedFinite
-    rows-done h k = let e : r ≡ m .rows = omega arith in sym (ap (λ (n : ℕ). every finite (joined (λ i. rowValues (m .cols) (entries m i)) n)) (sym e) ∙ inv .is)
+  pub rows-done : (r : ℕ) → RowsFinite m r → r ≤ m .rows → m .rows ≤ r → true ≡ mergedFinite m
+  unfolding mergedFinite
+  rows-done r inv h k = let e : r ≡ m .rows = omega arith in sym (ap (λ (n : ℕ). every finite (joined (λ i. rowValues (m .cols) (entries m i)) n)) (sym e) ∙ inv .is)
 
   -- one row of finite merged values
   pub merged-row : (r : ℕ) → mergedFinite m ≡ true → r < m .rows → every finite (rowValues (m .cols) (entries m r)) ≡ true
@@ -140,9 +135,22 @@ module _ (m : Csr) where
       let w = joined-at f r (m .rows) h in
       every-back finite (joined f r) (f r) (every-front finite (joined f r ++ f r) (w .0) (sym (ap (every finite) (w .1)) ∙ e))
 
-  pub rows-fails : (r : ℕ) → r < m .rows → false ≡ every finite (rowValues (m .cols) (entries m r)) → false ≡ mergedFinite m
-  rows-fails r h e = go (mergedFinite m) refl
-    where
-      go : (t : Bool) → mergedFinite m ≡ t → false ≡ t
-      go true x = absurd (true≢false (sym (merged-row r x h) ∙ sym e))
-      go false x = refl
+  -- t is the answer for row r, as the code lends it: from a, its pointer, up to b, the next one
+  module _ (r a b : ℕ) (p : a ≡ getD (m .ptr) r 0) (q : b ≡ getD (m .ptr) (r + 1) 0) (t : Bool) (e : t ≡ every finite (rowValues (m .cols) (zip (take (b - a) (drop a (m .col))) (take (b - a) (drop a (m .val)))))) where
+    row-answer : t ≡ every finite (rowValues (m .cols) (entries m r))
+    row-answer = e ∙ ap (λ (es : List Entry). every finite (rowValues (m .cols) es)) (entries-lent m r a b p q)
+
+    pub rows-more : RowsFinite m r → not t ≡ false → RowsFinite m (r + 1)
+    unfolding joined
+    rows-more inv f =
+        record {
+          is = ap (λ (n : ℕ). every finite (joined (λ i. rowValues (m .cols) (entries m i)) n)) (add-one r)
+            ∙ every-append finite (joined (λ i. rowValues (m .cols) (entries m i)) r) (rowValues (m .cols) (entries m r)) (inv .is) (sym (flag-on (every finite (rowValues (m .cols) (entries m r))) t row-answer f));
+        }
+
+    pub rows-fails : r < m .rows → not t ≡ true → false ≡ mergedFinite m
+    rows-fails h f = go (mergedFinite m) refl
+      where
+        go : (s : Bool) → mergedFinite m ≡ s → false ≡ s
+        go true x = not-both (every finite (rowValues (m .cols) (entries m r))) (merged-row r x h) (sym (flag-off (every finite (rowValues (m .cols) (entries m r))) t row-answer f))
+        go false x = refl

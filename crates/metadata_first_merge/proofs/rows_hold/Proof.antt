@@ -1,3 +1,17 @@
+-- `metadata_first_merge::rows_hold` meets its contract. Assumes nothing.
+use mathlib.Core.List.{List}
+use mathlib.Core.Path.{_≡_, refl, sym, ap, _∙_}
+use Prim.Native.Nat.{_-_, _≤_}
+use native.Mathlib.Omega.{arith}
+use lib.ListN.{length, replicate}
+use Rattle.hybit_core.specs.Floats.{zero64, finite}
+use Rattle.hybit_core.proofs.BoolLaws.{flag-on, flag-off}
+use Rattle.lent.specs.Lists.{every}
+use Rattle.csr32.specs.Csr.{Entry, asCsr}
+use Rattle.csr32.proofs.CsrLaws.{valid, row-of, row-of-values, row-lent, entries-lent}
+use Rattle.metadata_first_merge.specs.Merge.{rowValues}
+use Rattle.metadata_first_merge.proofs.MergeLaws.{RowsFinite, rows-none, rows-more, rows-fails, rows-done}
+use Rattle.metadata_first_merge.proofs.WindowLaws.{zeros-long}
 use borrow.Author.Needs.{needs}
 use Rattle.metadata_first_merge.proofs.rows_hold.Statement.{statement}
 use Rattle.metadata_first_merge.proofs.rows_hold.Tie as tie
@@ -7,106 +21,99 @@ use Rattle.hybit_core.proofs.wide.Reads as wide-reads
 use Rattle.metadata_first_merge.proofs.row_holds.Reads as row-holds-reads
 
 abbrev Inv-loop : tie.InvT-loop
-Inv-loop nrows ncols row-ptr col-idx values sums₀ row₀ sums row = ?
+Inv-loop nrows ncols row-ptr col-idx values sums₀ row₀ sums row = (row ≤ nrows) × (length sums ≡ length sums₀) × (sums ≡ replicate (length sums₀) zero64) × RowsFinite (asCsr nrows ncols row-ptr col-idx values) row
 
 abbrev μ-loop : tie.MeasureT-loop
-μ-loop nrows ncols row-ptr col-idx values sums₀ row₀ sums row = ?
+μ-loop nrows ncols row-ptr col-idx values sums₀ row₀ sums row = nrows - row
 
--- src/lib.rt:119:5
 loop-holds : tie.Need-loop-holds Inv-loop μ-loop
-loop-holds c = search needs
+loop-holds c =
+    let s = c .before .before .before .before in
+    (omega arith, refl, s .pre .1 .1, rows-none _)
 
--- src/lib.rt:120:38
 mul-wide : tie.Need-mul-wide Inv-loop μ-loop
-mul-wide c = search needs
+mul-wide c = let i = row-of (valid _ (c .before .before .before .before .before .before .pre .0)) (c .loop-test .taken) in search needs
 
--- src/lib.rt:120:38
 shared-slice-read-wide : tie.Need-shared-slice-read-wide Inv-loop μ-loop
-shared-slice-read-wide c = search needs
+shared-slice-read-wide c = let i = row-of (valid _ (c .before .before .before .before .before .before .before .pre .0)) (c .before .loop-test .taken) in search needs
 
--- src/lib.rt:120:13
 wide-requires : tie.Need-wide-requires Inv-loop μ-loop
 wide-requires c κs = search needs
 
--- src/lib.rt:121:44
 add-wide : tie.Need-add-wide Inv-loop μ-loop
 add-wide c = search needs
 
--- src/lib.rt:121:36
 mul-wide-2 : tie.Need-mul-wide-2 Inv-loop μ-loop
-mul-wide-2 c = search needs
+mul-wide-2 c = let i = row-of (valid _ (c .before .before .before .before .before .before .before .before .pre .0)) (c .before .before .loop-test .taken) in search needs
 
--- src/lib.rt:121:36
 shared-slice-read-wide-2 : tie.Need-shared-slice-read-wide-2 Inv-loop μ-loop
-shared-slice-read-wide-2 c = search needs
+shared-slice-read-wide-2 c = let i = row-of (valid _ (c .before .before .before .before .before .before .before .before .before .pre .0)) (c .before .before .before .loop-test .taken) in search needs
 
--- src/lib.rt:121:13
 wide-requires-2 : tie.Need-wide-requires-2 Inv-loop μ-loop
 wide-requires-2 c κs = search needs
 
--- src/lib.rt:122:30
 mul-row-holds : tie.Need-mul-row-holds Inv-loop μ-loop
-mul-row-holds c = search needs
+mul-row-holds c = let i = row-of (valid _ (c .before .before .before .before .before .before .before .before .before .before .pre .0)) (c .before .before .before .before .loop-test .taken) in search needs
 
--- src/lib.rt:122:30
 sub-row-holds : tie.Need-sub-row-holds Inv-loop μ-loop
-sub-row-holds c = search needs
+sub-row-holds c = let i = row-of (valid _ (c .before .before .before .before .before .before .before .before .before .before .pre .0)) (c .before .before .before .before .loop-test .taken) in search needs
 
--- src/lib.rt:122:30
 part-row-holds-start : tie.Need-part-row-holds-start Inv-loop μ-loop
-part-row-holds-start c = search needs
+part-row-holds-start c = let i = row-of (valid _ (c .before .before .before .before .before .before .before .before .before .before .pre .0)) (c .before .before .before .before .loop-test .taken) in search needs
 
--- src/lib.rt:122:30
 part-row-holds-end : tie.Need-part-row-holds-end Inv-loop μ-loop
-part-row-holds-end c = search needs
+part-row-holds-end c = let i = row-of (valid _ (c .before .before .before .before .before .before .before .before .before .before .pre .0)) (c .before .before .before .before .loop-test .taken) in search needs
 
--- src/lib.rt:122:52
 mul-row-holds-2 : tie.Need-mul-row-holds-2 Inv-loop μ-loop
-mul-row-holds-2 c = search needs
+mul-row-holds-2 c = let i = row-of-values (valid _ (c .before .before .before .before .before .before .before .before .before .before .before .pre .0)) (c .before .before .before .before .before .loop-test .taken) in search needs
 
--- src/lib.rt:122:52
 sub-row-holds-2 : tie.Need-sub-row-holds-2 Inv-loop μ-loop
-sub-row-holds-2 c = search needs
+sub-row-holds-2 c = let i = row-of-values (valid _ (c .before .before .before .before .before .before .before .before .before .before .before .pre .0)) (c .before .before .before .before .before .loop-test .taken) in search needs
 
--- src/lib.rt:122:52
 part-row-holds-start-2 : tie.Need-part-row-holds-start-2 Inv-loop μ-loop
-part-row-holds-start-2 c = search needs
+part-row-holds-start-2 c = let i = row-of-values (valid _ (c .before .before .before .before .before .before .before .before .before .before .before .pre .0)) (c .before .before .before .before .before .loop-test .taken) in search needs
 
--- src/lib.rt:122:52
 part-row-holds-end-2 : tie.Need-part-row-holds-end-2 Inv-loop μ-loop
-part-row-holds-end-2 c = search needs
+part-row-holds-end-2 c = let i = row-of-values (valid _ (c .before .before .before .before .before .before .before .before .before .before .before .pre .0)) (c .before .before .before .before .before .loop-test .taken) in search needs
 
--- src/lib.rt:122:13
 row-holds-requires : tie.Need-row-holds-requires Inv-loop μ-loop
-row-holds-requires c κs = search needs
+row-holds-requires c κs =
+    let s = c .before .before .before .before .before .before .before .before .before .before .before .before .before in
+    let l = c .before .before .before .before .before .before .before .before .loop in
+    let v = valid _ (s .pre .0) in
+    let r = row-lent v (l .row) _ _ (s .args .ncols) (c .before .before .before .before .before .wide .ensures) (c .before .before .before .wide2 .ensures) refl in
+    ((v .cols-in, omega (arith, s .pre .1 .0), omega (arith, s .pre .1 .0)), (r .0, (r .1, zeros-long (l .sums) _ _ (l .inv .2) (sym (l .inv .1)))))
 
--- src/lib.rt:123:13
 same-length : tie.Need-same-length Inv-loop μ-loop
 same-length c = search needs
 
--- src/lib.rt:123:13
 returns : tie.Need-returns Inv-loop μ-loop
-returns c = search needs
+returns c =
+    let s = c .before .before .before .before .before .before .before .before .before .before .before .before .before .before .before .before .before in
+    let l = c .before .before .before .before .before .before .before .before .before .before .before .before .loop in
+    let f = c .before .before .before .row-holds in
+    rows-fails (asCsr (s .args .nrows) (s .args .ncols) (s .args .row-ptr .now) (s .args .col-idx .now) (s .args .values .now)) (l .row) _ _ (c .before .before .before .before .before .before .before .before .before .wide .ensures) (c .before .before .before .before .before .before .before .wide2 .ensures) _ (f .ensures .0) (c .before .before .before .before .before .before .before .before .before .before .before .loop-test .taken) (c .if1 .taken)
 
--- src/lib.rt:125:9
 add-row : tie.Need-add-row Inv-loop μ-loop
 add-row c = search needs
 
--- src/lib.rt:119:5
 loop-less : tie.Need-loop-less Inv-loop μ-loop
 loop-less c = search needs
 
--- src/lib.rt:119:5
 loop-again : tie.Need-loop-again Inv-loop μ-loop
-loop-again c = search needs
+loop-again c =
+    let s = c .before .before .before .before .before .before .before .before .before .before .before .before .before .before .before .before .before in
+    let l = c .before .before .before .before .before .before .before .before .before .before .before .before .loop in
+    let f = c .before .before .before .row-holds in
+    (omega arith, f .kept .1 .1 .1 .0 ∙ l .inv .1, zeros-long _ _ _ (f .ensures .1) (l .inv .1), rows-more (asCsr (s .args .nrows) (s .args .ncols) (s .args .row-ptr .now) (s .args .col-idx .now) (s .args .values .now)) (l .row) _ _ (c .before .before .before .before .before .before .before .before .before .wide .ensures) (c .before .before .before .before .before .before .before .wide2 .ensures) _ (f .ensures .0) (l .inv .3) (c .if1 .left))
 
--- src/lib.rt:107:1
 same-length-2 : tie.Need-same-length-2 Inv-loop μ-loop
 same-length-2 c = search needs
 
--- src/lib.rt:107:1
 returns-2 : tie.Need-returns-2 Inv-loop μ-loop
-returns-2 c = search needs
+returns-2 c =
+    let l = c .before .loop in
+    rows-done _ (l .row) (l .inv .3) (l .inv .0) (omega arith)
 
 pub rows-hold-spec : {M : Type 1} → statement M
 rows-hold-spec =

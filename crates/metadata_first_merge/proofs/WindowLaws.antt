@@ -2,13 +2,13 @@
 use mathlib.Core.Bool.{Bool, true, false, not, _&&_, _||_, true≢false, false≢true}
 use mathlib.Core.List.{List, [], _∷_, zip, zipWith}
 use mathlib.Core.Path.{_≡_, refl, sym, ap, ap₂, _∙_}
-use Prim.Native.Nat.{ℕ, suc, _+_, _-_, _≤_, _<_}
+use Prim.Native.Nat.{ℕ, zero, suc, _+_, _-_, _^_, _≤_, _<_}
 use native.Mathlib.Numerals.{add-one}
 use native.Mathlib.Decide.{decLt}
 use native.Mathlib.Omega.{arith}
 use lib.Dec.{eqb, leb, ltb}
 use lib.ListN.{length, getD, take, drop, set, replicate, length-set, length-replicate, getD-replicate, drop-of-length-le}
-use lib.Seq.{ext-getD, getD-set-same, getD-set-other, drop-cons}
+use lib.Seq.{ext-getD, getD-set-same, getD-set-other, drop-cons, length-take-le}
 use lib.Ieee.{Float, nan, binary64, add}
 use borrow.Author.Tests.{lt-ltb, le-ltb, le-leb, lt-leb, ltb-true, eq-eqb, ne-eqb}
 use Rattle.hybit_core.specs.Floats.{zero64, finite}
@@ -155,6 +155,18 @@ module _ (cs : List ℕ) (base k : ℕ) (sums : List Float) (inv : Outside (drop
 
 pub zeros-long : (sums : List Float) (m n : ℕ) → sums ≡ replicate m zero64 → m ≡ n → sums ≡ replicate n zero64
 zeros-long sums m n e h = e ∙ ap (λ (k : ℕ). replicate k zero64) h
+
+-- the first m places of an array of n zeros
+pub zeros-front : (m n : ℕ) → 0 < m → m ≤ n → n ≤ 2 ^ 20
+    → ((0 < length (take m (replicate n zero64))) × (length (take m (replicate n zero64)) ≤ 2 ^ 20)) × (take m (replicate n zero64) ≡ replicate (length (take m (replicate n zero64))) zero64)
+zeros-front m n h k f =
+    let e : length (take m (replicate n zero64)) ≡ m = length-take-le m (replicate n zero64) (omega (arith, length-replicate n zero64)) in
+    ((omega arith, omega arith), zeros-long (take m (replicate n zero64)) m (length (take m (replicate n zero64))) (front m n k) (sym e))
+  where
+    front : (m n : ℕ) → m ≤ n → take m (replicate n zero64) ≡ replicate m zero64
+    front zero n h = refl
+    front (suc m) zero h = absurd (omega arith)
+    front (suc m) (suc n) h = ap (λ (l : List Float). zero64 ∷ l) (front m n (omega arith))
 
 module _ (cs : List ℕ) (vs : List Float) (base width : ℕ) (sums : List Float) (l : length vs ≡ length cs) (e : sums ≡ each (λ i. merged (zip cs vs) (base + i)) width) where
   sums-length : length sums ≡ width

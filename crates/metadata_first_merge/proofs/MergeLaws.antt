@@ -1,6 +1,6 @@
 -- Laws of merged values: one entry more, columns without an entry, and finite merged values by columns and row after row. Assumes nothing.
-use mathlib.Core.Bool.{Bool, true, false, not, _&&_, _||_, true≢false}
-use mathlib.Core.List.{List, [], _∷_, _++_, map, zip, zipWith, foldl, foldl-append}
+use mathlib.Core.Bool.{Bool, true, false, not, _||_, true≢false}
+use mathlib.Core.List.{List, [], _∷_, _++_, zip, zipWith, foldl, foldl-append}
 use mathlib.Core.Path.{_≡_, refl, sym, ap, ap₂, _∙_}
 use Prim.Native.Nat.{ℕ, zero, suc, _+_, _-_, _≤_, _<_}
 use native.Mathlib.Nat.{not-suc-le-zero}
@@ -14,7 +14,7 @@ use borrow.Author.Tests.{ltb-true, eqb-true, eq-eqb}
 use Rattle.hybit_core.specs.Floats.{zero64, finite}
 use Rattle.hybit_core.proofs.BoolLaws.{and-left, and-right, and-both, same-test, not-both, flag-on, flag-off}
 use Rattle.lent.specs.Lists.{joined, consIf, only, every, some}
-use Rattle.lent.proofs.ListLaws.{only-append, every-append, every-front, every-back, every-map, every-getD, some-every, some-getD, joined-at}
+use Rattle.lent.proofs.ListLaws.{only-append, every-append, every-front, every-back, every-map, some-every, joined-at}
 use Rattle.word.specs.Bits.{below}
 use Rattle.word.proofs.BitLaws.{every-below, every-below-at}
 use Rattle.csr32.specs.Csr.{Csr, Entry, ofColumn, entries, present, merged}
@@ -145,7 +145,7 @@ module _ (m : Csr) where
     rows-more inv f =
         record {
           is = ap (λ (n : ℕ). every finite (joined (λ i. rowValues (m .cols) (entries m i)) n)) (add-one r)
-            ∙ every-append finite (joined (λ i. rowValues (m .cols) (entries m i)) r) (rowValues (m .cols) (entries m r)) (inv .is) (sym (flag-on (every finite (rowValues (m .cols) (entries m r))) t row-answer f));
+              ∙ every-append finite (joined (λ i. rowValues (m .cols) (entries m i)) r) (rowValues (m .cols) (entries m r)) (inv .is) (sym (flag-on (every finite (rowValues (m .cols) (entries m r))) t row-answer f));
         }
 
     pub rows-fails : r < m .rows → not t ≡ true → false ≡ mergedFinite m

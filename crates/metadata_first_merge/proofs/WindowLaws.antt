@@ -1,5 +1,5 @@
 -- Laws of a window of a row: its sums entry after entry, the test of its sums, clearing it, and the windows of a row taken together. Assumes nothing.
-use mathlib.Core.Bool.{Bool, true, false, not, _&&_, _||_, true≢false, false≢true}
+use mathlib.Core.Bool.{Bool, true, false, not, _&&_, _||_, false≢true}
 use mathlib.Core.List.{List, [], _∷_, zip, zipWith}
 use mathlib.Core.Path.{_≡_, refl, sym, ap, ap₂, _∙_}
 use Prim.Native.Nat.{ℕ, zero, suc, _+_, _-_, _^_, _≤_, _<_}
@@ -35,9 +35,6 @@ module _ (cs : List ℕ) (vs : List Float) (base width : ℕ) where
       }
 
   module _ (k : ℕ) (sums : List Float) (inv : Summed cs vs base width k sums) where
-    pub summed-length : length sums ≡ width
-    summed-length = ap length (inv .is) ∙ length-each (λ i. merged (zip (take k cs) (take k vs)) (base + i)) width
-
     pub summed-done : length cs ≤ k → length vs ≡ length cs → sums ≡ each (λ i. merged (zip cs vs) (base + i)) width
     summed-done h l = inv .is ∙ ap (λ (es : List Entry). each (λ i. merged es (base + i)) width) (firsts-all cs vs k h l)
 
@@ -64,7 +61,7 @@ module _ (cs : List ℕ) (vs : List Float) (base width : ℕ) where
       summed-more b g =
           record {
             is = each-set nan (λ i. merged (zip (take k cs) (take k vs)) (base + i)) (λ i. merged (zip (take (k + 1) cs) (take (k + 1) vs)) (base + i)) width (c - base) sums _ (inv .is) g here
-              (λ i q x. other i (λ y. x (omega arith)));
+                (λ i q x. other i (λ y. x (omega arith)));
           }
         where
           here : add binary64 (getD sums (c - base) nan) (getD vs k nan) ≡ merged (zip (take (k + 1) cs) (take (k + 1) vs)) (base + (c - base))
@@ -120,9 +117,6 @@ module _ (cs : List ℕ) (base : ℕ) (sums : List Float) (k : ℕ) (inv : sumsF
           ∙ ap (λ (c : ℕ). not (inWindow base (length sums) c) || finite (getD sums (c - base) nan)) e)
 
 -- ---- clearing: 0.0 but at the columns from place k on
-
-pub outside-none : (cs : List ℕ) (base : ℕ) (sums : List Float) → Outside cs base sums → Outside (drop 0 cs) base sums
-outside-none cs base sums o = o
 
 module _ (cs : List ℕ) (base k : ℕ) (sums : List Float) (inv : Outside (drop k cs) base sums) where
   pub outside-done : (n : ℕ) → length sums ≡ n → length cs ≤ k → sums ≡ replicate n zero64
@@ -206,7 +200,7 @@ module _ (cs : List ℕ) (vs : List Float) where
   searched-more base n width inv e h =
       record {
         is = every-by (λ c. leb base c || finite (merged (zip cs vs) c)) (λ c. not (inWindow base width c) || finite (merged (zip cs vs) c)) (λ c. leb (base + width) c || finite (merged (zip cs vs) c)) cs
-          (λ c. one c (finite (merged (zip cs vs) c)) (decLt c base) (decLt (c - base) width)) (inv .is) (ap (λ (k : ℕ). windowFinite base k cs vs) (sym h) ∙ sym e);
+            (λ c. one c (finite (merged (zip cs vs) c)) (decLt c base) (decLt (c - base) width)) (inv .is) (ap (λ (k : ℕ). windowFinite base k cs vs) (sym h) ∙ sym e);
       }
     where
       one : (c : ℕ) (t : Bool) → Dec (c < base) → Dec (c - base < width) → (leb base c || t) ≡ true → (not (inWindow base width c) || t) ≡ true → (leb (base + width) c || t) ≡ true

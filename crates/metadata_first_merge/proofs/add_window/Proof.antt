@@ -1,15 +1,12 @@
 -- `metadata_first_merge::add_window` meets its contract. Assumes nothing.
-use mathlib.Core.Path.{_≡_, refl, sym, _∙_}
-use Prim.Native.Nat.{_-_, _≤_}
+use mathlib.Core.Path.{_≡_, refl}
+use Prim.Native.Nat.{_-_}
 use native.Mathlib.Omega.{arith}
-use lib.ListN.{length, drop, length-set}
-use Rattle.metadata_first_merge.proofs.WindowLaws.{Summed, summed-none, summed-length, summed-before, summed-past, summed-more, summed-done}
+use lib.ListN.{length, length-set}
+use Rattle.metadata_first_merge.proofs.WindowLaws.{Summed, summed-none, summed-before, summed-past, summed-more, summed-done}
 use borrow.Author.Needs.{needs}
 use Rattle.metadata_first_merge.proofs.add_window.Statement.{statement}
 use Rattle.metadata_first_merge.proofs.add_window.Tie as tie
-use Rattle.metadata_first_merge.proofs.add_window.Reads as reads
-use Rattle.metadata_first_merge.proofs.add_window.Lts as lts
-use Rattle.hybit_core.proofs.wide.Reads as wide-reads
 
 abbrev Inv-loop : tie.InvT-loop
 Inv-loop cols vals base sums₀ width k₀ sums k = (width ≡ length sums₀) × (length sums ≡ length sums₀) × Summed cols vals base (length sums₀) k sums

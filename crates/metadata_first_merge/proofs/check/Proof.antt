@@ -5,10 +5,6 @@ use Rattle.metadata_first_merge.specs.Merge.{mergeAnswer}
 use borrow.Author.Needs.{needs}
 use Rattle.metadata_first_merge.proofs.check.Statement.{statement}
 use Rattle.metadata_first_merge.proofs.check.Tie as tie
-use Rattle.metadata_first_merge.proofs.check.Reads as reads
-use Rattle.metadata_first_merge.proofs.check.Lts as lts
-use Rattle.csr32.proofs.check.Reads as check-reads
-use Rattle.metadata_first_merge.proofs.merged_finite.Reads as merged-finite-reads
 
 check-requires : tie.Need-check-requires
 check-requires c κs = search needs

@@ -1,16 +1,13 @@
 -- `metadata_first_merge::clear_window` meets its contract. Assumes nothing.
-use mathlib.Core.Path.{_≡_, refl, sym, _∙_}
-use Prim.Native.Nat.{_-_, _≤_}
+use mathlib.Core.Path.{_≡_}
+use Prim.Native.Nat.{_-_}
 use native.Mathlib.Omega.{arith}
 use lib.ListN.{length, drop, length-set}
 use Rattle.metadata_first_merge.specs.Window.{Outside}
-use Rattle.metadata_first_merge.proofs.WindowLaws.{outside-none, outside-before, outside-past, outside-more, outside-done}
+use Rattle.metadata_first_merge.proofs.WindowLaws.{outside-before, outside-past, outside-more, outside-done}
 use borrow.Author.Needs.{needs}
 use Rattle.metadata_first_merge.proofs.clear_window.Statement.{statement}
 use Rattle.metadata_first_merge.proofs.clear_window.Tie as tie
-use Rattle.metadata_first_merge.proofs.clear_window.Reads as reads
-use Rattle.metadata_first_merge.proofs.clear_window.Lts as lts
-use Rattle.hybit_core.proofs.wide.Reads as wide-reads
 
 abbrev Inv-loop : tie.InvT-loop
 Inv-loop cols base sums₀ width k₀ sums k = (width ≡ length sums₀) × (length sums ≡ length sums₀) × Outside (drop k cols) base sums

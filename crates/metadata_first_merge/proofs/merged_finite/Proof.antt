@@ -1,13 +1,9 @@
 -- `metadata_first_merge::merged_finite` meets its contract. Assumes nothing.
-use mathlib.Core.Path.{_≡_, refl}
 use native.Mathlib.Omega.{arith}
 use Rattle.metadata_first_merge.proofs.WindowLaws.{zeros-front}
 use borrow.Author.Needs.{needs}
 use Rattle.metadata_first_merge.proofs.merged_finite.Statement.{statement}
 use Rattle.metadata_first_merge.proofs.merged_finite.Tie as tie
-use Rattle.metadata_first_merge.proofs.merged_finite.Reads as reads
-use Rattle.metadata_first_merge.proofs.merged_finite.Lts as lts
-use Rattle.metadata_first_merge.proofs.rows_hold.Reads as rows-hold-reads
 
 slice-aggregate-rows-hold : tie.Need-slice-aggregate-rows-hold
 slice-aggregate-rows-hold c = search needs

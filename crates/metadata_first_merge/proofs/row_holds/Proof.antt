@@ -1,6 +1,6 @@
 -- `metadata_first_merge::row_holds` meets its contract. Assumes nothing.
 use mathlib.Core.Path.{_≡_, refl, sym, _∙_}
-use Prim.Native.Nat.{_-_, _+_, _^_, _≤_}
+use Prim.Native.Nat.{_-_, _+_, _≤_}
 use native.Mathlib.Omega.{arith}
 use lib.ListN.{length, replicate}
 use Rattle.hybit_core.specs.Floats.{zero64}
@@ -9,9 +9,6 @@ use Rattle.metadata_first_merge.proofs.WindowLaws.{zeros-long, Searched
 use borrow.Author.Needs.{needs}
 use Rattle.metadata_first_merge.proofs.row_holds.Statement.{statement}
 use Rattle.metadata_first_merge.proofs.row_holds.Tie as tie
-use Rattle.metadata_first_merge.proofs.row_holds.Reads as reads
-use Rattle.metadata_first_merge.proofs.row_holds.Lts as lts
-use Rattle.metadata_first_merge.proofs.window_holds.Reads as window-holds-reads
 
 abbrev Inv-loop : tie.InvT-loop
 Inv-loop ncols cols vals sums₀ width base₀ sums base = (width ≡ length sums₀) × (base ≤ ncols + width) × (length sums ≡ length sums₀) × (sums ≡ replicate (length sums₀) zero64) × Searched cols vals base
@@ -38,7 +35,7 @@ returns c =
     let s = c .before .before .before .before .before .before .before .before .before .before in
     let l = c .before .before .before .before .before .before .loop in
     let f = c .before .before .before .window-holds in
-    (searched-fails (s .args .ncols) (s .args .cols .now) (s .args .vals .now) (s .pre .1 .0) (s .pre .1 .1 .0) (l .base) _ (flag-off _ _ (f .ensures .0) (c .if1 .taken)), zeros-long _ _ _ (f .ensures .1) (l .inv .2))
+    (searched-fails (s .args .ncols) (s .args .cols .now) (s .args .vals .now) (s .pre .1 .0) (s .pre .1 .1 .0) (l .base) (length (l .sums)) (flag-off _ _ (f .ensures .0) (c .if1 .taken)), zeros-long _ _ _ (f .ensures .1) (l .inv .2))
 
 add-base : tie.Need-add-base Inv-loop μ-loop
 add-base c = search needs
@@ -51,7 +48,7 @@ loop-again c =
     let s = c .before .before .before .before .before .before .before .before .before .before in
     let l = c .before .before .before .before .before .before .loop in
     let f = c .before .before .before .window-holds in
-    (l .inv .0, omega arith, f .kept .1 .1 .1 .0 ∙ l .inv .2, zeros-long _ _ _ (f .ensures .1) (l .inv .2), searched-more (s .args .cols .now) (s .args .vals .now) (l .base) _ _ (l .inv .4) (flag-on _ _ (f .ensures .0) (c .if1 .left)) (l .inv .2 ∙ sym (l .inv .0)))
+    (l .inv .0, omega arith, f .kept .1 .1 .1 .0 ∙ l .inv .2, zeros-long _ _ _ (f .ensures .1) (l .inv .2), searched-more (s .args .cols .now) (s .args .vals .now) (l .base) (length (l .sums)) _ (l .inv .4) (flag-on _ _ (f .ensures .0) (c .if1 .left)) (l .inv .2 ∙ sym (l .inv .0)))
 
 same-length-2 : tie.Need-same-length-2 Inv-loop μ-loop
 same-length-2 c = search needs

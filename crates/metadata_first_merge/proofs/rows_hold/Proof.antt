@@ -1,24 +1,16 @@
 -- `metadata_first_merge::rows_hold` meets its contract. Assumes nothing.
-use mathlib.Core.List.{List}
-use mathlib.Core.Path.{_≡_, refl, sym, ap, _∙_}
+use mathlib.Core.Path.{_≡_, refl, sym, _∙_}
 use Prim.Native.Nat.{_-_, _≤_}
 use native.Mathlib.Omega.{arith}
 use lib.ListN.{length, replicate}
-use Rattle.hybit_core.specs.Floats.{zero64, finite}
-use Rattle.hybit_core.proofs.BoolLaws.{flag-on, flag-off}
-use Rattle.lent.specs.Lists.{every}
-use Rattle.csr32.specs.Csr.{Entry, asCsr}
-use Rattle.csr32.proofs.CsrLaws.{valid, row-of, row-of-values, row-lent, entries-lent}
-use Rattle.metadata_first_merge.specs.Merge.{rowValues}
+use Rattle.hybit_core.specs.Floats.{zero64}
+use Rattle.csr32.specs.Csr.{asCsr}
+use Rattle.csr32.proofs.CsrLaws.{valid, row-of, row-of-values, row-lent}
 use Rattle.metadata_first_merge.proofs.MergeLaws.{RowsFinite, rows-none, rows-more, rows-fails, rows-done}
 use Rattle.metadata_first_merge.proofs.WindowLaws.{zeros-long}
 use borrow.Author.Needs.{needs}
 use Rattle.metadata_first_merge.proofs.rows_hold.Statement.{statement}
 use Rattle.metadata_first_merge.proofs.rows_hold.Tie as tie
-use Rattle.metadata_first_merge.proofs.rows_hold.Reads as reads
-use Rattle.metadata_first_merge.proofs.rows_hold.Lts as lts
-use Rattle.hybit_core.proofs.wide.Reads as wide-reads
-use Rattle.metadata_first_merge.proofs.row_holds.Reads as row-holds-reads
 
 abbrev Inv-loop : tie.InvT-loop
 Inv-loop nrows ncols row-ptr col-idx values sums₀ row₀ sums row = (row ≤ nrows) × (length sums ≡ length sums₀) × (sums ≡ replicate (length sums₀) zero64) × RowsFinite (asCsr nrows ncols row-ptr col-idx values) row

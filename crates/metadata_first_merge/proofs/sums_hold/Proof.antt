@@ -1,17 +1,13 @@
 -- `metadata_first_merge::sums_hold` meets its contract. Assumes nothing.
-use mathlib.Core.Path.{_≡_, refl, sym, _∙_}
-use Prim.Native.Nat.{_-_, _≤_}
+use mathlib.Core.Path.{_≡_}
+use Prim.Native.Nat.{_-_}
 use native.Mathlib.Omega.{arith}
-use lib.ListN.{length, drop, length-set}
+use lib.ListN.{length, drop}
 use Rattle.metadata_first_merge.specs.Window.{sumsFinite}
 use Rattle.metadata_first_merge.proofs.WindowLaws.{sums-before, sums-past, sums-more, sums-fails, sums-done}
 use borrow.Author.Needs.{needs}
 use Rattle.metadata_first_merge.proofs.sums_hold.Statement.{statement}
 use Rattle.metadata_first_merge.proofs.sums_hold.Tie as tie
-use Rattle.metadata_first_merge.proofs.sums_hold.Reads as reads
-use Rattle.metadata_first_merge.proofs.sums_hold.Lts as lts
-use Rattle.hybit_core.proofs.is_finite.Reads as is-finite-reads
-use Rattle.hybit_core.proofs.wide.Reads as wide-reads
 
 abbrev Inv-loop : tie.InvT-loop
 Inv-loop cols base sums k₀ k = sumsFinite base sums cols ≡ sumsFinite base sums (drop k cols)

@@ -1,17 +1,9 @@
 -- `metadata_first_merge::window_holds` meets its contract. Assumes nothing.
-use mathlib.Core.Path.{_≡_, refl, sym, _∙_}
-use Prim.Native.Nat.{_-_, _+_, _^_, _≤_}
-use native.Mathlib.Omega.{arith}
-use lib.ListN.{length, replicate}
+use lib.ListN.{length}
 use Rattle.metadata_first_merge.proofs.WindowLaws.{zeros-long, window-outside, window-test}
 use borrow.Author.Needs.{needs}
 use Rattle.metadata_first_merge.proofs.window_holds.Statement.{statement}
 use Rattle.metadata_first_merge.proofs.window_holds.Tie as tie
-use Rattle.metadata_first_merge.proofs.window_holds.Reads as reads
-use Rattle.metadata_first_merge.proofs.window_holds.Lts as lts
-use Rattle.metadata_first_merge.proofs.add_window.Reads as add-window-reads
-use Rattle.metadata_first_merge.proofs.clear_window.Reads as clear-window-reads
-use Rattle.metadata_first_merge.proofs.sums_hold.Reads as sums-hold-reads
 
 add-window-requires : tie.Need-add-window-requires
 add-window-requires c κs = search needs

@@ -17,7 +17,7 @@ abbrev μ-loop : tie.MeasureT-loop
 loop-holds : tie.Need-loop-holds Inv-loop μ-loop
 loop-holds c =
     let s = c .before .before .before in
-    (refl, refl, summed-none (s .args .cols .now) (s .args .vals .now) (s .args .base) (length (s .args .sums .now)) (s .args .sums .now) (s .pre .1))
+    (refl, refl, summed-none _ _ _ _ _ (s .pre .1))
 
 mul-wide : tie.Need-mul-wide Inv-loop μ-loop
 mul-wide c = search needs
@@ -57,7 +57,7 @@ loop-again c =
     let s = c .before .before .before .before .before .before .before .before .before .before .before in
     let l = c .before .before .before .before .before .before .before .loop in
     let w = c .before .before .before .before .wide in
-    (l .inv .0, simp length-set (omega arith), summed-more (s .args .cols .now) (s .args .vals .now) (s .args .base) (length (s .args .sums .now)) (l .k) (l .sums) (l .inv .2) (w .result) (omega arith) (s .pre .0) (w .ensures) (omega arith) (omega arith))
+    (l .inv .0, simp length-set (omega arith), summed-more _ _ _ _ _ _ (l .inv .2) _ (omega arith) (s .pre .0) (w .ensures) (omega arith) (omega arith))
 
 loop-less-2 : tie.Need-loop-less-2 Inv-loop μ-loop
 loop-less-2 c = search needs
@@ -67,7 +67,7 @@ loop-again-2 c =
     let s = c .before .before .before .before .before .before .before .before .before .before in
     let l = c .before .before .before .before .before .before .loop in
     let w = c .before .before .before .wide in
-    (l .inv .0, l .inv .1, summed-past (s .args .cols .now) (s .args .vals .now) (s .args .base) (length (s .args .sums .now)) (l .k) (l .sums) (l .inv .2) (w .result) (omega arith) (s .pre .0) (w .ensures) (omega arith) (omega arith))
+    (l .inv .0, l .inv .1, summed-past _ _ _ _ _ _ (l .inv .2) _ (omega arith) (s .pre .0) (w .ensures) (omega arith) (omega arith))
 
 loop-less-3 : tie.Need-loop-less-3 Inv-loop μ-loop
 loop-less-3 c = search needs
@@ -77,7 +77,7 @@ loop-again-3 c =
     let s = c .before .before .before .before .before .before .before .before .before in
     let l = c .before .before .before .before .before .loop in
     let w = c .before .before .wide in
-    (l .inv .0, l .inv .1, summed-before (s .args .cols .now) (s .args .vals .now) (s .args .base) (length (s .args .sums .now)) (l .k) (l .sums) (l .inv .2) (w .result) (omega arith) (s .pre .0) (w .ensures) (omega arith))
+    (l .inv .0, l .inv .1, summed-before _ _ _ _ _ _ (l .inv .2) _ (omega arith) (s .pre .0) (w .ensures) (omega arith))
 
 same-length : tie.Need-same-length Inv-loop μ-loop
 same-length c = search needs
@@ -86,7 +86,7 @@ returns : tie.Need-returns Inv-loop μ-loop
 returns c =
     let s = c .before .before .before .before .before in
     let l = c .before .loop in
-    summed-done (s .args .cols .now) (s .args .vals .now) (s .args .base) (length (s .args .sums .now)) (l .k) (l .sums) (l .inv .2) (omega arith) (s .pre .0)
+    summed-done _ _ _ _ _ _ (l .inv .2) (omega arith) (s .pre .0)
 
 pub add-window-spec : {M : Type 1} → statement M
 add-window-spec =

@@ -1,6 +1,6 @@
 -- `metadata_first_merge::check` meets its contract. Assumes nothing.
-use Rattle.hybit_core.proofs.AnswerLaws.{checks, accepted-by}
-use Rattle.hybit_core.proofs.BoolLaws.{tests}
+use Rattle.hybit_core.proofs.AnswerLaws.{call-refused, call-accepted, last-fails, last-passes, accepted-by}
+use Rattle.hybit_core.proofs.BoolLaws.{flag-on, flag-off}
 use Rattle.metadata_first_merge.specs.Merge.{mergeAnswer}
 use borrow.Author.Needs.{needs}
 use Rattle.metadata_first_merge.proofs.check.Statement.{statement}
@@ -14,21 +14,21 @@ enum-known-v c = search needs
 
 returns : tie.Need-returns
 unfolding mergeAnswer
-returns c = search (checks, tests, needs)
+returns c = call-refused _ _ _ _ (c .before .before .before .check .ensures) (c .before .v .given .1)
 
 enum-told : tie.Need-enum-told
 enum-told c = search needs
 
 merged-finite-requires : tie.Need-merged-finite-requires
-merged-finite-requires c κs = search (accepted-by, needs)
+merged-finite-requires c κs = accepted-by _ _ (c .before .before .check .ensures) (c .enum-told .given .1)
 
 returns-2 : tie.Need-returns-2
 unfolding mergeAnswer
-returns-2 c = search (checks, tests, needs)
+returns-2 c = call-accepted _ _ _ _ (c .before .before .before .before .check .ensures) (c .before .before .enum-told .given .1) (last-fails _ _ (flag-off _ _ (c .before .merged-finite .ensures) (c .if1 .taken)))
 
 returns-3 : tie.Need-returns-3
 unfolding mergeAnswer
-returns-3 c = search (checks, tests, needs)
+returns-3 c = call-accepted _ _ _ _ (c .before .before .before .before .check .ensures) (c .before .before .enum-told .given .1) (last-passes _ _ (flag-on _ _ (c .before .merged-finite .ensures) (c .if1 .left)))
 
 pub check-spec : {M : Type 1} → statement M
 check-spec =

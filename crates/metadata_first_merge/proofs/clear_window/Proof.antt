@@ -44,7 +44,7 @@ loop-again c =
     let s = c .before .before .before .before .before .before .before .before in
     let l = c .before .before .before .before .before .loop in
     let w = c .before .before .wide in
-    (l .inv .0, simp length-set (omega arith), outside-more (s .args .cols .now) (s .args .base) (l .k) (l .sums) (l .inv .2) (w .result) (omega arith) (w .ensures) (omega arith) (omega arith))
+    (l .inv .0, simp length-set (omega arith), outside-more (s .args .cols .now) _ (l .k) _ (l .inv .2) _ (omega arith) (w .ensures) (omega arith) (omega arith))
 
 loop-less-2 : tie.Need-loop-less-2 Inv-loop μ-loop
 loop-less-2 c = search needs
@@ -54,7 +54,7 @@ loop-again-2 c =
     let s = c .before .before .before .before .before .before .before .before in
     let l = c .before .before .before .before .before .loop in
     let w = c .before .before .wide in
-    (l .inv .0, l .inv .1, outside-past (s .args .cols .now) (s .args .base) (l .k) (l .sums) (l .inv .2) (w .result) (omega arith) (w .ensures) (omega arith) (omega arith))
+    (l .inv .0, l .inv .1, outside-past (s .args .cols .now) _ (l .k) _ (l .inv .2) _ (omega arith) (w .ensures) (omega arith) (omega arith))
 
 loop-less-3 : tie.Need-loop-less-3 Inv-loop μ-loop
 loop-less-3 c = search needs
@@ -64,7 +64,7 @@ loop-again-3 c =
     let s = c .before .before .before .before .before .before .before in
     let l = c .before .before .before .before .loop in
     let w = c .before .wide in
-    (l .inv .0, l .inv .1, outside-before (s .args .cols .now) (s .args .base) (l .k) (l .sums) (l .inv .2) (w .result) (omega arith) (w .ensures) (omega arith))
+    (l .inv .0, l .inv .1, outside-before (s .args .cols .now) _ (l .k) _ (l .inv .2) _ (omega arith) (w .ensures) (omega arith))
 
 same-length : tie.Need-same-length Inv-loop μ-loop
 same-length c = search needs
@@ -73,7 +73,7 @@ returns : tie.Need-returns Inv-loop μ-loop
 returns c =
     let s = c .before .before .before .before in
     let l = c .before .loop in
-    outside-done (s .args .cols .now) (s .args .base) (l .k) (l .sums) (l .inv .2) _ (l .inv .1) (omega arith)
+    outside-done (s .args .cols .now) _ (l .k) _ (l .inv .2) _ (l .inv .1) (omega arith)
 
 pub clear-window-spec : {M : Type 1} → statement M
 clear-window-spec =

@@ -41,46 +41,41 @@ is-finite-requires c κs = search needs
 
 returns : tie.Need-returns Inv-loop μ-loop
 returns c =
-    let s = c .before .before .before .before .before .before .before .before .before .before .before in
     let l = c .before .before .before .before .before .before .before .before .loop in
     let w = c .before .before .before .before .before .wide in
-    sums-fails (s .args .cols .now) (s .args .base) (s .args .sums .now) (l .k) (l .inv) (w .result) (omega arith) (w .ensures) (omega arith) (omega arith) (c .before .is-finite .result) (c .before .is-finite .ensures) (c .if3 .taken)
+    sums-fails _ _ _ (l .k) (l .inv) _ (omega arith) (w .ensures) (omega arith) (omega arith) (c .before .is-finite .result) (c .before .is-finite .ensures) (c .if3 .taken)
 
 loop-less : tie.Need-loop-less Inv-loop μ-loop
 loop-less c = search needs
 
 loop-again : tie.Need-loop-again Inv-loop μ-loop
 loop-again c =
-    let s = c .before .before .before .before .before .before .before .before .before .before .before in
     let l = c .before .before .before .before .before .before .before .before .loop in
     let w = c .before .before .before .before .before .wide in
-    sums-more (s .args .cols .now) (s .args .base) (s .args .sums .now) (l .k) (l .inv) (w .result) (omega arith) (w .ensures) (omega arith) (omega arith) (c .before .is-finite .result) (c .before .is-finite .ensures) (c .if3 .left)
+    sums-more _ _ _ (l .k) (l .inv) _ (omega arith) (w .ensures) (omega arith) (omega arith) (c .before .is-finite .result) (c .before .is-finite .ensures) (c .if3 .left)
 
 loop-less-2 : tie.Need-loop-less-2 Inv-loop μ-loop
 loop-less-2 c = search needs
 
 loop-again-2 : tie.Need-loop-again-2 Inv-loop μ-loop
 loop-again-2 c =
-    let s = c .before .before .before .before .before .before .before .before in
     let l = c .before .before .before .before .before .loop in
     let w = c .before .before .wide in
-    sums-past (s .args .cols .now) (s .args .base) (s .args .sums .now) (l .k) (l .inv) (w .result) (omega arith) (w .ensures) (omega arith) (omega arith)
+    sums-past _ _ _ (l .k) (l .inv) _ (omega arith) (w .ensures) (omega arith) (omega arith)
 
 loop-less-3 : tie.Need-loop-less-3 Inv-loop μ-loop
 loop-less-3 c = search needs
 
 loop-again-3 : tie.Need-loop-again-3 Inv-loop μ-loop
 loop-again-3 c =
-    let s = c .before .before .before .before .before .before .before in
     let l = c .before .before .before .before .loop in
     let w = c .before .wide in
-    sums-before (s .args .cols .now) (s .args .base) (s .args .sums .now) (l .k) (l .inv) (w .result) (omega arith) (w .ensures) (omega arith)
+    sums-before _ _ _ (l .k) (l .inv) _ (omega arith) (w .ensures) (omega arith)
 
 returns-2 : tie.Need-returns-2 Inv-loop μ-loop
 returns-2 c =
-    let s = c .before .before .before .before in
     let l = c .before .loop in
-    sums-done (s .args .cols .now) (s .args .base) (s .args .sums .now) (l .k) (l .inv) (omega arith)
+    sums-done _ _ _ (l .k) (l .inv) (omega arith)
 
 pub sums-hold-spec : {M : Type 1} → statement M
 sums-hold-spec =

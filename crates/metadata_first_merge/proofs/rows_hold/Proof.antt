@@ -24,10 +24,10 @@ loop-holds c =
     (omega arith, refl, s .pre .1 .1, rows-none _)
 
 mul-wide : tie.Need-mul-wide Inv-loop μ-loop
-mul-wide c = let i = row-of (valid _ (c .before .before .before .before .before .before .pre .0)) (c .loop-test .taken) in search needs
+mul-wide c = let i = row-of (valid _ (c .before .before .before .before .before .before .pre .0)) {r = c .before .loop .row} (omega arith) in search needs
 
 shared-slice-read-wide : tie.Need-shared-slice-read-wide Inv-loop μ-loop
-shared-slice-read-wide c = let i = row-of (valid _ (c .before .before .before .before .before .before .before .pre .0)) (c .before .loop-test .taken) in search needs
+shared-slice-read-wide c = let i = row-of (valid _ (c .before .before .before .before .before .before .before .pre .0)) {r = c .before .before .loop .row} (omega arith) in search needs
 
 wide-requires : tie.Need-wide-requires Inv-loop μ-loop
 wide-requires c κs = search needs
@@ -36,37 +36,37 @@ add-wide : tie.Need-add-wide Inv-loop μ-loop
 add-wide c = search needs
 
 mul-wide-2 : tie.Need-mul-wide-2 Inv-loop μ-loop
-mul-wide-2 c = let i = row-of (valid _ (c .before .before .before .before .before .before .before .before .pre .0)) (c .before .before .loop-test .taken) in search needs
+mul-wide-2 c = let i = row-of (valid _ (c .before .before .before .before .before .before .before .before .pre .0)) {r = c .before .before .before .loop .row} (omega arith) in search needs
 
 shared-slice-read-wide-2 : tie.Need-shared-slice-read-wide-2 Inv-loop μ-loop
-shared-slice-read-wide-2 c = let i = row-of (valid _ (c .before .before .before .before .before .before .before .before .before .pre .0)) (c .before .before .before .loop-test .taken) in search needs
+shared-slice-read-wide-2 c = let i = row-of (valid _ (c .before .before .before .before .before .before .before .before .before .pre .0)) {r = c .before .before .before .before .loop .row} (omega arith) in search needs
 
 wide-requires-2 : tie.Need-wide-requires-2 Inv-loop μ-loop
 wide-requires-2 c κs = search needs
 
 mul-row-holds : tie.Need-mul-row-holds Inv-loop μ-loop
-mul-row-holds c = let i = row-of (valid _ (c .before .before .before .before .before .before .before .before .before .before .pre .0)) (c .before .before .before .before .loop-test .taken) in search needs
+mul-row-holds c = let i = row-of (valid _ (c .before .before .before .before .before .before .before .before .before .before .pre .0)) {r = c .before .before .before .before .before .loop .row} (omega arith) in search needs
 
 sub-row-holds : tie.Need-sub-row-holds Inv-loop μ-loop
-sub-row-holds c = let i = row-of (valid _ (c .before .before .before .before .before .before .before .before .before .before .pre .0)) (c .before .before .before .before .loop-test .taken) in search needs
+sub-row-holds c = let i = row-of (valid _ (c .before .before .before .before .before .before .before .before .before .before .pre .0)) {r = c .before .before .before .before .before .loop .row} (omega arith) in search needs
 
 part-row-holds-start : tie.Need-part-row-holds-start Inv-loop μ-loop
-part-row-holds-start c = let i = row-of (valid _ (c .before .before .before .before .before .before .before .before .before .before .pre .0)) (c .before .before .before .before .loop-test .taken) in search needs
+part-row-holds-start c = let i = row-of (valid _ (c .before .before .before .before .before .before .before .before .before .before .pre .0)) {r = c .before .before .before .before .before .loop .row} (omega arith) in search needs
 
 part-row-holds-end : tie.Need-part-row-holds-end Inv-loop μ-loop
-part-row-holds-end c = let i = row-of (valid _ (c .before .before .before .before .before .before .before .before .before .before .pre .0)) (c .before .before .before .before .loop-test .taken) in search needs
+part-row-holds-end c = let i = row-of (valid _ (c .before .before .before .before .before .before .before .before .before .before .pre .0)) {r = c .before .before .before .before .before .loop .row} (omega arith) in search needs
 
 mul-row-holds-2 : tie.Need-mul-row-holds-2 Inv-loop μ-loop
-mul-row-holds-2 c = let i = row-of-values (valid _ (c .before .before .before .before .before .before .before .before .before .before .before .pre .0)) (c .before .before .before .before .before .loop-test .taken) in search needs
+mul-row-holds-2 c = let i = row-of-values (valid _ (c .before .before .before .before .before .before .before .before .before .before .before .pre .0)) {r = c .before .before .before .before .before .before .loop .row} (omega arith) in search needs
 
 sub-row-holds-2 : tie.Need-sub-row-holds-2 Inv-loop μ-loop
-sub-row-holds-2 c = let i = row-of-values (valid _ (c .before .before .before .before .before .before .before .before .before .before .before .pre .0)) (c .before .before .before .before .before .loop-test .taken) in search needs
+sub-row-holds-2 c = let i = row-of-values (valid _ (c .before .before .before .before .before .before .before .before .before .before .before .pre .0)) {r = c .before .before .before .before .before .before .loop .row} (omega arith) in search needs
 
 part-row-holds-start-2 : tie.Need-part-row-holds-start-2 Inv-loop μ-loop
-part-row-holds-start-2 c = let i = row-of-values (valid _ (c .before .before .before .before .before .before .before .before .before .before .before .pre .0)) (c .before .before .before .before .before .loop-test .taken) in search needs
+part-row-holds-start-2 c = let i = row-of-values (valid _ (c .before .before .before .before .before .before .before .before .before .before .before .pre .0)) {r = c .before .before .before .before .before .before .loop .row} (omega arith) in search needs
 
 part-row-holds-end-2 : tie.Need-part-row-holds-end-2 Inv-loop μ-loop
-part-row-holds-end-2 c = let i = row-of-values (valid _ (c .before .before .before .before .before .before .before .before .before .before .before .pre .0)) (c .before .before .before .before .before .loop-test .taken) in search needs
+part-row-holds-end-2 c = let i = row-of-values (valid _ (c .before .before .before .before .before .before .before .before .before .before .before .pre .0)) {r = c .before .before .before .before .before .before .loop .row} (omega arith) in search needs
 
 row-holds-requires : tie.Need-row-holds-requires Inv-loop μ-loop
 row-holds-requires c κs =
@@ -84,7 +84,7 @@ returns c =
     let s = c .before .before .before .before .before .before .before .before .before .before .before .before .before .before .before .before .before in
     let l = c .before .before .before .before .before .before .before .before .before .before .before .before .loop in
     let f = c .before .before .before .row-holds in
-    rows-fails (asCsr (s .args .nrows) (s .args .ncols) (s .args .row-ptr .now) (s .args .col-idx .now) (s .args .values .now)) (l .row) _ _ (c .before .before .before .before .before .before .before .before .before .wide .ensures) (c .before .before .before .before .before .before .before .wide2 .ensures) _ (f .ensures .0) (c .before .before .before .before .before .before .before .before .before .before .before .loop-test .taken) (c .if1 .taken)
+    rows-fails (asCsr (s .args .nrows) (s .args .ncols) (s .args .row-ptr .now) (s .args .col-idx .now) (s .args .values .now)) (l .row) _ _ (c .before .before .before .before .before .before .before .before .before .wide .ensures) (c .before .before .before .before .before .before .before .wide2 .ensures) _ (f .ensures .0) (omega arith) (c .if1 .taken)
 
 add-row : tie.Need-add-row Inv-loop μ-loop
 add-row c = search needs

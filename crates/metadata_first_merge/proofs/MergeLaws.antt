@@ -1,5 +1,5 @@
 -- Laws of merged values: one entry more, columns without an entry, and finite merged values by columns and row after row. Assumes nothing.
-use mathlib.Core.Bool.{Bool, true, false, not, _||_, true≢false}
+use mathlib.Core.Bool.{Bool, true, false, not, _||_, or-true, true≢false}
 use mathlib.Core.List.{List, [], _∷_, _++_, zip, zipWith, foldl, foldl-append}
 use mathlib.Core.Path.{_≡_, refl, sym, ap, ap₂, _∙_}
 use Prim.Native.Nat.{ℕ, zero, suc, _+_, _-_, _≤_, _<_}
@@ -23,6 +23,7 @@ use Rattle.metadata_first_merge.specs.Merge.{rowValues, mergedFinite}
 
 -- ---- one entry more
 
+-- a sum with one value more, where the test holds
 abbrev pub addIf : Bool → Float → Float → Float
 addIf true s v = add binary64 s v
 addIf false s v = s
@@ -93,11 +94,9 @@ every-at p l c e s = let w = some-every (λ d. eqb d c) p l s e in ap p (sym (eq
 every-listed : (p : ℕ → Bool) (l : List ℕ) → ((c : ℕ) → some (λ d. eqb d c) l ≡ true → p c ≡ true) → every p l ≡ true
 unfolding every some
 every-listed p [] h = refl
-every-listed p (a ∷ l) h = and-both (p a) (every p l) (h a (ap (λ (t : Bool). t || some (λ d. eqb d a) l) (eq-eqb a a refl))) (every-listed p l (λ c s. h c (or-right (eqb a c) (some (λ d. eqb d c) l) s)))
-  where
-    or-right : (s t : Bool) → t ≡ true → (s || t) ≡ true
-    or-right true t e = refl
-    or-right false t e = e
+every-listed p (a ∷ l) h =
+    and-both (p a) (every p l) (h a (ap (λ (t : Bool). t || some (λ d. eqb d a) l) (eq-eqb a a refl)))
+    (every-listed p l (λ c s. h c (ap (λ (t : Bool). eqb a c || t) s ∙ or-true (eqb a c))))
 
 -- ---- the merged values of a row's columns are its row values
 

@@ -1,5 +1,5 @@
 -- Laws of a window of a row: its sums entry after entry, the test of its sums, clearing it, and the windows of a row taken together. Assumes nothing.
-use mathlib.Core.Bool.{Bool, true, false, not, _&&_, _||_, false≢true}
+use mathlib.Core.Bool.{Bool, true, false, not, _&&_, _||_, or-true, false≢true}
 use mathlib.Core.List.{List, [], _∷_, zip, zipWith}
 use mathlib.Core.Path.{_≡_, refl, sym, ap, ap₂, _∙_}
 use Prim.Native.Nat.{ℕ, zero, suc, _+_, _-_, _^_, _≤_, _<_}
@@ -219,13 +219,9 @@ module _ (n : ℕ) (cs : List ℕ) (vs : List Float) (same : length vs ≡ lengt
   unfolding windowFinite
   searched-fails base width e = go (every (λ c. finite (merged (zip cs vs) c)) cs) refl ∙ row-finite n cs vs same inside
     where
-      or-right : (s t : Bool) → t ≡ true → (s || t) ≡ true
-      or-right true t e = refl
-      or-right false t e = e
-
       go : (t : Bool) → every (λ c. finite (merged (zip cs vs) c)) cs ≡ t → false ≡ t
       go true x =
           absurd (false≢true (e
           ∙ every-by (λ c. finite (merged (zip cs vs) c)) (λ c. finite (merged (zip cs vs) c)) (λ c. not (inWindow base width c) || finite (merged (zip cs vs) c)) cs
-          (λ c p q. or-right (not (inWindow base width c)) (finite (merged (zip cs vs) c)) p) x x))
+          (λ c p q. ap (λ (t : Bool). not (inWindow base width c) || t) p ∙ or-true (not (inWindow base width c))) x x))
       go false x = refl

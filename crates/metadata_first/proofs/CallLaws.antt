@@ -77,7 +77,7 @@ stored s e =
       values-in = leb-true (length (s .vals)) (2 ^ 24) (and-left m z sizes);
       frame = framed-facts (s .words .rows) (s .vptr) (length (s .vals)) (and-left f v counts);
       row-counts = λ r l. eqb-true (length (part (s .vptr) (s .vals) r)) (count (member (s .words) r) (s .words .cols))
-      (every-below-at (λ r. eqb (length (part (s .vptr) (s .vals) r)) (count (member (s .words) r) (s .words .cols))) (λ r. true) (s .words .rows) r (and-right f v counts) l refl);
+          (every-below-at (λ r. eqb (length (part (s .vptr) (s .vals) r)) (count (member (s .words) r) (s .words .cols))) (λ r. true) (s .words .rows) r (and-right f v counts) l refl);
       values-finite = and-right (f && v) q rules;
     }
 

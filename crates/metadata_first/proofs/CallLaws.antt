@@ -10,14 +10,14 @@ use lib.ListN.{length, getD, take, drop}
 use lib.Seq.{getD-take, getD-drop}
 use lib.Ieee.{Float, nan}
 use borrow.Author.Tests.{leb-true, ltb-true, eqb-true}
-use Rattle.hybit_core.specs.Answer.{accepted, refused, plain, demand, _andThen_}
+use Rattle.hybit_core.specs.Answer.{accepted, refused, plain, demand, gives, answers, _andThen_}
 use Rattle.hybit_core.specs.Domain.{many}
 use Rattle.hybit_core.specs.Floats.{finite}
 use Rattle.hybit_core.specs.Table.{told}
 use Rattle.hybit_core.specs.declared.Verdict.{Verdict}
 use Rattle.hybit_core.specs.declared.Verdict.the-variants as verdict
 use Rattle.hybit_core.proofs.BoolLaws.{and-left, and-right, is-equal, is-unequal}
-use Rattle.hybit_core.proofs.AnswerLaws.{demand-accepted, then-first, then-second, accepted-by}
+use Rattle.hybit_core.proofs.AnswerLaws.{demand-accepted, then-first, then-second, accepted-by, given-accepted}
 use Rattle.lent.specs.Lists.{part, every}
 use Rattle.lent.proofs.ListLaws.{part-lent}
 use Rattle.word.specs.Bits.{count}
@@ -101,26 +101,37 @@ module _ (s : Store) (k : Stored s) where
         let i : a + n < b = omega (arith, l, part-length (s .vptr) (s .vals) r row-values) in
         sym (getD-drop a (take b (s .vals)) n nan ∙ getD-take b (s .vals) (a + n) nan i)
 
-  -- as many pointer bytes as its rows ask for
-  pub stats-are : record {
-    nrows = s .words .rows;
-    ncols = s .words .cols;
-    «structural_nnz» = s .words .total;
-    «topology_metadata_bytes» = 4 * (s .words .rows + 1) + 12 * length (s .words .word);
-    «value_row_ptr_bytes» = 4 * length (s .vptr);
-    «packed_value_bytes» = 8 * length (s .vals);
-  } ≡ storeStats s
-  unfolding storeStats metadataBytes
-  stats-are =
-      let e : length (s .vptr) ≡ s .words .rows + 1 = omega (arith, k .frame .long) in
-      λ i. record {
-        nrows = s .words .rows;
-        ncols = s .words .cols;
-        «structural_nnz» = s .words .total;
-        «topology_metadata_bytes» = 4 * (s .words .rows + 1) + 12 * length (s .words .word);
-        «value_row_ptr_bytes» = 4 * e i;
-        «packed_value_bytes» = 8 * length (s .vals);
-      }
+-- the figures of an accepted store: its pointers are as many as its rows ask for
+pub stats-given : (s : Store) (v : Verdict) → told v ≡ storeAnswer s → v ≡ verdict.Accepted
+    → gives (record {
+      nrows = s .words .rows;
+      ncols = s .words .cols;
+      «structural_nnz» = s .words .total;
+      «topology_metadata_bytes» = 4 * (s .words .rows + 1) + 12 * length (s .words .word);
+      «value_row_ptr_bytes» = 4 * length (s .vptr);
+      «packed_value_bytes» = 8 * length (s .vals);
+    })
+    ≡ answers (storeAnswer s) (storeStats s)
+unfolding storeStats metadataBytes
+stats-given s v e a =
+    let l : length (s .vptr) ≡ s .words .rows + 1 = omega (arith, checked s v e a .frame .long) in
+    given-accepted (storeAnswer s) (storeStats s)
+    (record {
+      nrows = s .words .rows;
+      ncols = s .words .cols;
+      «structural_nnz» = s .words .total;
+      «topology_metadata_bytes» = 4 * (s .words .rows + 1) + 12 * length (s .words .word);
+      «value_row_ptr_bytes» = 4 * length (s .vptr);
+      «packed_value_bytes» = 8 * length (s .vals);
+    }) v e a
+    (λ i. record {
+      nrows = s .words .rows;
+      ncols = s .words .cols;
+      «structural_nnz» = s .words .total;
+      «topology_metadata_bytes» = 4 * (s .words .rows + 1) + 12 * length (s .words .word);
+      «value_row_ptr_bytes» = 4 * l i;
+      «packed_value_bytes» = 8 * length (s .vals);
+    })
 
 -- ---- a row whose question the checks accept
 

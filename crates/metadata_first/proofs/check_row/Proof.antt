@@ -1,6 +1,6 @@
 -- `metadata_first::check_row` meets its contract. Assumes nothing.
-use Rattle.hybit_core.proofs.AnswerLaws.{checks}
-use Rattle.hybit_core.proofs.BoolLaws.{tests}
+use Rattle.hybit_core.proofs.AnswerLaws.{checks, call-accepted, last-fails, last-passes}
+use Rattle.hybit_core.proofs.BoolLaws.{is-below, is-not-below}
 use Rattle.metadata_first.specs.Store.{storeRowAnswer}
 use borrow.Author.Needs.{needs}
 use Rattle.metadata_first.proofs.check_row.Statement.{statement}
@@ -14,18 +14,18 @@ enum-known-v c = search needs
 
 returns : tie.Need-returns
 unfolding storeRowAnswer
-returns c = search (checks, tests, needs)
+returns c = search (checks, needs)
 
 enum-told : tie.Need-enum-told
 enum-told c = search needs
 
 returns-2 : tie.Need-returns-2
 unfolding storeRowAnswer
-returns-2 c = search (checks, tests, needs)
+returns-2 c = call-accepted _ _ _ _ (c .before .before .before .check .ensures) (c .before .enum-told .given .1) (last-fails _ _ (is-not-below _ _ (c .if1 .taken)))
 
 returns-3 : tie.Need-returns-3
 unfolding storeRowAnswer
-returns-3 c = search (checks, tests, needs)
+returns-3 c = call-accepted _ _ _ _ (c .before .before .before .check .ensures) (c .before .enum-told .given .1) (last-passes _ _ (is-below _ _ (c .if1 .left)))
 
 pub check-row-spec : {M : Type 1} → statement M
 check-row-spec =

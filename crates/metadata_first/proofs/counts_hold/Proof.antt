@@ -1,21 +1,18 @@
 -- `metadata_first::counts_hold` meets its contract. Assumes nothing.
 use mathlib.Core.Bool.{true}
 use mathlib.Core.Path.{_≡_}
-use Prim.Native.Nat.{_-_}
+use Prim.Native.Nat.{_-_, _≤_, _^_}
 use native.Mathlib.Omega.{arith}
 use lib.Dec.{eqb}
-use lib.ListN.{length}
+use lib.ListN.{length, getD}
 use Rattle.lent.specs.Lists.{every, part}
 use Rattle.word.specs.Bits.{count, from}
 use Rattle.topology.specs.Words.{asWords, member}
 use Rattle.topology.proofs.RowLaws.{small-is}
 use Rattle.topology.proofs.ScanLaws.{rows-none, rows-more, rows-fail, rows-done}
 use Rattle.metadata_first.specs.Store.{asStore, valueRules}
-use Rattle.metadata_first.proofs.CallLaws.{masks-here, values-here, counts-same, counts-differ}
+use Rattle.metadata_first.proofs.CallLaws.{masks-here, values-here, counts-same, counts-differ, start-small}
 use Rattle.topology.proofs.TopologyLaws.{accepted-facts}
-use Prim.Native.Nat.{_≤_, _^_}
-use lib.ListN.{getD}
-use Rattle.metadata_first.proofs.CallLaws.{start-small}
 use borrow.Author.Needs.{needs}
 use Rattle.metadata_first.proofs.counts_hold.Statement.{statement}
 use Rattle.metadata_first.proofs.counts_hold.Tie as tie

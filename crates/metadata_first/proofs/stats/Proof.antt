@@ -1,10 +1,7 @@
 -- `metadata_first::stats` meets its contract. Assumes nothing.
 use native.Mathlib.Omega.{arith}
-use Rattle.hybit_core.proofs.AnswerLaws.{outcomes, given-accepted}
-use Rattle.metadata_first.proofs.CallLaws.{checked}
-use Rattle.metadata_first.specs.Store.{storeStats}
-use Rattle.topology.specs.Calls.{metadataBytes}
-use Rattle.metadata_first.proofs.CallLaws.{stats-are}
+use Rattle.hybit_core.proofs.AnswerLaws.{outcomes}
+use Rattle.metadata_first.proofs.CallLaws.{checked, stats-given}
 use borrow.Author.Needs.{needs}
 use Rattle.metadata_first.proofs.stats.Statement.{statement}
 use Rattle.metadata_first.proofs.stats.Tie as tie
@@ -40,8 +37,7 @@ mul-t19 : tie.Need-mul-t19
 mul-t19 c = let k = checked _ _ (c .before .before .check .ensures) (c .enum-told .given .1) in omega (arith, k .values-in)
 
 returns-2 : tie.Need-returns-2
-unfolding storeStats metadataBytes
-returns-2 c = let k = checked _ _ (c .before .before .check .ensures) (c .enum-told .given .1) in given-accepted _ _ _ _ (c .before .before .check .ensures) (c .enum-told .given .1) (stats-are _ k)
+returns-2 c = stats-given _ _ (c .before .before .check .ensures) (c .enum-told .given .1)
 
 pub stats-spec : {M : Type 1} → statement M
 stats-spec =

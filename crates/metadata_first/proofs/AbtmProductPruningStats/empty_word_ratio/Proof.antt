@@ -1,9 +1,7 @@
 -- `metadata_first::AbtmProductPruningStats::empty_word_ratio` meets its contract. Assumes nothing.
 use Rattle.metadata_first.proofs.SumLaws.{none-empty}
 use borrow.Author.Needs.{needs}
-use Rattle.metadata_first.proofs.AbtmProductPruningStats.empty_word_ratio.Statement.{
-  statement,
-}
+use Rattle.metadata_first.proofs.AbtmProductPruningStats.empty_word_ratio.Statement.{statement}
 use Rattle.metadata_first.proofs.AbtmProductPruningStats.empty_word_ratio.Tie as tie
 
 ratio-requires : tie.Need-ratio-requires

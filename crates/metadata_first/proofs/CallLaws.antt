@@ -84,22 +84,21 @@ stored s e =
 pub checked : (s : Store) (v : Verdict) → told v ≡ storeAnswer s → v ≡ verdict.Accepted → Stored s
 checked s v e a = stored s (accepted-by (storeAnswer s) v e a)
 
-module _ (s : Store) (k : Stored s) where
-  module _ (r : ℕ) (h : r < s .words .rows) where
-    -- the row's values can be read
-    pub row-values : RowIn (s .vptr) (length (s .vals)) r
-    row-values = row-in (s .words .rows) (s .vptr) (length (s .vals)) r (k .frame) h
+module _ (s : Store) (k : Stored s) (r : ℕ) (h : r < s .words .rows) where
+  -- the row's values can be read
+  pub row-values : RowIn (s .vptr) (length (s .vals)) r
+  row-values = row-in (s .words .rows) (s .vptr) (length (s .vals)) r (k .frame) h
 
-    -- a column's value stands in the row's part at the column's rank
-    pub value-in-row : (c : ℕ) → count (member (s .words) r) c < length (part (s .vptr) (s .vals) r)
-        → valueAt s r c ≡ getD (part (s .vptr) (s .vals) r) (count (member (s .words) r) c) nan
-    unfolding valueAt part
-    value-in-row c l =
-        let a : ℕ = getD (s .vptr) r 0 in
-        let b : ℕ = getD (s .vptr) (r + 1) 0 in
-        let n : ℕ = count (member (s .words) r) c in
-        let i : a + n < b = omega (arith, l, part-length (s .vptr) (s .vals) r row-values) in
-        sym (getD-drop a (take b (s .vals)) n nan ∙ getD-take b (s .vals) (a + n) nan i)
+  -- a column's value stands in the row's part at the column's rank
+  pub value-in-row : (c : ℕ) → count (member (s .words) r) c < length (part (s .vptr) (s .vals) r)
+      → valueAt s r c ≡ getD (part (s .vptr) (s .vals) r) (count (member (s .words) r) c) nan
+  unfolding valueAt part
+  value-in-row c l =
+      let a : ℕ = getD (s .vptr) r 0 in
+      let b : ℕ = getD (s .vptr) (r + 1) 0 in
+      let n : ℕ = count (member (s .words) r) c in
+      let i : a + n < b = omega (arith, l, part-length (s .vptr) (s .vals) r row-values) in
+      sym (getD-drop a (take b (s .vals)) n nan ∙ getD-take b (s .vals) (a + n) nan i)
 
 -- the figures of an accepted store: its pointers are as many as its rows ask for
 pub stats-given : (s : Store) (v : Verdict) → told v ≡ storeAnswer s → v ≡ verdict.Accepted

@@ -405,3 +405,9 @@ every-listed p [] h = refl
 every-listed p (a ∷ l) h =
     and-both (p a) (every p l) (h a (ap (λ (t : Bool). t || some (λ d. eqb d a) l) (eq-eqb a a refl)))
     (every-listed p l (λ c s. h c (ap (λ (t : Bool). eqb a c || t) s ∙ or-true (eqb a c))))
+
+-- the front of a list of zeros
+pub zeros-front : {A : Type 0} (z : A) (m n : ℕ) → m ≤ n → take m (replicate n z) ≡ replicate m z
+zeros-front z zero n h = refl
+zeros-front z (suc m) zero h = absurd (omega arith)
+zeros-front z (suc m) (suc n) h = ap (λ (l : List _). z ∷ l) (zeros-front z m n (omega arith))

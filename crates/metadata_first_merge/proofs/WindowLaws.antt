@@ -1,8 +1,8 @@
 -- Laws of a window of a row: its sums entry after entry, the test of its sums, clearing it, and the windows of a row taken together. Assumes nothing.
 use mathlib.Core.Bool.{Bool, true, false, not, _&&_, _||_, or-true, false≢true}
-use mathlib.Core.List.{List, [], _∷_, zip, zipWith}
+use mathlib.Core.List.{List, [], zip, zipWith}
 use mathlib.Core.Path.{_≡_, refl, sym, ap, ap₂, _∙_}
-use Prim.Native.Nat.{ℕ, zero, suc, _+_, _-_, _^_, _≤_, _<_}
+use Prim.Native.Nat.{ℕ, _+_, _-_, _^_, _≤_, _<_}
 use native.Mathlib.Numerals.{add-one}
 use native.Mathlib.Decide.{decLt}
 use native.Mathlib.Omega.{arith}
@@ -14,7 +14,7 @@ use borrow.Author.Tests.{lt-ltb, le-ltb, le-leb, lt-leb, ltb-true, eq-eqb, ne-eq
 use Rattle.hybit_core.specs.Floats.{zero64, finite}
 use Rattle.hybit_core.proofs.BoolLaws.{flag-on, flag-off}
 use Rattle.lent.specs.Lists.{each, every, some}
-use Rattle.lent.proofs.ListLaws.{length-each, getD-each, each-set, each-cong, each-is, every-all, every-more, every-fails, every-done, some-none, every-by}
+use Rattle.lent.proofs.ListLaws.{length-each, getD-each, each-set, each-cong, each-is, every-all, every-more, every-fails, every-done, some-none, every-by, zeros-front}
 use Rattle.csr32.specs.Csr.{Entry, merged}
 use Rattle.csr32.proofs.CsrLaws.{present-columns}
 use Rattle.metadata_first_merge.specs.Merge.{rowValues}
@@ -148,20 +148,15 @@ module _ (cs : List ℕ) (base k : ℕ) (sums : List Float) (inv : Outside (drop
 
 -- ---- the window of a whole row
 
-pub zeros-long : (sums : List Float) (m n : ℕ) → sums ≡ replicate m zero64 → m ≡ n → sums ≡ replicate n zero64
-zeros-long sums m n e h = e ∙ ap (λ (k : ℕ). replicate k zero64) h
+pub zeros-of : (sums : List Float) (m n : ℕ) → sums ≡ replicate m zero64 → m ≡ n → sums ≡ replicate n zero64
+zeros-of sums m n e h = e ∙ ap (λ (k : ℕ). replicate k zero64) h
 
 -- the first m places of an array of n zeros
-pub zeros-front : (m n : ℕ) → 0 < m → m ≤ n → n ≤ 2 ^ 20
+pub window-start : (m n : ℕ) → 0 < m → m ≤ n → n ≤ 2 ^ 20
     → ((0 < length (take m (replicate n zero64))) × (length (take m (replicate n zero64)) ≤ 2 ^ 20)) × (take m (replicate n zero64) ≡ replicate (length (take m (replicate n zero64))) zero64)
-zeros-front m n h k f =
+window-start m n h k f =
     let e : length (take m (replicate n zero64)) ≡ m = length-take-le m (replicate n zero64) (omega (arith, length-replicate n zero64)) in
-    ((omega arith, omega arith), zeros-long (take m (replicate n zero64)) m (length (take m (replicate n zero64))) (front m n k) (sym e))
-  where
-    front : (m n : ℕ) → m ≤ n → take m (replicate n zero64) ≡ replicate m zero64
-    front zero n h = refl
-    front (suc m) zero h = absurd (omega arith)
-    front (suc m) (suc n) h = ap (λ (l : List Float). zero64 ∷ l) (front m n (omega arith))
+    ((omega arith, omega arith), zeros-of (take m (replicate n zero64)) m (length (take m (replicate n zero64))) (zeros-front zero64 m n k) (sym e))
 
 module _ (cs : List ℕ) (vs : List Float) (base width : ℕ) (sums : List Float) (l : length vs ≡ length cs) (e : sums ≡ each (λ i. merged (zip cs vs) (base + i)) width) where
   sums-length : length sums ≡ width

@@ -1,0 +1,158 @@
+use borrow.Author.Needs.{needs}
+use Prim.Native.Nat.{_-_}
+use native.Mathlib.Omega.{arith}
+use lib.ListN.{length}
+use Rattle.metadata_first_dot.proofs.RowLaws.{Walked, walked-none, walked-word, walked-place, walked-base, walked-inside, walked-candidate, walked-executed, walked-words, walked-more, walked-le, walked-done}
+use Rattle.metadata_first_dot.proofs.dot_row.Statement.{statement}
+use Rattle.metadata_first_dot.proofs.dot_row.Tie as tie
+use Rattle.metadata_first_dot.proofs.dot_row.Reads as reads
+use Rattle.metadata_first_dot.proofs.dot_row.Lts as lts
+use Rattle.hybit_core.proofs.wide.Reads as wide-reads
+use Rattle.metadata_first_dot.proofs.active_in.Reads as active-in-reads
+use Rattle.metadata_first_dot.proofs.executed_in.Reads as executed-in-reads
+use Rattle.metadata_first_dot.proofs.sum_word.Reads as sum-word-reads
+use Rattle.word.proofs.intersection.Reads as intersection-reads
+use Rattle.word.proofs.popcount.Reads as popcount-reads
+
+abbrev Inv-loop : tie.InvT-loop
+Inv-loop ncols words masks values active x sum₀ candidate₀ executed₀ active-words₀ i₀ sum candidate executed active-words i = Walked ncols words masks values active x i sum candidate executed active-words
+
+abbrev μ-loop : tie.MeasureT-loop
+μ-loop ncols words masks values active x sum₀ candidate₀ executed₀ active-words₀ i₀ sum candidate executed active-words i = length words - i
+
+-- src/lib.rt:83:5
+loop-holds : tie.Need-loop-holds Inv-loop μ-loop
+loop-holds c = search needs
+
+-- src/lib.rt:84:38
+mul-wide : tie.Need-mul-wide Inv-loop μ-loop
+mul-wide c = search needs
+
+-- src/lib.rt:84:38
+shared-slice-read-wide : tie.Need-shared-slice-read-wide Inv-loop μ-loop
+shared-slice-read-wide c = search needs
+
+-- src/lib.rt:84:13
+wide-requires : tie.Need-wide-requires Inv-loop μ-loop
+wide-requires c κs = search needs
+
+-- src/lib.rt:85:39
+mul-intersection : tie.Need-mul-intersection Inv-loop μ-loop
+mul-intersection c = search needs
+
+-- src/lib.rt:85:39
+shared-slice-read-intersection : tie.Need-shared-slice-read-intersection Inv-loop μ-loop
+shared-slice-read-intersection c = search needs
+
+-- src/lib.rt:85:49
+mul-intersection-2 : tie.Need-mul-intersection-2 Inv-loop μ-loop
+mul-intersection-2 c = search needs
+
+-- src/lib.rt:85:49
+shared-slice-read-intersection-2 : tie.Need-shared-slice-read-intersection-2 Inv-loop μ-loop
+shared-slice-read-intersection-2 c = search needs
+
+-- src/lib.rt:85:13
+intersection-requires : tie.Need-intersection-requires Inv-loop μ-loop
+intersection-requires c κs = search needs
+
+-- src/lib.rt:86:24
+mul-sum-word : tie.Need-mul-sum-word Inv-loop μ-loop
+mul-sum-word c = search needs
+
+-- src/lib.rt:86:24
+shared-slice-read-sum-word : tie.Need-shared-slice-read-sum-word Inv-loop μ-loop
+shared-slice-read-sum-word c = search needs
+
+-- src/lib.rt:86:51
+mul-sum-word-2 : tie.Need-mul-sum-word-2 Inv-loop μ-loop
+mul-sum-word-2 c = search needs
+
+-- src/lib.rt:86:9
+sum-word-requires : tie.Need-sum-word-requires Inv-loop μ-loop
+sum-word-requires c κs = search needs
+
+-- src/lib.rt:87:37
+mul-popcount : tie.Need-mul-popcount Inv-loop μ-loop
+mul-popcount c = search needs
+
+-- src/lib.rt:87:37
+shared-slice-read-popcount : tie.Need-shared-slice-read-popcount Inv-loop μ-loop
+shared-slice-read-popcount c = search needs
+
+-- src/lib.rt:87:22
+popcount-requires : tie.Need-popcount-requires Inv-loop μ-loop
+popcount-requires c κs = search needs
+
+-- src/lib.rt:87:9
+add-candidate : tie.Need-add-candidate Inv-loop μ-loop
+add-candidate c = search needs
+
+-- src/lib.rt:88:21
+executed-in-requires : tie.Need-executed-in-requires Inv-loop μ-loop
+executed-in-requires c κs = search needs
+
+-- src/lib.rt:88:9
+add-executed : tie.Need-add-executed Inv-loop μ-loop
+add-executed c = search needs
+
+-- src/lib.rt:89:25
+active-in-requires : tie.Need-active-in-requires Inv-loop μ-loop
+active-in-requires c κs = search needs
+
+-- src/lib.rt:89:9
+add-active-words : tie.Need-add-active-words Inv-loop μ-loop
+add-active-words c = search needs
+
+-- src/lib.rt:90:9
+add-i : tie.Need-add-i Inv-loop μ-loop
+add-i c = search needs
+
+-- src/lib.rt:83:5
+loop-less : tie.Need-loop-less Inv-loop μ-loop
+loop-less c = search needs
+
+-- src/lib.rt:83:5
+loop-again : tie.Need-loop-again Inv-loop μ-loop
+loop-again c = search needs
+
+-- src/lib.rt:96:27
+sub-t25 : tie.Need-sub-t25 Inv-loop μ-loop
+sub-t25 c = search needs
+
+-- src/lib.rt:67:1
+returns : tie.Need-returns Inv-loop μ-loop
+returns c = search needs
+
+pub dot-row-spec : {M : Type 1} → statement M
+dot-row-spec =
+    tie.close
+    (tie.spec
+    Inv-loop
+    μ-loop
+    loop-holds
+    mul-wide
+    shared-slice-read-wide
+    wide-requires
+    mul-intersection
+    shared-slice-read-intersection
+    mul-intersection-2
+    shared-slice-read-intersection-2
+    intersection-requires
+    mul-sum-word
+    shared-slice-read-sum-word
+    mul-sum-word-2
+    sum-word-requires
+    mul-popcount
+    shared-slice-read-popcount
+    popcount-requires
+    add-candidate
+    executed-in-requires
+    add-executed
+    active-in-requires
+    add-active-words
+    add-i
+    loop-less
+    loop-again
+    sub-t25
+    returns)

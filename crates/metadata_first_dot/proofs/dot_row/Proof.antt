@@ -22,7 +22,7 @@ abbrev μ-loop : tie.MeasureT-loop
 
 -- src/lib.rt:83:5
 loop-holds : tie.Need-loop-holds Inv-loop μ-loop
-loop-holds c = search needs
+loop-holds c = walked-none _ _ _ _ _ _ (c .before .before .before .before .before .pre) (λ k. c .before .before .before .shared-slice-known2 .given k .fits) (λ k. c .before .shared-slice-known4 .given k .fits)
 
 -- src/lib.rt:84:38
 mul-wide : tie.Need-mul-wide Inv-loop μ-loop
@@ -46,11 +46,13 @@ shared-slice-read-intersection c = search needs
 
 -- src/lib.rt:85:49
 mul-intersection-2 : tie.Need-mul-intersection-2 Inv-loop μ-loop
-mul-intersection-2 c = search needs
+mul-intersection-2 c =
+    let h = walked-word _ _ _ _ _ _ _ _ _ _ _ (c .before .before .before .before .loop .inv) (c .before .before .before .loop-test .taken) _ (c .before .wide .ensures) in
+    omega (arith, h)
 
 -- src/lib.rt:85:49
 shared-slice-read-intersection-2 : tie.Need-shared-slice-read-intersection-2 Inv-loop μ-loop
-shared-slice-read-intersection-2 c = search needs
+shared-slice-read-intersection-2 c = walked-word _ _ _ _ _ _ _ _ _ _ _ (c .before .before .before .before .before .loop .inv) (c .before .before .before .before .loop-test .taken) _ (c .before .before .wide .ensures)
 
 -- src/lib.rt:85:13
 intersection-requires : tie.Need-intersection-requires Inv-loop μ-loop
@@ -66,11 +68,13 @@ shared-slice-read-sum-word c = search needs
 
 -- src/lib.rt:86:51
 mul-sum-word-2 : tie.Need-mul-sum-word-2 Inv-loop μ-loop
-mul-sum-word-2 c = search needs
+mul-sum-word-2 c =
+    let h = walked-base _ _ _ _ _ _ _ _ _ _ _ (c .before .before .before .before .before .before .before .loop .inv) (c .before .before .before .before .before .before .loop-test .taken) _ (c .before .before .before .before .wide .ensures) _ (c .before .intersection .ensures) in
+    omega (arith, h)
 
 -- src/lib.rt:86:9
 sum-word-requires : tie.Need-sum-word-requires Inv-loop μ-loop
-sum-word-requires c κs = search needs
+sum-word-requires c κs = ((walked-place _ _ _ _ _ _ _ _ _ _ _ (c .before .before .before .before .before .before .before .loop .inv) (c .before .before .before .before .before .before .loop-test .taken) _ (c .before .before .before .before .wide .ensures) _ (c .before .intersection .ensures), walked-base _ _ _ _ _ _ _ _ _ _ _ (c .before .before .before .before .before .before .before .loop .inv) (c .before .before .before .before .before .before .loop-test .taken) _ (c .before .before .before .before .wide .ensures) _ (c .before .intersection .ensures)), walked-inside _ _ _ _ _ _ _ _ _ _ _ (c .before .before .before .before .before .before .before .loop .inv) (c .before .before .before .before .before .before .loop-test .taken) _ (c .before .before .before .before .wide .ensures) _ (c .before .intersection .ensures))
 
 -- src/lib.rt:87:37
 mul-popcount : tie.Need-mul-popcount Inv-loop μ-loop
@@ -86,7 +90,9 @@ popcount-requires c κs = search needs
 
 -- src/lib.rt:87:9
 add-candidate : tie.Need-add-candidate Inv-loop μ-loop
-add-candidate c = search needs
+add-candidate c =
+    let h = walked-candidate _ _ _ _ _ _ _ _ _ _ _ (c .before .before .before .before .before .before .before .before .before .before .loop .inv) (c .before .before .before .before .before .before .before .before .before .loop-test .taken) _ (c .before .before .before .before .before .before .before .wide .ensures) _ (c .before .before .before .before .intersection .ensures) _ (c .popcount .ensures) in
+    omega (arith, h)
 
 -- src/lib.rt:88:21
 executed-in-requires : tie.Need-executed-in-requires Inv-loop μ-loop
@@ -94,7 +100,9 @@ executed-in-requires c κs = search needs
 
 -- src/lib.rt:88:9
 add-executed : tie.Need-add-executed Inv-loop μ-loop
-add-executed c = search needs
+add-executed c =
+    let h = walked-executed _ _ _ _ _ _ _ _ _ _ _ (c .before .before .before .before .before .before .before .before .before .before .before .loop .inv) (c .before .before .before .before .before .before .before .before .before .before .loop-test .taken) _ (c .before .before .before .before .before .before .before .before .wide .ensures) _ (c .before .before .before .before .before .intersection .ensures) _ (c .executed-in .ensures) in
+    omega (arith, h)
 
 -- src/lib.rt:89:25
 active-in-requires : tie.Need-active-in-requires Inv-loop μ-loop
@@ -102,7 +110,9 @@ active-in-requires c κs = search needs
 
 -- src/lib.rt:89:9
 add-active-words : tie.Need-add-active-words Inv-loop μ-loop
-add-active-words c = search needs
+add-active-words c =
+    let h = walked-words _ _ _ _ _ _ _ _ _ _ _ (c .before .before .before .before .before .before .before .before .before .before .before .before .loop .inv) (c .before .before .before .before .before .before .before .before .before .before .before .loop-test .taken) _ (c .before .before .before .before .before .before .before .before .before .wide .ensures) _ (c .before .before .before .before .before .before .intersection .ensures) _ (c .active-in .ensures) in
+    omega (arith, h)
 
 -- src/lib.rt:90:9
 add-i : tie.Need-add-i Inv-loop μ-loop
@@ -114,15 +124,17 @@ loop-less c = search needs
 
 -- src/lib.rt:83:5
 loop-again : tie.Need-loop-again Inv-loop μ-loop
-loop-again c = search needs
+loop-again c = walked-more _ _ _ _ _ _ _ _ _ _ _ (c .before .before .before .before .before .before .before .before .before .before .before .before .loop .inv) (c .before .before .before .before .before .before .before .before .before .before .before .loop-test .taken) _ (c .before .before .before .before .before .before .before .before .before .wide .ensures) _ (c .before .before .before .before .before .before .intersection .ensures) _ _ _ _ (c .before .before .before .before .sum-word .ensures) (c .before .before .popcount .ensures) (c .before .executed-in .ensures) (c .active-in .ensures)
 
 -- src/lib.rt:96:27
 sub-t25 : tie.Need-sub-t25 Inv-loop μ-loop
-sub-t25 c = search needs
+sub-t25 c =
+    let h = walked-le _ _ _ _ _ _ _ _ _ _ _ (c .before .loop .inv) (omega arith) in
+    omega (arith, h)
 
 -- src/lib.rt:67:1
 returns : tie.Need-returns Inv-loop μ-loop
-returns c = search needs
+returns c = walked-done _ _ _ _ _ _ _ _ _ _ _ (c .before .loop .inv) (omega arith)
 
 pub dot-row-spec : {M : Type 1} → statement M
 dot-row-spec =

@@ -64,6 +64,9 @@ module _ (n m : ℕ) (ps ws ms : List ℕ) (t : ℕ) (vp : List ℕ) (vs : List 
   words-known : Accepted (asWords n m ps ws ms t)
   words-known = words-facts (asStore n m ps ws ms t vp vs) (known .store)
 
+  pub rows-few : n ≤ 2 ^ 20
+  rows-few = words-known .rows-in
+
   pub columns-few : m ≤ 2 ^ 20
   columns-few = words-known .cols-in
 

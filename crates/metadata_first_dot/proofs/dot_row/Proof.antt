@@ -1,3 +1,4 @@
+-- `metadata_first_dot::dot_row` meets its contract. Assumes nothing.
 use borrow.Author.Needs.{needs}
 use Prim.Native.Nat.{_-_}
 use native.Mathlib.Omega.{arith}
@@ -5,14 +6,6 @@ use lib.ListN.{length}
 use Rattle.metadata_first_dot.proofs.RowLaws.{Walked, walked-none, walked-word, walked-place, walked-base, walked-inside, walked-candidate, walked-executed, walked-words, walked-more, walked-le, walked-done}
 use Rattle.metadata_first_dot.proofs.dot_row.Statement.{statement}
 use Rattle.metadata_first_dot.proofs.dot_row.Tie as tie
-use Rattle.metadata_first_dot.proofs.dot_row.Reads as reads
-use Rattle.metadata_first_dot.proofs.dot_row.Lts as lts
-use Rattle.hybit_core.proofs.wide.Reads as wide-reads
-use Rattle.metadata_first_dot.proofs.active_in.Reads as active-in-reads
-use Rattle.metadata_first_dot.proofs.executed_in.Reads as executed-in-reads
-use Rattle.metadata_first_dot.proofs.sum_word.Reads as sum-word-reads
-use Rattle.word.proofs.intersection.Reads as intersection-reads
-use Rattle.word.proofs.popcount.Reads as popcount-reads
 
 abbrev Inv-loop : tie.InvT-loop
 Inv-loop ncols words masks values active x sum₀ candidate₀ executed₀ active-words₀ i₀ sum candidate executed active-words i = Walked ncols words masks values active x i sum candidate executed active-words
@@ -20,119 +13,93 @@ Inv-loop ncols words masks values active x sum₀ candidate₀ executed₀ activ
 abbrev μ-loop : tie.MeasureT-loop
 μ-loop ncols words masks values active x sum₀ candidate₀ executed₀ active-words₀ i₀ sum candidate executed active-words i = length words - i
 
--- src/lib.rt:83:5
 loop-holds : tie.Need-loop-holds Inv-loop μ-loop
 loop-holds c = walked-none _ _ _ _ _ _ (c .before .before .before .before .before .pre) (λ k. c .before .before .before .shared-slice-known2 .given k .fits) (λ k. c .before .shared-slice-known4 .given k .fits)
 
--- src/lib.rt:84:38
 mul-wide : tie.Need-mul-wide Inv-loop μ-loop
 mul-wide c = search needs
 
--- src/lib.rt:84:38
 shared-slice-read-wide : tie.Need-shared-slice-read-wide Inv-loop μ-loop
 shared-slice-read-wide c = search needs
 
--- src/lib.rt:84:13
 wide-requires : tie.Need-wide-requires Inv-loop μ-loop
 wide-requires c κs = search needs
 
--- src/lib.rt:85:39
 mul-intersection : tie.Need-mul-intersection Inv-loop μ-loop
 mul-intersection c = search needs
 
--- src/lib.rt:85:39
 shared-slice-read-intersection : tie.Need-shared-slice-read-intersection Inv-loop μ-loop
 shared-slice-read-intersection c = search needs
 
--- src/lib.rt:85:49
 mul-intersection-2 : tie.Need-mul-intersection-2 Inv-loop μ-loop
 mul-intersection-2 c =
     let h = walked-word _ _ _ _ _ _ _ _ _ _ _ (c .before .before .before .before .loop .inv) (c .before .before .before .loop-test .taken) _ (c .before .wide .ensures) in
     omega (arith, h)
 
--- src/lib.rt:85:49
 shared-slice-read-intersection-2 : tie.Need-shared-slice-read-intersection-2 Inv-loop μ-loop
 shared-slice-read-intersection-2 c = walked-word _ _ _ _ _ _ _ _ _ _ _ (c .before .before .before .before .before .loop .inv) (c .before .before .before .before .loop-test .taken) _ (c .before .before .wide .ensures)
 
--- src/lib.rt:85:13
 intersection-requires : tie.Need-intersection-requires Inv-loop μ-loop
 intersection-requires c κs = search needs
 
--- src/lib.rt:86:24
 mul-sum-word : tie.Need-mul-sum-word Inv-loop μ-loop
 mul-sum-word c = search needs
 
--- src/lib.rt:86:24
 shared-slice-read-sum-word : tie.Need-shared-slice-read-sum-word Inv-loop μ-loop
 shared-slice-read-sum-word c = search needs
 
--- src/lib.rt:86:51
 mul-sum-word-2 : tie.Need-mul-sum-word-2 Inv-loop μ-loop
 mul-sum-word-2 c =
     let h = walked-base _ _ _ _ _ _ _ _ _ _ _ (c .before .before .before .before .before .before .before .loop .inv) (c .before .before .before .before .before .before .loop-test .taken) _ (c .before .before .before .before .wide .ensures) _ (c .before .intersection .ensures) in
     omega (arith, h)
 
--- src/lib.rt:86:9
 sum-word-requires : tie.Need-sum-word-requires Inv-loop μ-loop
 sum-word-requires c κs = ((walked-place _ _ _ _ _ _ _ _ _ _ _ (c .before .before .before .before .before .before .before .loop .inv) (c .before .before .before .before .before .before .loop-test .taken) _ (c .before .before .before .before .wide .ensures) _ (c .before .intersection .ensures), walked-base _ _ _ _ _ _ _ _ _ _ _ (c .before .before .before .before .before .before .before .loop .inv) (c .before .before .before .before .before .before .loop-test .taken) _ (c .before .before .before .before .wide .ensures) _ (c .before .intersection .ensures)), walked-inside _ _ _ _ _ _ _ _ _ _ _ (c .before .before .before .before .before .before .before .loop .inv) (c .before .before .before .before .before .before .loop-test .taken) _ (c .before .before .before .before .wide .ensures) _ (c .before .intersection .ensures))
 
--- src/lib.rt:87:37
 mul-popcount : tie.Need-mul-popcount Inv-loop μ-loop
 mul-popcount c = search needs
 
--- src/lib.rt:87:37
 shared-slice-read-popcount : tie.Need-shared-slice-read-popcount Inv-loop μ-loop
 shared-slice-read-popcount c = search needs
 
--- src/lib.rt:87:22
 popcount-requires : tie.Need-popcount-requires Inv-loop μ-loop
 popcount-requires c κs = search needs
 
--- src/lib.rt:87:9
 add-candidate : tie.Need-add-candidate Inv-loop μ-loop
 add-candidate c =
     let h = walked-candidate _ _ _ _ _ _ _ _ _ _ _ (c .before .before .before .before .before .before .before .before .before .before .loop .inv) (c .before .before .before .before .before .before .before .before .before .loop-test .taken) _ (c .before .before .before .before .before .before .before .wide .ensures) _ (c .before .before .before .before .intersection .ensures) _ (c .popcount .ensures) in
     omega (arith, h)
 
--- src/lib.rt:88:21
 executed-in-requires : tie.Need-executed-in-requires Inv-loop μ-loop
 executed-in-requires c κs = search needs
 
--- src/lib.rt:88:9
 add-executed : tie.Need-add-executed Inv-loop μ-loop
 add-executed c =
     let h = walked-executed _ _ _ _ _ _ _ _ _ _ _ (c .before .before .before .before .before .before .before .before .before .before .before .loop .inv) (c .before .before .before .before .before .before .before .before .before .before .loop-test .taken) _ (c .before .before .before .before .before .before .before .before .wide .ensures) _ (c .before .before .before .before .before .intersection .ensures) _ (c .executed-in .ensures) in
     omega (arith, h)
 
--- src/lib.rt:89:25
 active-in-requires : tie.Need-active-in-requires Inv-loop μ-loop
 active-in-requires c κs = search needs
 
--- src/lib.rt:89:9
 add-active-words : tie.Need-add-active-words Inv-loop μ-loop
 add-active-words c =
     let h = walked-words _ _ _ _ _ _ _ _ _ _ _ (c .before .before .before .before .before .before .before .before .before .before .before .before .loop .inv) (c .before .before .before .before .before .before .before .before .before .before .before .loop-test .taken) _ (c .before .before .before .before .before .before .before .before .before .wide .ensures) _ (c .before .before .before .before .before .before .intersection .ensures) _ (c .active-in .ensures) in
     omega (arith, h)
 
--- src/lib.rt:90:9
 add-i : tie.Need-add-i Inv-loop μ-loop
 add-i c = search needs
 
--- src/lib.rt:83:5
 loop-less : tie.Need-loop-less Inv-loop μ-loop
 loop-less c = search needs
 
--- src/lib.rt:83:5
 loop-again : tie.Need-loop-again Inv-loop μ-loop
 loop-again c = walked-more _ _ _ _ _ _ _ _ _ _ _ (c .before .before .before .before .before .before .before .before .before .before .before .before .loop .inv) (c .before .before .before .before .before .before .before .before .before .before .before .loop-test .taken) _ (c .before .before .before .before .before .before .before .before .before .wide .ensures) _ (c .before .before .before .before .before .before .intersection .ensures) _ _ _ _ (c .before .before .before .before .sum-word .ensures) (c .before .before .popcount .ensures) (c .before .executed-in .ensures) (c .active-in .ensures)
 
--- src/lib.rt:96:27
 sub-t25 : tie.Need-sub-t25 Inv-loop μ-loop
 sub-t25 c =
     let h = walked-le _ _ _ _ _ _ _ _ _ _ _ (c .before .loop .inv) (omega arith) in
     omega (arith, h)
 
--- src/lib.rt:67:1
 returns : tie.Need-returns Inv-loop μ-loop
 returns c = walked-done _ _ _ _ _ _ _ _ _ _ _ (c .before .loop .inv) (omega arith)
 

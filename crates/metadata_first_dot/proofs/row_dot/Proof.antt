@@ -1,159 +1,128 @@
+-- `metadata_first_dot::row_dot` meets its contract. Assumes nothing.
 use borrow.Author.Needs.{needs}
 use native.Mathlib.Omega.{arith}
 use Rattle.lent.proofs.ListLaws.{part-lent}
 use Rattle.metadata_first_dot.proofs.CallLaws.{row-words, row-masks, row-vals, row-ready, row-dot-is}
 use Rattle.metadata_first_dot.proofs.row_dot.Statement.{statement}
 use Rattle.metadata_first_dot.proofs.row_dot.Tie as tie
-use Rattle.metadata_first_dot.proofs.row_dot.Reads as reads
-use Rattle.metadata_first_dot.proofs.row_dot.Lts as lts
-use Rattle.hybit_core.proofs.wide.Reads as wide-reads
-use Rattle.metadata_first_dot.proofs.dot_row.Reads as dot-row-reads
 
--- src/lib.rt:120:34
 mul-wide : tie.Need-mul-wide
 mul-wide c =
     let h = row-words _ _ _ _ _ _ _ _ _ _ _ (c .before .before .before .before .before .before .before .pre .0) _ (c .before .before .before .before .before .before .before .pre .1) in
     omega (arith, h)
 
--- src/lib.rt:120:34
 shared-slice-read-wide : tie.Need-shared-slice-read-wide
 shared-slice-read-wide c = row-words _ _ _ _ _ _ _ _ _ _ _ (c .before .before .before .before .before .before .before .before .pre .0) _ (c .before .before .before .before .before .before .before .before .pre .1) .here
 
--- src/lib.rt:120:9
 wide-requires : tie.Need-wide-requires
 wide-requires c κs = search needs
 
--- src/lib.rt:121:45
 add-wide : tie.Need-add-wide
 add-wide c =
     let h = row-words _ _ _ _ _ _ _ _ _ _ _ (c .before .before .before .before .before .before .before .before .before .pre .0) _ (c .before .before .before .before .before .before .before .before .before .pre .1) in
     omega (arith, h)
 
--- src/lib.rt:121:32
 mul-wide-2 : tie.Need-mul-wide-2
 mul-wide-2 c =
     let h = row-words _ _ _ _ _ _ _ _ _ _ _ (c .before .before .before .before .before .before .before .before .before .pre .0) _ (c .before .before .before .before .before .before .before .before .before .pre .1) in
     omega (arith, h)
 
--- src/lib.rt:121:32
 shared-slice-read-wide-2 : tie.Need-shared-slice-read-wide-2
 shared-slice-read-wide-2 c = row-words _ _ _ _ _ _ _ _ _ _ _ (c .before .before .before .before .before .before .before .before .before .before .pre .0) _ (c .before .before .before .before .before .before .before .before .before .before .pre .1) .next
 
--- src/lib.rt:121:9
 wide-requires-2 : tie.Need-wide-requires-2
 wide-requires-2 c κs = search needs
 
--- src/lib.rt:122:34
 mul-wide-3 : tie.Need-mul-wide-3
 mul-wide-3 c =
     let h = row-vals _ _ _ _ _ _ _ _ _ _ _ (c .before .before .before .before .before .before .before .before .before .before .before .pre .0) _ (c .before .before .before .before .before .before .before .before .before .before .before .pre .1) in
     omega (arith, h)
 
--- src/lib.rt:122:34
 shared-slice-read-wide-3 : tie.Need-shared-slice-read-wide-3
 shared-slice-read-wide-3 c = row-vals _ _ _ _ _ _ _ _ _ _ _ (c .before .before .before .before .before .before .before .before .before .before .before .before .pre .0) _ (c .before .before .before .before .before .before .before .before .before .before .before .before .pre .1) .here
 
--- src/lib.rt:122:9
 wide-requires-3 : tie.Need-wide-requires-3
 wide-requires-3 c κs = search needs
 
--- src/lib.rt:123:47
 add-wide-2 : tie.Need-add-wide-2
 add-wide-2 c =
     let h = row-vals _ _ _ _ _ _ _ _ _ _ _ (c .before .before .before .before .before .before .before .before .before .before .before .before .before .pre .0) _ (c .before .before .before .before .before .before .before .before .before .before .before .before .before .pre .1) in
     omega (arith, h)
 
--- src/lib.rt:123:33
 mul-wide-4 : tie.Need-mul-wide-4
 mul-wide-4 c =
     let h = row-vals _ _ _ _ _ _ _ _ _ _ _ (c .before .before .before .before .before .before .before .before .before .before .before .before .before .pre .0) _ (c .before .before .before .before .before .before .before .before .before .before .before .before .before .pre .1) in
     omega (arith, h)
 
--- src/lib.rt:123:33
 shared-slice-read-wide-4 : tie.Need-shared-slice-read-wide-4
 shared-slice-read-wide-4 c = row-vals _ _ _ _ _ _ _ _ _ _ _ (c .before .before .before .before .before .before .before .before .before .before .before .before .before .before .pre .0) _ (c .before .before .before .before .before .before .before .before .before .before .before .before .before .before .pre .1) .next
 
--- src/lib.rt:123:9
 wide-requires-4 : tie.Need-wide-requires-4
 wide-requires-4 c κs = search needs
 
--- src/lib.rt:126:9
 mul-dot-row : tie.Need-mul-dot-row
 mul-dot-row c =
     let h = row-words _ _ _ _ _ _ _ _ _ _ _ (c .before .before .before .before .before .before .before .before .before .before .before .before .before .before .before .pre .0) _ (c .before .before .before .before .before .before .before .before .before .before .before .before .before .before .before .pre .1) in
     omega (arith, h, c .before .before .before .before .before .before .wide .ensures, c .before .before .before .before .wide2 .ensures)
 
--- src/lib.rt:126:9
 sub-dot-row : tie.Need-sub-dot-row
 sub-dot-row c =
     let h = row-words _ _ _ _ _ _ _ _ _ _ _ (c .before .before .before .before .before .before .before .before .before .before .before .before .before .before .before .pre .0) _ (c .before .before .before .before .before .before .before .before .before .before .before .before .before .before .before .pre .1) in
     omega (arith, h, c .before .before .before .before .before .before .wide .ensures, c .before .before .before .before .wide2 .ensures)
 
--- src/lib.rt:126:9
 part-dot-row-start : tie.Need-part-dot-row-start
 part-dot-row-start c =
     let h = row-words _ _ _ _ _ _ _ _ _ _ _ (c .before .before .before .before .before .before .before .before .before .before .before .before .before .before .before .pre .0) _ (c .before .before .before .before .before .before .before .before .before .before .before .before .before .before .before .pre .1) in
     omega (arith, h, c .before .before .before .before .before .before .wide .ensures, c .before .before .before .before .wide2 .ensures)
 
--- src/lib.rt:126:9
 part-dot-row-end : tie.Need-part-dot-row-end
 part-dot-row-end c =
     let h = row-words _ _ _ _ _ _ _ _ _ _ _ (c .before .before .before .before .before .before .before .before .before .before .before .before .before .before .before .pre .0) _ (c .before .before .before .before .before .before .before .before .before .before .before .before .before .before .before .pre .1) in
     omega (arith, h, c .before .before .before .before .before .before .wide .ensures, c .before .before .before .before .wide2 .ensures)
 
--- src/lib.rt:127:9
 mul-dot-row-2 : tie.Need-mul-dot-row-2
 mul-dot-row-2 c =
     let h = row-masks _ _ _ _ _ _ _ _ _ _ _ (c .before .before .before .before .before .before .before .before .before .before .before .before .before .before .before .before .pre .0) _ (c .before .before .before .before .before .before .before .before .before .before .before .before .before .before .before .before .pre .1) in
     omega (arith, h, c .before .before .before .before .before .before .before .wide .ensures, c .before .before .before .before .before .wide2 .ensures)
 
--- src/lib.rt:127:9
 sub-dot-row-2 : tie.Need-sub-dot-row-2
 sub-dot-row-2 c =
     let h = row-masks _ _ _ _ _ _ _ _ _ _ _ (c .before .before .before .before .before .before .before .before .before .before .before .before .before .before .before .before .pre .0) _ (c .before .before .before .before .before .before .before .before .before .before .before .before .before .before .before .before .pre .1) in
     omega (arith, h, c .before .before .before .before .before .before .before .wide .ensures, c .before .before .before .before .before .wide2 .ensures)
 
--- src/lib.rt:127:9
 part-dot-row-start-2 : tie.Need-part-dot-row-start-2
 part-dot-row-start-2 c =
     let h = row-masks _ _ _ _ _ _ _ _ _ _ _ (c .before .before .before .before .before .before .before .before .before .before .before .before .before .before .before .before .pre .0) _ (c .before .before .before .before .before .before .before .before .before .before .before .before .before .before .before .before .pre .1) in
     omega (arith, h, c .before .before .before .before .before .before .before .wide .ensures, c .before .before .before .before .before .wide2 .ensures)
 
--- src/lib.rt:127:9
 part-dot-row-end-2 : tie.Need-part-dot-row-end-2
 part-dot-row-end-2 c =
     let h = row-masks _ _ _ _ _ _ _ _ _ _ _ (c .before .before .before .before .before .before .before .before .before .before .before .before .before .before .before .before .pre .0) _ (c .before .before .before .before .before .before .before .before .before .before .before .before .before .before .before .before .pre .1) in
     omega (arith, h, c .before .before .before .before .before .before .before .wide .ensures, c .before .before .before .before .before .wide2 .ensures)
 
--- src/lib.rt:128:9
 mul-dot-row-3 : tie.Need-mul-dot-row-3
 mul-dot-row-3 c =
     let h = row-vals _ _ _ _ _ _ _ _ _ _ _ (c .before .before .before .before .before .before .before .before .before .before .before .before .before .before .before .before .before .pre .0) _ (c .before .before .before .before .before .before .before .before .before .before .before .before .before .before .before .before .before .pre .1) in
     omega (arith, h, c .before .before .before .before .wide3 .ensures, c .before .before .wide4 .ensures)
 
--- src/lib.rt:128:9
 sub-dot-row-3 : tie.Need-sub-dot-row-3
 sub-dot-row-3 c =
     let h = row-vals _ _ _ _ _ _ _ _ _ _ _ (c .before .before .before .before .before .before .before .before .before .before .before .before .before .before .before .before .before .pre .0) _ (c .before .before .before .before .before .before .before .before .before .before .before .before .before .before .before .before .before .pre .1) in
     omega (arith, h, c .before .before .before .before .wide3 .ensures, c .before .before .wide4 .ensures)
 
--- src/lib.rt:128:9
 part-dot-row-start-3 : tie.Need-part-dot-row-start-3
 part-dot-row-start-3 c =
     let h = row-vals _ _ _ _ _ _ _ _ _ _ _ (c .before .before .before .before .before .before .before .before .before .before .before .before .before .before .before .before .before .pre .0) _ (c .before .before .before .before .before .before .before .before .before .before .before .before .before .before .before .before .before .pre .1) in
     omega (arith, h, c .before .before .before .before .wide3 .ensures, c .before .before .wide4 .ensures)
 
--- src/lib.rt:128:9
 part-dot-row-end-3 : tie.Need-part-dot-row-end-3
 part-dot-row-end-3 c =
     let h = row-vals _ _ _ _ _ _ _ _ _ _ _ (c .before .before .before .before .before .before .before .before .before .before .before .before .before .before .before .before .before .pre .0) _ (c .before .before .before .before .before .before .before .before .before .before .before .before .before .before .before .before .before .pre .1) in
     omega (arith, h, c .before .before .before .before .wide3 .ensures, c .before .before .wide4 .ensures)
 
--- src/lib.rt:124:5
 dot-row-requires : tie.Need-dot-row-requires
 dot-row-requires c κs = row-ready _ _ _ _ _ _ _ _ _ _ _ (c .before .before .before .before .before .before .before .before .before .before .before .before .before .before .before .before .before .before .pre .0) _ (c .before .before .before .before .before .before .before .before .before .before .before .before .before .before .before .before .before .before .pre .1) _ _ _ (part-lent _ _ _ _ _ (c .before .before .before .before .before .before .before .before .before .wide .ensures) (c .before .before .before .before .before .before .before .wide2 .ensures)) (part-lent _ _ _ _ _ (c .before .before .before .before .before .before .before .before .before .wide .ensures) (c .before .before .before .before .before .before .before .wide2 .ensures)) (part-lent _ _ _ _ _ (c .before .before .before .before .before .wide3 .ensures) (c .before .before .before .wide4 .ensures))
 
--- src/lib.rt:103:1
 returns : tie.Need-returns
 returns c = row-dot-is _ _ _ _ _ _ _ _ _ _ _ (c .before .before .before .before .before .before .before .before .before .before .before .before .before .before .before .before .before .before .before .pre .0) _ (c .before .before .before .before .before .before .before .before .before .before .before .before .before .before .before .before .before .before .before .pre .1) _ _ _ (part-lent _ _ _ _ _ (c .before .before .before .before .before .before .before .before .before .before .wide .ensures) (c .before .before .before .before .before .before .before .before .wide2 .ensures)) (part-lent _ _ _ _ _ (c .before .before .before .before .before .before .before .before .before .before .wide .ensures) (c .before .before .before .before .before .before .before .before .wide2 .ensures)) (part-lent _ _ _ _ _ (c .before .before .before .before .before .before .wide3 .ensures) (c .before .before .before .before .wide4 .ensures)) _ (c .dot-row .ensures)
 

@@ -1,16 +1,25 @@
 -- What the dots know once their checks have accepted: a row's lent parts make the store's row. Assumes nothing.
-use mathlib.Core.Bool.{Bool, true, _&&_}
-use mathlib.Core.List.{List}
+use mathlib.Core.Bool.{Bool, true, false, _&&_}
+use mathlib.Core.List.{List, _++_}
 use mathlib.Core.Path.{_≡_, refl, sym, ap, ap₂, _∙_}
 use Prim.Native.Nat.{ℕ, _+_, _%_, _^_, _≤_, _<_}
 use native.Mathlib.Omega.{arith}
-use lib.ListN.{length, getD, set}
+use lib.Dec.{leb, ltb}
+use lib.ListN.{length, getD, take, drop, set, length-append, length-drop}
+use lib.Seq.{take-at}
 use lib.Ieee.{Float, nan}
-use Rattle.hybit_core.specs.Answer.{Answer, accepted, demand, lengthIs, _andThen_}
+use borrow.Author.Tests.{ltb-true, leb-true}
+use Rattle.hybit_core.specs.Answer.{Answer, accepted, refused, plain, demand, lengthIs, _andThen_}
 use Rattle.hybit_core.specs.Domain.{few}
+use Rattle.hybit_core.specs.Floats.{zero64}
+use Rattle.hybit_core.specs.Table.{told}
+use Rattle.hybit_core.specs.declared.Verdict.{Verdict}
+use Rattle.hybit_core.specs.declared.Verdict.the-variants.{Accepted}
 use Rattle.hybit_core.proofs.BoolLaws.{and-left, and-right}
-use Rattle.hybit_core.proofs.AnswerLaws.{demand-accepted, then-first, then-second, length-accepted}
+use Rattle.hybit_core.proofs.AnswerLaws.{demand-accepted, then-first, then-second, length-accepted, accepted-by}
 use Rattle.lent.specs.Lists.{part, each}
+use Rattle.lent.specs.Lent.{padded}
+use Rattle.lent.proofs.ListLaws.{length-each}
 use Rattle.lent.proofs.LentLaws.{Filled, filled-none, filled-more, filled-length, filled-done}
 use Rattle.word.specs.Bits.{count, both}
 use Rattle.word.proofs.BelowLaws.{rank-lt, length-below-le}
@@ -18,14 +27,14 @@ use Rattle.mask.specs.Mask.{Mask, asMask, active, maskRules, maskAnswer}
 use Rattle.csr32.specs.Csr.{at}
 use Rattle.csr32.proofs.FrameLaws.{RowIn, row-left, row-right}
 use Rattle.topology.specs.Words.{Words, asWords, member, rowMember}
-use Rattle.topology.proofs.TopologyLaws.{Accepted}
+use Rattle.topology.proofs.TopologyLaws as topology
 use Rattle.topology.proofs.CallLaws.{RowOk, sides-lent, rule-lent}
 use Rattle.metadata_first.specs.declared.AbtmRowDot.{AbtmRowDot}
 use Rattle.metadata_first.specs.Store.{Store, asStore, valueAt, storeSizes, storeFaults, storeAnswer}
-use Rattle.metadata_first.specs.Dot.{dotOf, dotOn, operandsAnswer}
+use Rattle.metadata_first.specs.Dot.{dotOf, dotOn, operandsAnswer, dotAnswer}
 use Rattle.metadata_first.proofs.DotLaws.{dot-cong}
 use Rattle.metadata_first.proofs.CallLaws.{Stored, stored, words-facts, row-values, value-in-row}
-use Rattle.metadata_first_dot.specs.Rows.{rowSums, rowCounts}
+use Rattle.metadata_first_dot.specs.Rows.{rowsAnswer, rowSums, rowCounts}
 use Rattle.metadata_first_dot.specs.Walk.{RowReady, rowDot}
 
 -- ---- operands that the checks accept
@@ -61,7 +70,7 @@ module _ (n m : ℕ) (ps ws ms : List ℕ) (t : ℕ) (vp : List ℕ) (vs : List 
   known : Operands (asStore n m ps ws ms t vp vs) (asMask len bits) x
   known = operands (asStore n m ps ws ms t vp vs) (asMask len bits) x e
 
-  words-known : Accepted (asWords n m ps ws ms t)
+  words-known : topology.Accepted (asWords n m ps ws ms t)
   words-known = words-facts (asStore n m ps ws ms t vp vs) (known .store)
 
   pub rows-few : n ≤ 2 ^ 20
@@ -163,3 +172,77 @@ module _ (s : Store) (a : Mask) (x sums₀ : List Float) (counts₀ : List ℕ) 
       pub filling-numbers : counts ≡ rowCounts s a x
       unfolding rowCounts
       filling-numbers = filled-done (λ r. dotOn s a x r .«executed_products») counts₀ r counts (f .numbers) (s .words .rows) lc (f .upto) g
+
+-- ---- the checks in the code's order: 1 of the mask's length, the store's own checks, the mask's, the lengths
+
+module _ (s : Store) (a : Mask) (x : List Float) where
+  pub mask-first : false ≡ few (a .size) → refused (plain 1) ≡ operandsAnswer s a x
+  unfolding operandsAnswer
+  mask-first e =
+      let rest : Answer = storeFaults s andThen demand (maskRules a) 5 andThen lengthIs (s .words .cols) (a .size) andThen lengthIs (s .words .cols) (length x) in
+      go (storeSizes s) rest ∙ ap (λ (t : Bool). demand (storeSizes s && t) 1 andThen rest) e
+    where
+      go : (t : Bool) (rest : Answer) → refused (plain 1) ≡ demand (t && false) 1 andThen rest
+      go true rest = refl
+      go false rest = refl
+
+  pub store-then : (c : Answer) → true ≡ few (a .size) → c ≡ storeAnswer s andThen maskAnswer a andThen lengthIs (s .words .cols) (a .size) andThen lengthIs (s .words .cols) (length x) → c ≡ operandsAnswer s a x
+  unfolding operandsAnswer storeAnswer maskAnswer
+  store-then c e q =
+      let lengths : Answer = lengthIs (s .words .cols) (a .size) andThen lengthIs (s .words .cols) (length x) in
+      q ∙ ap (λ (t : Bool). (demand (storeSizes s) 1 andThen storeFaults s) andThen (demand t 1 andThen demand (maskRules a) 5) andThen lengths) (sym e)
+      ∙ go (storeSizes s) (storeFaults s) (demand (maskRules a) 5 andThen lengths)
+      ∙ ap (λ (t : Bool). demand (storeSizes s && t) 1 andThen storeFaults s andThen demand (maskRules a) 5 andThen lengths) e
+    where
+      go : (t : Bool) (f rest : Answer) → ((demand t 1 andThen f) andThen rest) ≡ (demand (t && true) 1 andThen f andThen rest)
+      go true f rest = refl
+      go false f rest = refl
+
+-- ---- what an accepted call may do
+
+module _ (s : Store) (a : Mask) (x : List Float) (v : Verdict) (ac : v ≡ Accepted) where
+  module _ (r : ℕ) (e : told v ≡ dotAnswer s a x r) where
+    pub dot-operands : operandsAnswer s a x ≡ accepted
+    unfolding dotAnswer
+    dot-operands = then-first (operandsAnswer s a x) (demand (ltb r (s .words .rows)) 7) (accepted-by (dotAnswer s a x r) v e ac)
+
+    pub dot-row : r < s .words .rows
+    unfolding dotAnswer
+    dot-row = ltb-true r (s .words .rows) (demand-accepted (ltb r (s .words .rows)) 7 (then-second (operandsAnswer s a x) (demand (ltb r (s .words .rows)) 7) (accepted-by (dotAnswer s a x r) v e ac)))
+
+  module _ (sums counts : ℕ) (e : told v ≡ rowsAnswer s a x sums counts) where
+    pub rows-operands : operandsAnswer s a x ≡ accepted
+    unfolding rowsAnswer
+    rows-operands = then-first (operandsAnswer s a x) (demand (leb (s .words .rows) sums && leb (s .words .rows) counts) 13) (accepted-by (rowsAnswer s a x sums counts) v e ac)
+
+    room : (leb (s .words .rows) sums && leb (s .words .rows) counts) ≡ true
+    unfolding rowsAnswer
+    room =
+        demand-accepted (leb (s .words .rows) sums && leb (s .words .rows) counts) 13
+        (then-second (operandsAnswer s a x) (demand (leb (s .words .rows) sums && leb (s .words .rows) counts) 13) (accepted-by (rowsAnswer s a x sums counts) v e ac))
+
+    pub sums-room : s .words .rows ≤ sums
+    sums-room = leb-true (s .words .rows) sums (and-left (leb (s .words .rows) sums) (leb (s .words .rows) counts) room)
+
+    pub counts-room : s .words .rows ≤ counts
+    counts-room = leb-true (s .words .rows) counts (and-right (leb (s .words .rows) sums) (leb (s .words .rows) counts) room)
+
+-- ---- a list whose first n places are written, cleared past them
+
+cleared-front : {A : Type 0} (z : A) (n : ℕ) (f : ℕ → A) (front old last : List A) → front ≡ each f n → n ≤ length old → last ≡ padded z (length (front ++ drop n old)) (take n (front ++ drop n old)) → last ≡ padded z (length old) (each f n)
+cleared-front z n f front old last e h q =
+    let long : length front ≡ n = ap length e ∙ length-each f n in
+    let whole : length (front ++ drop n old) ≡ length old = omega (arith, length-append front (drop n old), length-drop n old) in
+    let first : take n (front ++ drop n old) ≡ front = take-at front (drop n old) n long in
+    q ∙ ap₂ (λ (k : ℕ) (l : List _). padded z k l) whole (first ∙ e)
+
+module _ (s : Store) (a : Mask) (x : List Float) where
+  pub sums-built : (front old last : List Float) → front ≡ rowSums s a x → s .words .rows ≤ length old → last ≡ padded zero64 (length (front ++ drop (s .words .rows) old)) (take (s .words .rows) (front ++ drop (s .words .rows) old))
+      → last ≡ padded zero64 (length old) (rowSums s a x)
+  unfolding rowSums
+  sums-built front old last e h q = cleared-front zero64 (s .words .rows) (λ r. dotOn s a x r .sum) front old last e h q
+
+  pub counts-built : (front old last : List ℕ) → front ≡ rowCounts s a x → s .words .rows ≤ length old → last ≡ padded 0 (length (front ++ drop (s .words .rows) old)) (take (s .words .rows) (front ++ drop (s .words .rows) old))
+      → last ≡ padded 0 (length old) (rowCounts s a x)
+  unfolding rowCounts
+  counts-built front old last e h q = cleared-front 0 (s .words .rows) (λ r. dotOn s a x r .«executed_products») front old last e h q

@@ -33,7 +33,7 @@ use Rattle.metadata_first.specs.declared.AbtmRowDot.{AbtmRowDot}
 use Rattle.metadata_first.specs.Store.{Store, asStore, valueAt, storeSizes, storeFaults, storeAnswer}
 use Rattle.metadata_first.specs.Dot.{dotOf, dotOn, operandsAnswer, dotAnswer}
 use Rattle.metadata_first.proofs.DotLaws.{dot-cong}
-use Rattle.metadata_first.proofs.CallLaws.{Stored, stored, words-facts, row-values, value-in-row}
+use Rattle.metadata_first.proofs.CallLaws.{Stored, stored, row-values, value-in-row}
 use Rattle.metadata_first_dot.specs.Rows.{rowsAnswer, rowSums, rowCounts}
 use Rattle.metadata_first_dot.specs.Walk.{RowReady, rowDot}
 
@@ -71,7 +71,7 @@ module _ (n m : ℕ) (ps ws ms : List ℕ) (t : ℕ) (vp : List ℕ) (vs : List 
   known = operands (asStore n m ps ws ms t vp vs) (asMask len bits) x e
 
   words-known : topology.Accepted (asWords n m ps ws ms t)
-  words-known = words-facts (asStore n m ps ws ms t vp vs) (known .store)
+  words-known = known .store .words-facts
 
   pub rows-few : n ≤ 2 ^ 20
   rows-few = words-known .rows-in

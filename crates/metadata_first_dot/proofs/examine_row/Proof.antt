@@ -1,3 +1,4 @@
+-- `metadata_first_dot::examine_row` meets its contract. Assumes nothing.
 use borrow.Author.Needs.{needs}
 use native.Mathlib.Omega.{arith}
 use Rattle.hybit_core.proofs.BoolLaws.{is-below, is-not-below}
@@ -6,19 +7,13 @@ use Rattle.metadata_first.specs.Dot.{dotAnswer}
 use Prim.Native.Nat.{_<_}
 use Rattle.metadata_first_dot.proofs.examine_row.Statement.{statement}
 use Rattle.metadata_first_dot.proofs.examine_row.Tie as tie
-use Rattle.metadata_first_dot.proofs.examine_row.Reads as reads
-use Rattle.metadata_first_dot.proofs.examine_row.Lts as lts
-use Rattle.metadata_first_dot.proofs.examine_operands.Reads as examine-operands-reads
 
--- src/lib.rt:204:9
 examine-operands-requires : tie.Need-examine-operands-requires
 examine-operands-requires c κs = search needs
 
--- src/lib.rt:217:29
 enum-known-v : tie.Need-enum-known-v
 enum-known-v c = search needs
 
--- src/lib.rt:218:9
 returns : tie.Need-returns
 unfolding dotAnswer
 returns c = call-refused _ _ _ _ (c .before .before .before .examine-operands .ensures) (c .before .v .given .1)
@@ -26,12 +21,10 @@ returns c = call-refused _ _ _ _ (c .before .before .before .examine-operands .e
 enum-told : tie.Need-enum-told
 enum-told c = search needs
 
--- src/lib.rt:221:9
 returns-2 : tie.Need-returns-2
 unfolding dotAnswer
 returns-2 c = call-accepted _ _ _ _ (c .before .before .before .examine-operands .ensures) (c .before .enum-told .given .1) (last-fails _ _ (is-not-below _ _ (c .if1 .taken)))
 
--- src/lib.rt:188:1
 returns-3 : tie.Need-returns-3
 unfolding dotAnswer
 returns-3 c =

@@ -1,3 +1,4 @@
+-- `metadata_first_dot::examine_rows` meets its contract. Assumes nothing.
 use borrow.Author.Needs.{needs}
 use native.Mathlib.Omega.{arith}
 use Rattle.hybit_core.proofs.BoolLaws.{and-first, and-next, is-above, is-within}
@@ -6,19 +7,13 @@ use Rattle.metadata_first_dot.specs.Rows.{rowsAnswer}
 use Prim.Native.Nat.{_≤_}
 use Rattle.metadata_first_dot.proofs.examine_rows.Statement.{statement}
 use Rattle.metadata_first_dot.proofs.examine_rows.Tie as tie
-use Rattle.metadata_first_dot.proofs.examine_rows.Reads as reads
-use Rattle.metadata_first_dot.proofs.examine_rows.Lts as lts
-use Rattle.metadata_first_dot.proofs.examine_operands.Reads as examine-operands-reads
 
--- src/lib.rt:293:9
 examine-operands-requires : tie.Need-examine-operands-requires
 examine-operands-requires c κs = search needs
 
--- src/lib.rt:306:29
 enum-known-v : tie.Need-enum-known-v
 enum-known-v c = search needs
 
--- src/lib.rt:307:9
 returns : tie.Need-returns
 unfolding rowsAnswer
 returns c = call-refused _ _ _ _ (c .before .before .before .examine-operands .ensures) (c .before .v .given .1)
@@ -26,12 +21,10 @@ returns c = call-refused _ _ _ _ (c .before .before .before .examine-operands .e
 enum-told : tie.Need-enum-told
 enum-told c = search needs
 
--- src/lib.rt:310:9
 returns-2 : tie.Need-returns-2
 unfolding rowsAnswer
 returns-2 c = call-accepted _ _ _ _ (c .before .before .before .examine-operands .ensures) (c .before .enum-told .given .1) (last-fails _ _ (and-first _ _ (is-above _ _ (c .if1 .taken))))
 
--- src/lib.rt:313:9
 returns-3 : tie.Need-returns-3
 unfolding rowsAnswer
 returns-3 c =
@@ -39,7 +32,6 @@ returns-3 c =
     let h : a .nrows ≤ a .sums = omega arith in
     call-accepted _ _ _ _ (c .before .before .before .before .examine-operands .ensures) (c .before .before .enum-told .given .1) (last-fails _ _ (and-next _ _ _ (is-within _ _ h) (is-above _ _ (c .if2 .taken))))
 
--- src/lib.rt:276:1
 returns-4 : tie.Need-returns-4
 unfolding rowsAnswer
 returns-4 c =

@@ -1,23 +1,17 @@
+-- `metadata_first_dot::sparse_dot_row` meets its contract. Assumes nothing.
 use borrow.Author.Needs.{needs}
 use Rattle.hybit_core.proofs.AnswerLaws.{given-refused, given-accepted}
 use Rattle.metadata_first.specs.Dot.{sparseDotRow}
 use Rattle.metadata_first_dot.proofs.CallLaws.{dot-operands, dot-row}
 use Rattle.metadata_first_dot.proofs.sparse_dot_row.Statement.{statement}
 use Rattle.metadata_first_dot.proofs.sparse_dot_row.Tie as tie
-use Rattle.metadata_first_dot.proofs.sparse_dot_row.Reads as reads
-use Rattle.metadata_first_dot.proofs.sparse_dot_row.Lts as lts
-use Rattle.metadata_first_dot.proofs.examine_row.Reads as examine-row-reads
-use Rattle.metadata_first_dot.proofs.row_dot.Reads as row-dot-reads
 
--- src/lib.rt:243:9
 examine-row-requires : tie.Need-examine-row-requires
 examine-row-requires c κs = search needs
 
--- src/lib.rt:257:29
 enum-known-v : tie.Need-enum-known-v
 enum-known-v c = search needs
 
--- src/lib.rt:258:9
 returns : tie.Need-returns
 unfolding sparseDotRow
 returns c = given-refused _ _ _ _ (c .before .before .before .examine-row .ensures) (c .before .v .given .1)
@@ -25,11 +19,9 @@ returns c = given-refused _ _ _ _ (c .before .before .before .examine-row .ensur
 enum-told : tie.Need-enum-told
 enum-told c = search needs
 
--- src/lib.rt:260:20
 row-dot-requires : tie.Need-row-dot-requires
 row-dot-requires c κs = (dot-operands _ _ _ _ (c .enum-told .given .1) _ (c .before .before .examine-row .ensures), dot-row _ _ _ _ (c .enum-told .given .1) _ (c .before .before .examine-row .ensures))
 
--- src/lib.rt:227:1
 returns-2 : tie.Need-returns-2
 unfolding sparseDotRow
 returns-2 c = given-accepted _ _ _ _ (c .before .before .before .examine-row .ensures) (c .before .enum-told .given .1) (c .row-dot .ensures)

@@ -26,7 +26,7 @@ use Rattle.word.proofs.BelowLaws.{rank-lt, length-below-le}
 use Rattle.mask.specs.Mask.{Mask, asMask, active, maskRules, maskAnswer}
 use Rattle.csr32.specs.Csr.{at}
 use Rattle.csr32.proofs.FrameLaws.{RowIn, row-left, row-right}
-use Rattle.topology.specs.Words.{Words, asWords, member, rowMember}
+use Rattle.topology.specs.Words.{asWords, member, rowMember}
 use Rattle.topology.proofs.TopologyLaws as topology
 use Rattle.topology.proofs.CallLaws.{RowOk, sides-lent, rule-lent}
 use Rattle.metadata_first.specs.declared.AbtmRowDot.{AbtmRowDot}

@@ -13,11 +13,11 @@ use mir.Val.{boolByte}
 use borrow.Author.Tests.{ltb-true, lt-ltb, le-ltb, eq-eqb}
 use Rattle.hybit_core.specs.Floats.{zero64}
 use Rattle.hybit_core.proofs.BoolLaws.{and-left, and-right, and-both}
-use Rattle.lent.specs.Lists.{consIf, every}
+use Rattle.lent.specs.Lists.{consIf}
 use Rattle.lent.proofs.ListLaws.{foldl-map}
 use Rattle.word.specs.Bits.{has, below, count, both, within, members, wordOf, maskOf, hit, ceil64, wordsOf}
 use Rattle.word.proofs.BelowLaws.{below-zero, below-snoc, below-cong, below-trim, below-block, length-below-suc, length-below-le, length-below-parts, rank-lt}
-use Rattle.word.proofs.BitLaws.{has-mask-of, has-mask-at, has-none, within-in, every-below, number-lt}
+use Rattle.word.proofs.BitLaws.{has-mask-of, has-mask-at, has-none, within-in, every-below}
 use Rattle.word.proofs.OpLaws.{intersection-is}
 use Rattle.word.proofs.WordLaws.{mask-both, mask-none}
 use Rattle.mask.specs.Mask.{asMask, active}

@@ -33,11 +33,14 @@ shared-slice-read-intersection c = search needs
 
 mul-intersection-2 : tie.Need-mul-intersection-2 Inv-loop μ-loop
 mul-intersection-2 c =
-    let h = walked-word _ _ _ _ _ _ _ _ _ _ _ (c .before .before .before .before .loop .inv) (c .before .before .before .loop-test .taken) _ (c .before .wide .ensures) in
+    let i = c .before .before .before .before in
+    let h = walked-word _ _ _ _ _ _ _ _ _ _ _ (i .loop .inv) (c .before .before .before .loop-test .taken) _ (c .before .wide .ensures) in
     omega (arith, h)
 
 shared-slice-read-intersection-2 : tie.Need-shared-slice-read-intersection-2 Inv-loop μ-loop
-shared-slice-read-intersection-2 c = walked-word _ _ _ _ _ _ _ _ _ _ _ (c .before .before .before .before .before .loop .inv) (c .before .before .before .before .loop-test .taken) _ (c .before .before .wide .ensures)
+shared-slice-read-intersection-2 c =
+    let i = c .before .before .before .before .before in
+    walked-word _ _ _ _ _ _ _ _ _ _ _ (i .loop .inv) (c .before .before .before .before .loop-test .taken) _ (c .before .before .wide .ensures)
 
 intersection-requires : tie.Need-intersection-requires Inv-loop μ-loop
 intersection-requires c κs = search needs
@@ -50,11 +53,17 @@ shared-slice-read-sum-word c = search needs
 
 mul-sum-word-2 : tie.Need-mul-sum-word-2 Inv-loop μ-loop
 mul-sum-word-2 c =
-    let h = walked-base _ _ _ _ _ _ _ _ _ _ _ (c .before .before .before .before .before .before .before .loop .inv) (c .before .before .before .before .before .before .loop-test .taken) _ (c .before .before .before .before .wide .ensures) _ (c .before .intersection .ensures) in
+    let i = c .before .before .before .before .before .before .before in
+    let h = walked-base _ _ _ _ _ _ _ _ _ _ _ (i .loop .inv) (c .before .before .before .before .before .before .loop-test .taken) _ (c .before .before .before .before .wide .ensures) _ (c .before .intersection .ensures) in
     omega (arith, h)
 
 sum-word-requires : tie.Need-sum-word-requires Inv-loop μ-loop
-sum-word-requires c κs = ((walked-place _ _ _ _ _ _ _ _ _ _ _ (c .before .before .before .before .before .before .before .loop .inv) (c .before .before .before .before .before .before .loop-test .taken) _ (c .before .before .before .before .wide .ensures) _ (c .before .intersection .ensures), walked-base _ _ _ _ _ _ _ _ _ _ _ (c .before .before .before .before .before .before .before .loop .inv) (c .before .before .before .before .before .before .loop-test .taken) _ (c .before .before .before .before .wide .ensures) _ (c .before .intersection .ensures)), walked-inside _ _ _ _ _ _ _ _ _ _ _ (c .before .before .before .before .before .before .before .loop .inv) (c .before .before .before .before .before .before .loop-test .taken) _ (c .before .before .before .before .wide .ensures) _ (c .before .intersection .ensures))
+sum-word-requires c κs =
+    let i = c .before .before .before .before .before .before .before in
+    let t = c .before .before .before .before .before .before .loop-test .taken in
+    let w = c .before .before .before .before .wide .ensures in
+    let m = c .before .intersection .ensures in
+    ((walked-place _ _ _ _ _ _ _ _ _ _ _ (i .loop .inv) t _ w _ m, walked-base _ _ _ _ _ _ _ _ _ _ _ (i .loop .inv) t _ w _ m), walked-inside _ _ _ _ _ _ _ _ _ _ _ (i .loop .inv) t _ w _ m)
 
 mul-popcount : tie.Need-mul-popcount Inv-loop μ-loop
 mul-popcount c = search needs
@@ -67,7 +76,8 @@ popcount-requires c κs = search needs
 
 add-candidate : tie.Need-add-candidate Inv-loop μ-loop
 add-candidate c =
-    let h = walked-candidate _ _ _ _ _ _ _ _ _ _ _ (c .before .before .before .before .before .before .before .before .before .before .loop .inv) (c .before .before .before .before .before .before .before .before .before .loop-test .taken) _ (c .before .before .before .before .before .before .before .wide .ensures) _ (c .before .before .before .before .intersection .ensures) _ (c .popcount .ensures) in
+    let i = c .before .before .before .before .before .before .before .before .before .before in
+    let h = walked-candidate _ _ _ _ _ _ _ _ _ _ _ (i .loop .inv) (c .before .before .before .before .before .before .before .before .before .loop-test .taken) _ (c .before .before .before .before .before .before .before .wide .ensures) _ (c .before .before .before .before .intersection .ensures) _ (c .popcount .ensures) in
     omega (arith, h)
 
 executed-in-requires : tie.Need-executed-in-requires Inv-loop μ-loop
@@ -75,7 +85,8 @@ executed-in-requires c κs = search needs
 
 add-executed : tie.Need-add-executed Inv-loop μ-loop
 add-executed c =
-    let h = walked-executed _ _ _ _ _ _ _ _ _ _ _ (c .before .before .before .before .before .before .before .before .before .before .before .loop .inv) (c .before .before .before .before .before .before .before .before .before .before .loop-test .taken) _ (c .before .before .before .before .before .before .before .before .wide .ensures) _ (c .before .before .before .before .before .intersection .ensures) _ (c .executed-in .ensures) in
+    let i = c .before .before .before .before .before .before .before .before .before .before .before in
+    let h = walked-executed _ _ _ _ _ _ _ _ _ _ _ (i .loop .inv) (c .before .before .before .before .before .before .before .before .before .before .loop-test .taken) _ (c .before .before .before .before .before .before .before .before .wide .ensures) _ (c .before .before .before .before .before .intersection .ensures) _ (c .executed-in .ensures) in
     omega (arith, h)
 
 active-in-requires : tie.Need-active-in-requires Inv-loop μ-loop
@@ -83,7 +94,8 @@ active-in-requires c κs = search needs
 
 add-active-words : tie.Need-add-active-words Inv-loop μ-loop
 add-active-words c =
-    let h = walked-words _ _ _ _ _ _ _ _ _ _ _ (c .before .before .before .before .before .before .before .before .before .before .before .before .loop .inv) (c .before .before .before .before .before .before .before .before .before .before .before .loop-test .taken) _ (c .before .before .before .before .before .before .before .before .before .wide .ensures) _ (c .before .before .before .before .before .before .intersection .ensures) _ (c .active-in .ensures) in
+    let i = c .before .before .before .before .before .before .before .before .before .before .before .before in
+    let h = walked-words _ _ _ _ _ _ _ _ _ _ _ (i .loop .inv) (c .before .before .before .before .before .before .before .before .before .before .before .loop-test .taken) _ (c .before .before .before .before .before .before .before .before .before .wide .ensures) _ (c .before .before .before .before .before .before .intersection .ensures) _ (c .active-in .ensures) in
     omega (arith, h)
 
 add-i : tie.Need-add-i Inv-loop μ-loop
@@ -93,7 +105,9 @@ loop-less : tie.Need-loop-less Inv-loop μ-loop
 loop-less c = search needs
 
 loop-again : tie.Need-loop-again Inv-loop μ-loop
-loop-again c = walked-more _ _ _ _ _ _ _ _ _ _ _ (c .before .before .before .before .before .before .before .before .before .before .before .before .loop .inv) (c .before .before .before .before .before .before .before .before .before .before .before .loop-test .taken) _ (c .before .before .before .before .before .before .before .before .before .wide .ensures) _ (c .before .before .before .before .before .before .intersection .ensures) _ _ _ _ (c .before .before .before .before .sum-word .ensures) (c .before .before .popcount .ensures) (c .before .executed-in .ensures) (c .active-in .ensures)
+loop-again c =
+    let i = c .before .before .before .before .before .before .before .before .before .before .before .before in
+    walked-more _ _ _ _ _ _ _ _ _ _ _ (i .loop .inv) (c .before .before .before .before .before .before .before .before .before .before .before .loop-test .taken) _ (c .before .before .before .before .before .before .before .before .before .wide .ensures) _ (c .before .before .before .before .before .before .intersection .ensures) _ _ _ _ (c .before .before .before .before .sum-word .ensures) (c .before .before .popcount .ensures) (c .before .executed-in .ensures) (c .active-in .ensures)
 
 sub-t25 : tie.Need-sub-t25 Inv-loop μ-loop
 sub-t25 c =

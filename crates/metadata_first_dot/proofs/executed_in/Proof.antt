@@ -11,7 +11,7 @@ popcount-requires : tie.Need-popcount-requires
 popcount-requires c κs = search needs
 
 returns-2 : tie.Need-returns-2
-returns-2 c = search needs
+returns-2 c = c .popcount .ensures
 
 pub executed-in-spec : {M : Type 1} → statement M
 executed-in-spec = tie.close (tie.spec returns popcount-requires returns-2)

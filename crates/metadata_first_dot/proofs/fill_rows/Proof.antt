@@ -27,7 +27,8 @@ mul-sums c =
 
 slice-write-sums : tie.Need-slice-write-sums Inv-loop μ-loop
 slice-write-sums c =
-    let h = filling-sums _ _ _ _ _ (c .before .before .before .before .before .before .before .before .before .before .before .before .pre .1 .0) (c .before .before .before .before .before .before .before .before .before .before .before .before .pre .1 .1) _ _ _ (c .before .before .loop .inv) in
+    let s = c .before .before .before .before .before .before .before .before .before .before .before .before in
+    let h = filling-sums _ _ _ _ _ (s .pre .1 .0) (s .pre .1 .1) _ _ _ (c .before .before .loop .inv) in
     omega (arith, h)
 
 narrow-requires : tie.Need-narrow-requires Inv-loop μ-loop
@@ -40,7 +41,8 @@ mul-executed c =
 
 slice-write-executed : tie.Need-slice-write-executed Inv-loop μ-loop
 slice-write-executed c =
-    let h = filling-counts _ _ _ _ _ (c .before .before .before .before .before .before .before .before .before .before .before .before .before .pre .1 .0) (c .before .before .before .before .before .before .before .before .before .before .before .before .before .pre .1 .1) _ _ _ (c .before .before .before .loop .inv) in
+    let s = c .before .before .before .before .before .before .before .before .before .before .before .before .before in
+    let h = filling-counts _ _ _ _ _ (s .pre .1 .0) (s .pre .1 .1) _ _ _ (c .before .before .before .loop .inv) in
     omega (arith, h)
 
 add-row : tie.Need-add-row Inv-loop μ-loop
@@ -50,20 +52,27 @@ loop-less : tie.Need-loop-less Inv-loop μ-loop
 loop-less c = search needs
 
 loop-again : tie.Need-loop-again Inv-loop μ-loop
-loop-again c = filling-more _ _ _ _ _ (c .before .before .before .before .before .before .before .before .before .before .before .before .before .pre .1 .0) (c .before .before .before .before .before .before .before .before .before .before .before .before .before .pre .1 .1) _ _ _ (c .before .before .before .loop .inv) _ _ (columns-few _ _ _ _ _ _ _ _ _ _ _ (c .before .before .before .before .before .before .before .before .before .before .before .before .before .pre .0)) (c .before .before .loop-test .taken) (c .before .row-dot .ensures) (c .narrow .ensures)
+loop-again c =
+    let s = c .before .before .before .before .before .before .before .before .before .before .before .before .before in
+    filling-more _ _ _ _ _ (s .pre .1 .0) (s .pre .1 .1) _ _ _ (c .before .before .before .loop .inv) _ _ (columns-few _ _ _ _ _ _ _ _ _ _ _ (s .pre .0)) (c .before .before .loop-test .taken) (c .before .row-dot .ensures) (c .narrow .ensures)
 
 same-length : tie.Need-same-length Inv-loop μ-loop
 same-length c =
-    let h = filling-sums _ _ _ _ _ (c .before .before .before .before .before .before .before .before .before .before .before .pre .1 .0) (c .before .before .before .before .before .before .before .before .before .before .before .pre .1 .1) _ _ _ (c .before .loop .inv) in
-    omega (arith, h, c .before .before .before .before .before .before .before .before .before .before .before .pre .1 .0)
+    let s = c .before .before .before .before .before .before .before .before .before .before .before in
+    let h = filling-sums _ _ _ _ _ (s .pre .1 .0) (s .pre .1 .1) _ _ _ (c .before .loop .inv) in
+    omega (arith, h, s .pre .1 .0)
 
 same-length-2 : tie.Need-same-length-2 Inv-loop μ-loop
 same-length-2 c =
-    let h = filling-counts _ _ _ _ _ (c .before .before .before .before .before .before .before .before .before .before .before .pre .1 .0) (c .before .before .before .before .before .before .before .before .before .before .before .pre .1 .1) _ _ _ (c .before .loop .inv) in
-    omega (arith, h, c .before .before .before .before .before .before .before .before .before .before .before .pre .1 .1)
+    let s = c .before .before .before .before .before .before .before .before .before .before .before in
+    let h = filling-counts _ _ _ _ _ (s .pre .1 .0) (s .pre .1 .1) _ _ _ (c .before .loop .inv) in
+    omega (arith, h, s .pre .1 .1)
 
 returns : tie.Need-returns Inv-loop μ-loop
-returns c = (filling-totals _ _ _ _ _ (c .before .before .before .before .before .before .before .before .before .before .before .pre .1 .0) (c .before .before .before .before .before .before .before .before .before .before .before .pre .1 .1) _ _ _ (c .before .loop .inv) (omega arith), filling-numbers _ _ _ _ _ (c .before .before .before .before .before .before .before .before .before .before .before .pre .1 .0) (c .before .before .before .before .before .before .before .before .before .before .before .pre .1 .1) _ _ _ (c .before .loop .inv) (omega arith))
+returns c =
+    let s = c .before .before .before .before .before .before .before .before .before .before .before in
+    let i = c .before .loop .inv in
+    (filling-totals _ _ _ _ _ (s .pre .1 .0) (s .pre .1 .1) _ _ _ i (omega arith), filling-numbers _ _ _ _ _ (s .pre .1 .0) (s .pre .1 .1) _ _ _ i (omega arith))
 
 pub fill-rows-spec : {M : Type 1} → statement M
 fill-rows-spec =

@@ -1,21 +1,23 @@
 -- The words of a row, noted one after the other: their masks, and the places of their first values. Assumes nothing.
 use mathlib.Core.Bool.{Bool, true, false, true≢false}
-use mathlib.Core.List.{List}
+use mathlib.Core.List.{List, map}
 use mathlib.Core.Path.{_≡_, refl, sym, ap, ap₂, _∙_}
 use Prim.Native.Nat.{ℕ, _+_, _*_, _/_, _%_, _^_, _≤_, _<_}
 use native.Mathlib.Nat.{mod-eq-of-lt}
 use native.Mathlib.Decide.{decLt}
 use native.Mathlib.Omega.{arith}
 use lib.Dec.{ltb}
-use lib.ListN.{length, getD, set, length-set}
+use lib.ListN.{length, getD, set, length-set, length-map}
 use lib.Seq.{getD-set-same, getD-set-other}
 use borrow.Author.Tests.{lt-ltb}
 use Rattle.hybit_core.proofs.BoolLaws.{and-right}
+use Rattle.lent.specs.Lists.{joined}
 use Rattle.word.specs.Bits.{has, count, within, maskOf, hit, ceil64, wordsOf}
-use Rattle.word.proofs.BelowLaws.{below-zero}
+use Rattle.word.proofs.BelowLaws.{below-zero, below-cong, length-below-le}
 use Rattle.word.proofs.BitLaws.{within-in, has-listed}
-use Rattle.topology.specs.Words.{rowMember, rowRule}
-use Rattle.topology.proofs.RowLaws.{row-is, small-is}
+use Rattle.topology.specs.Words.{Words, topologyOf, member, rowMember, rowRule}
+use Rattle.topology.proofs.RowLaws.{Row, row-is, small-is}
+use Rattle.topology.proofs.TopologyLaws.{row-words, row-masks, member-in, topology-checked, accepted-facts}
 use Rattle.topology.proofs.FrontLaws.{placed, at-end, Front, front-none, Placed, Next, next, ended, count-in, count-skip, count-frame, count-upto}
 use Rattle.metadata_first_build.specs.Ranks.{Ranks}
 
@@ -105,3 +107,35 @@ module _ (n : ℕ) (ws ms : List ℕ) (same : length ms ≡ length ws) (rule : r
 
   pub words-read : (i : ℕ) → length ws ≤ i → length (wordsOf (rowMember ws ms) n) ≤ i
   words-read i h = at-end (rowMember ws ms) n ws ms (row-is n ws ms rule (sym same) (small-is ms fit)) i h
+
+-- ---- the words of a test keep the rule of a row, and their membership is the test
+
+module _ (p : ℕ → Bool) (n : ℕ) (ws ms : List ℕ) (row : Row p n ws ms) (few : n ≤ 2 ^ 20) where
+  pub row-sides : length ms ≡ length ws
+  row-sides = ap length (row .masks) ∙ length-map (wordsOf p n) (maskOf p n) ∙ sym (ap length (row .words))
+
+  -- a record of this row alone
+  abbrev alone : Words
+  alone = topologyOf 1 n (λ r. p)
+
+  first : 0 < 1
+  first = omega arith
+
+  pub row-rule : rowRule n ws ms ≡ true
+  unfolding topologyOf joined wordsOf
+  row-rule =
+      let short : length (alone .word) ≤ 2 ^ 24 = omega (arith, length-below-le (hit p n) (ceil64 n)) in
+      ap₂ (λ (s t : List ℕ). rowRule n s t) (row .words ∙ sym (row-words 1 n (λ r. p) 0 first)) (row .masks ∙ sym (row-masks 1 n (λ r. p) 0 first))
+      ∙ accepted-facts alone (topology-checked 1 n (λ r. p) (omega arith) few short) .each-row 0 first
+
+  row-member : (c : ℕ) → c < n → rowMember ws ms c ≡ p c
+  unfolding member
+  row-member c h =
+      ap₂ (λ (s t : List ℕ). rowMember s t c) (row .words ∙ sym (row-words 1 n (λ r. p) 0 first)) (row .masks ∙ sym (row-masks 1 n (λ r. p) 0 first)) ∙ member-in 1 n (λ r. p) 0 first c h
+
+  pub row-ranks : (bits starts : List ℕ) → Ranks (rowMember ws ms) n bits starts → Ranks p n bits starts
+  row-ranks bits starts k = record {
+    bits-room = k .bits-room;
+    starts-room = k .starts-room;
+    rank-is = λ c h e. k .rank-is c h (row-member c h ∙ e) ∙ ap length (below-cong (rowMember ws ms) p c (λ i l. row-member i (omega arith)));
+  }

@@ -1,0 +1,4 @@
+pub mod SumLaws
+pub mod DotLaws
+pub mod StoreLaws
+pub mod CallLaws

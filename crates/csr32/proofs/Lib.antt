@@ -1,2 +1,3 @@
 pub mod FrameLaws
 pub mod CsrLaws
+pub mod MergedLaws

@@ -7,8 +7,8 @@ use native.Mathlib.Numerals.{add-one}
 use native.Mathlib.Omega.{arith}
 use lib.ListN.{List·getD-append, length, take, drop, getD, set, replicate, length-append, length-replicate, length-set, length-drop, drop-of-length-le, take-append-drop, replicate-append-replicate}
 use lib.Seq.{getD-drop, getD-append-add, take-all, take-at, take-suc-set, length-take-le, drop-cons, set-at, append-snoc}
-use Rattle.hybit_core.specs.Answer.{Answer, accepted, refused}
-use Rattle.hybit_core.specs.Table.{paper, told}
+use Rattle.hybit_core.specs.Answer.{Answer, accepted}
+use Rattle.hybit_core.specs.Table.{told}
 use Rattle.hybit_core.specs.declared.Verdict.{Verdict}
 use Rattle.hybit_core.specs.declared.Verdict.the-variants.{Accepted, Refused}
 use Rattle.hybit_core.specs.declared.HybitError.{HybitError}

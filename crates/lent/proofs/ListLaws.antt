@@ -1,15 +1,16 @@
 -- Laws of lists made row after row, and of tests over lists. Assumes nothing.
-use mathlib.Core.Bool.{Bool, true, false, not, cond, _&&_, _||_, or-false, true≢false, false≢true}
+use mathlib.Core.Bool.{Bool, true, false, not, _&&_, _||_, or-false, or-true, true≢false, false≢true}
 use mathlib.Core.List.{List, [], _∷_, _++_, map, zip, zipWith, foldl, append-assoc, append-nil}
-use mathlib.Core.Path.{_≡_, refl, sym, ap, ap₂, _∙_, subst}
+use mathlib.Core.Path.{_≡_, refl, sym, ap, ap₂, _∙_}
 use Prim.Native.Nat.{ℕ, zero, suc, _+_, _-_, _≤_, _<_}
-use native.Mathlib.Nat.{add-zero, add-suc, suc-add, zero-add, sub-zero, le-refl, not-suc-le-zero}
+use native.Mathlib.Nat.{sub-zero, le-refl, not-suc-le-zero}
 use native.Mathlib.Numerals.{add-one}
 use native.Mathlib.Decide.{le-ind, decLt}
 use native.Mathlib.Omega.{arith}
-use lib.Dec.{leb, eqb, ltb}
-use lib.ListN.{length, getD, take, drop, set, replicate, length-set, length-replicate, drop-of-length-le, length-append, length-map, List·getD-append}
-use lib.Seq.{ext-getD, getD-set-same, getD-set-other, drop-cons, slice, take-at, drop-at, getD-at, getD-append-add, getD-append-seam}
+use lib.Dec.{leb, eqb}
+use lib.ListN.{length, getD, take, drop, set, replicate, length-set, length-replicate, drop-of-length-le, length-append, List·getD-append}
+use lib.Seq.{ext-getD, getD-set-same, getD-set-other, drop-cons, slice, take-at, drop-at, getD-append-add}
+use borrow.Author.Tests.{eqb-true, eq-eqb}
 use Rattle.hybit_core.proofs.BoolLaws.{and-left, and-right, and-both}
 use Rattle.lent.specs.Lists.{joined, each, starts, part, consIf, only, every, some, first, rises, spread}
 
@@ -375,3 +376,32 @@ pub spread-lengths : {A B C : Type 0} (f : A → List B) (g : A → List C) (l :
 unfolding spread
 spread-lengths f g [] h = refl
 spread-lengths f g (a ∷ l) h = length-append (f a) (spread f l) ∙ ap₂ (λ (m n : ℕ). m + n) (h a) (spread-lengths f g l h) ∙ sym (length-append (g a) (spread g l))
+
+-- ---- what every and some element says
+
+pub only-none : {A : Type 0} (p : A → Bool) (l : List A) → some p l ≡ false → only p l ≡ []
+unfolding some only
+only-none p [] h = refl
+only-none {A} p (a ∷ l) h = go (p a) h (only-none p l)
+  where
+    go : (t : Bool) → (t || some p l) ≡ false → (some p l ≡ false → only p l ≡ []) → consIf t a (only p l) ≡ []
+    go true e f = absurd (true≢false e)
+    go false e f = f e
+
+-- a test that follows from two others
+pub every-by : {A : Type 0} (p q t : A → Bool) (l : List A) → ((a : A) → p a ≡ true → q a ≡ true → t a ≡ true) → every p l ≡ true → every q l ≡ true → every t l ≡ true
+unfolding every
+every-by p q t [] h e f = refl
+every-by p q t (a ∷ l) h e f =
+    and-both (t a) (every t l) (h a (and-left (p a) (every p l) e) (and-left (q a) (every q l) f))
+    (every-by p q t l h (and-right (p a) (every p l) e) (and-right (q a) (every q l) f))
+
+pub every-at : (p : ℕ → Bool) (l : List ℕ) (c : ℕ) → every p l ≡ true → some (λ d. eqb d c) l ≡ true → p c ≡ true
+every-at p l c e s = let w = some-every (λ d. eqb d c) p l s e in ap p (sym (eqb-true (w .0) c (w .1))) ∙ w .2
+
+pub every-listed : (p : ℕ → Bool) (l : List ℕ) → ((c : ℕ) → some (λ d. eqb d c) l ≡ true → p c ≡ true) → every p l ≡ true
+unfolding every some
+every-listed p [] h = refl
+every-listed p (a ∷ l) h =
+    and-both (p a) (every p l) (h a (ap (λ (t : Bool). t || some (λ d. eqb d a) l) (eq-eqb a a refl)))
+    (every-listed p l (λ c s. h c (ap (λ (t : Bool). eqb a c || t) s ∙ or-true (eqb a c))))

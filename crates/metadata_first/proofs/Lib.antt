@@ -1,4 +1,5 @@
 pub mod SumLaws
 pub mod DotLaws
+pub mod ActiveLaws
 pub mod StoreLaws
 pub mod CallLaws

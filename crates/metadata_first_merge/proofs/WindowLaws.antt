@@ -14,12 +14,13 @@ use borrow.Author.Tests.{lt-ltb, le-ltb, le-leb, lt-leb, ltb-true, eq-eqb, ne-eq
 use Rattle.hybit_core.specs.Floats.{zero64, finite}
 use Rattle.hybit_core.proofs.BoolLaws.{flag-on, flag-off}
 use Rattle.lent.specs.Lists.{each, every, some}
-use Rattle.lent.proofs.ListLaws.{length-each, getD-each, each-set, each-cong, each-is, every-all, every-more, every-fails, every-done, some-none}
+use Rattle.lent.proofs.ListLaws.{length-each, getD-each, each-set, each-cong, each-is, every-all, every-more, every-fails, every-done, some-none, every-by}
 use Rattle.csr32.specs.Csr.{Entry, merged}
 use Rattle.csr32.proofs.CsrLaws.{present-columns}
 use Rattle.metadata_first_merge.specs.Merge.{rowValues}
 use Rattle.metadata_first_merge.specs.Window.{inWindow, sumsFinite, windowFinite, Outside}
-use Rattle.metadata_first_merge.proofs.MergeLaws.{addIf, merged-none, merged-more, merged-absent, firsts-all, every-by, row-finite}
+use Rattle.csr32.proofs.MergedLaws.{addIf, merged-none, merged-more, merged-absent, firsts-all}
+use Rattle.metadata_first_merge.proofs.MergeLaws.{row-finite}
 
 -- ---- the sums after k entries
 

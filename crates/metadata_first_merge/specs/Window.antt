@@ -1,6 +1,6 @@
 -- A window of a row: so many columns from `base` on. What the private functions that sum, test and clear one require and ensure.
 use Prim.Native.Nat.{ℕ, _+_, _-_, _<_}
-use mathlib.Core.Bool.{Bool, true, false, not, _&&_, _||_}
+use mathlib.Core.Bool.{Bool, false, not, _&&_, _||_}
 use mathlib.Core.List.{List, zip}
 use mathlib.Core.Path.{_≡_}
 use lib.Dec.{eqb, leb, ltb}

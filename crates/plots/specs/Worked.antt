@@ -4,19 +4,28 @@ use mathlib.Core.Bool.{Bool, true, false}
 use mathlib.Core.List.{List, [], _∷_}
 use mathlib.Core.Option.{Option, none, some}
 use lib.IntN.{pos, negsuc}
+use lib.ListN.{replicate}
 use lib.Ieee.{Float, fin}
 use Rattle.hybit_core.specs.Answer.{Given, gives, refuses}
+use Rattle.hybit_core.specs.Floats.{zero64}
 use Rattle.word.specs.declared.Operation.the-variants.{Union, Intersection, AndNot, Xor}
+use Rattle.mask.specs.Mask.{Mask}
 use Rattle.csr32.specs.Csr.{Csr}
 use Rattle.topology.specs.Words.{Words, member}
 use Rattle.topology.specs.Calls.{rankAnswer, select, metadataBytes}
 use Rattle.topology_build.specs.Build.{topologyFrom}
 use Rattle.topology_combine.specs.Combine.{combinedWords}
+use Rattle.metadata_first.specs.declared.AbtmRowDot.{AbtmRowDot}
+use Rattle.metadata_first.specs.Store.{Store}
+use Rattle.metadata_first.specs.Dot.{sparseDotRow}
+use Rattle.metadata_first_build.specs.Pack.{storeOf}
 
 -- what a row of the table compares
 pub data Cell : Type 0 where
   number : ℕ → Cell
   numbers : List ℕ → Cell
+  floats : List Float → Cell
+  report : Float → ℕ → ℕ → ℕ → ℕ → ℕ → Cell
   place : ℕ → Cell
   nowhere : Cell
   refusal : ℕ → Cell
@@ -29,6 +38,11 @@ ofGiven (refuses t) = refusal (t .number)
 abbrev pub ofOption : Option ℕ → Cell
 ofOption (some n) = place n
 ofOption none = nowhere
+
+-- the number, then candidate, executed, skipped, topology words, active words
+abbrev pub ofReport : Given AbtmRowDot → Cell
+ofReport (gives d) = report (d .sum) (d .«candidate_products») (d .«executed_products») (d .«skipped_products») (d .«topology_words») (d .«active_words»)
+ofReport (refuses t) = refusal (t .number)
 
 -- m ÷ 2; 2 ^ k; −1
 abbrev pub half : ℕ → Float
@@ -48,9 +62,26 @@ plots = record { rows = 1; cols = 70; ptr = 0 ∷ 4 ∷ []; col = 65 ∷ 3 ∷ 3
 abbrev pub plotWords : Words
 plotWords = record { rows = 1; cols = 70; ptr = 0 ∷ 2 ∷ []; word = 0 ∷ 1 ∷ []; mask = 8 ∷ 3 ∷ []; total = 3 }
 
+-- its packed store, as it is handed on
+abbrev pub plotStore : Store
+plotStore = record { words = plotWords; vptr = 0 ∷ 3 ∷ []; vals = half 3 ∷ two 2 ∷ two 1 ∷ [] }
+
+-- x all 1.0; active 3 and 65; active 3 only
+abbrev pub ones : List Float
+ones = replicate 70 (two 0)
+
+abbrev pub active65 : Mask
+active65 = record { size = 70; bits = 8 ∷ 2 ∷ [] }
+
+abbrev pub active3 : Mask
+active3 = record { size = 70; bits = 8 ∷ 0 ∷ [] }
+
 -- an empty row
 abbrev pub empty : Csr
 empty = record { rows = 1; cols = 70; ptr = 0 ∷ 0 ∷ []; col = []; val = [] }
+
+abbrev pub emptyStore : Store
+emptyStore = record { words = record { rows = 1; cols = 70; ptr = 0 ∷ 0 ∷ []; word = []; mask = []; total = 0 }; vptr = 0 ∷ 0 ∷ []; vals = [] }
 
 -- a one-row record of one mask with two bits
 abbrev pub oneMask : ℕ → Words
@@ -81,6 +112,17 @@ table =
     ∷ (ofOption (select plotWords 0 3), nowhere)
     -- metadata_bytes: 32
     ∷ (number (metadataBytes plotWords), number 32)
+    -- packed 1.5, 4.0, 2.0
+    ∷ (numbers (storeOf plots .words .word), numbers (0 ∷ 1 ∷ []))
+    ∷ (numbers (storeOf plots .words .mask), numbers (8 ∷ 3 ∷ []))
+    ∷ (numbers (storeOf plots .vptr), numbers (0 ∷ 3 ∷ []))
+    ∷ (floats (storeOf plots .vals), floats (half 3 ∷ two 2 ∷ two 1 ∷ []))
+    -- active 3 and 65: 3.5, counts 3, 2, 1, 2, 2; active 3 only: 1.5, counts 3, 1, 2, 2, 1
+    ∷ (ofReport (sparseDotRow plotStore active65 ones 0), report (half 7) 3 2 1 2 2)
+    ∷ (ofReport (sparseDotRow plotStore active3 ones 0), report (half 3) 3 1 2 2 1)
+    -- an empty row: 0.0, all counts 0
+    ∷ (floats (storeOf empty .vals), floats [])
+    ∷ (ofReport (sparseDotRow emptyStore active65 ones 0), report zero64 0 0 0 0 0)
     -- an empty row has no word
     ∷ (numbers (topologyFrom empty .ptr), numbers (0 ∷ 0 ∷ []))
     ∷ (numbers (topologyFrom empty .word), numbers [])
@@ -90,6 +132,7 @@ table =
     ∷ (numbers (combinedWords AndNot (oneMask 6) (oneMask 3) .mask), numbers (4 ∷ []))
     ∷ (numbers (combinedWords Xor (oneMask 6) (oneMask 3) .mask), numbers (5 ∷ []))
     ∷ (numbers (combinedWords Xor (oneMask 6) (oneMask 6) .word), numbers [])
-    -- column 5 with 1.0 and −1.0: present
+    -- column 5 with 1.0 and −1.0: present, packed 0.0
     ∷ (test (member (topologyFrom cancels) 0 5), test true)
+    ∷ (floats (storeOf cancels .vals), floats (zero64 ∷ []))
     ∷ []

@@ -4,6 +4,8 @@ use hybit_core::BoolAnswer;
 use hybit_core::CountAnswer;
 use hybit_core::HybitError;
 use hybit_core::Verdict;
+use metadata_first::AbtmRowDot;
+use metadata_first::DotAnswer;
 use topology::SelectAnswer;
 use topology::StatsAnswer;
 use topology::TopologyAnswer;
@@ -316,6 +318,175 @@ fn show_empty() {
     show_row(&row_ptr, &cols, &values, &mut ptr, &mut words, &mut masks);
 }
 
+fn float(x: f64) {
+    text(b" ");
+    io::print_hex(1, f64::to_bits(x), 16);
+}
+
+fn show_floats(values: &[f64]) {
+    let mut k: usize = 0;
+    while k < values.len() {
+        float(values[k]);
+        k += 1;
+    }
+}
+
+fn report(d: AbtmRowDot) {
+    float(d.sum);
+    text(b", counts");
+    size(d.candidate_products);
+    size(d.executed_products);
+    size(d.skipped_products);
+    size(d.topology_words);
+    size(d.active_words);
+}
+
+fn dot_answer(a: DotAnswer) {
+    match a {
+        DotAnswer::Dot(d) => report(d),
+        DotAnswer::Refused(e) => refused(e),
+    }
+}
+
+// The packed store of one row of 70 columns.
+fn show_packed(
+    row_ptr: &[u32],
+    cols: &[u32],
+    values: &[f64],
+    ptr: &mut [u32],
+    words: &mut [u32],
+    masks: &mut [u64],
+    value_ptr: &mut [u32],
+    packed: &mut [f64],
+) {
+    text(b"packed");
+    show_u32(cols);
+    text(b":");
+    topology_answer(metadata_first_build::from_csr32(
+        1,
+        70,
+        row_ptr,
+        cols,
+        values,
+        ptr,
+        words,
+        masks,
+        value_ptr,
+        packed,
+    ));
+    text(b", value pointers");
+    show_u32(value_ptr);
+    text(b", values");
+    show_floats(packed);
+    text(b"\n");
+}
+
+fn show_dot(
+    name: &[u8],
+    ptr: &[u32],
+    words: &[u32],
+    masks: &[u64],
+    nnz: usize,
+    value_ptr: &[u32],
+    packed: &[f64],
+    active: &[u64],
+) {
+    let x: [f64; 70] = [1.0; 70];
+    text(name);
+    text(b":");
+    dot_answer(metadata_first_dot::sparse_dot_row(
+        1,
+        70,
+        ptr,
+        words,
+        masks,
+        nnz,
+        value_ptr,
+        packed,
+        0,
+        70,
+        active,
+        &x,
+    ));
+    text(b"\n");
+}
+
+// The worked row's store and its dots with x all 1.0.
+fn show_store() {
+    let row_ptr: [u32; 2] = [0, 4];
+    let cols: [u32; 4] = [65, 3, 3, 64];
+    let values: [f64; 4] = [2.0, 1.0, 0.5, 4.0];
+    let mut ptr: [u32; 2] = [9; 2];
+    let mut words: [u32; 2] = [9; 2];
+    let mut masks: [u64; 2] = [9; 2];
+    let mut value_ptr: [u32; 2] = [9; 2];
+    let mut packed: [f64; 3] = [9.0; 3];
+    show_packed(
+        &row_ptr,
+        &cols,
+        &values,
+        &mut ptr,
+        &mut words,
+        &mut masks,
+        &mut value_ptr,
+        &mut packed,
+    );
+    let both: [u64; 2] = [8, 2];
+    let one: [u64; 2] = [8, 0];
+    show_dot(
+        b"active 3 65",
+        &ptr,
+        &words,
+        &masks,
+        3,
+        &value_ptr,
+        &packed,
+        &both,
+    );
+    show_dot(
+        b"active 3",
+        &ptr,
+        &words,
+        &masks,
+        3,
+        &value_ptr,
+        &packed,
+        &one,
+    );
+    let none: [u32; 2] = [0, 0];
+    show_dot(
+        b"empty row",
+        &none,
+        &words[..0],
+        &masks[..0],
+        0,
+        &none,
+        &packed[..0],
+        &both,
+    );
+}
+
+fn show_packed_zero() {
+    let row_ptr: [u32; 2] = [0, 2];
+    let cols: [u32; 2] = [5, 5];
+    let values: [f64; 2] = [1.0, -1.0];
+    let mut ptr: [u32; 2] = [9; 2];
+    let mut words: [u32; 1] = [9];
+    let mut masks: [u64; 1] = [9];
+    let mut value_ptr: [u32; 2] = [9; 2];
+    let mut packed: [f64; 1] = [9.0];
+    show_packed(
+        &row_ptr,
+        &cols,
+        &values,
+        &mut ptr,
+        &mut words,
+        &mut masks,
+        &mut value_ptr,
+        &mut packed,
+    );
+}
+
 fn main() {
     show_word(b"word 0", 8, 0, 4);
     show_word(b"word 1", 3, 1, 6);
@@ -329,4 +500,6 @@ fn main() {
     show_cancelling();
     show_empty();
     show_sets();
+    show_store();
+    show_packed_zero();
 }

@@ -18,7 +18,7 @@ use Rattle.word.proofs.BelowLaws.{length-below-le, rank-lt, selects, below-at-r
 use Rattle.csr32.specs.Csr.{present, merged}
 use Rattle.csr32.proofs.CsrLaws.{present-columns, column-below}
 use Rattle.metadata_first_merge.specs.Merge.{rowValues}
-use Rattle.metadata_first_merge.proofs.MergeLaws.{addIf, merged-none, merged-more, firsts-all}
+use Rattle.csr32.proofs.MergedLaws.{addIf, merged-none, merged-more, firsts-all}
 use Rattle.metadata_first_build.specs.Ranks.{Ranks}
 
 -- ---- a function over the columns of a test

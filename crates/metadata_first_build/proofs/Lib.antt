@@ -1,3 +1,4 @@
 pub mod PlaceLaws
 pub mod AddLaws
 pub mod RowsLaws
+pub mod AnswerLaws

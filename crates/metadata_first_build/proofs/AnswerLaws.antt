@@ -82,15 +82,15 @@ module _ (m : Csr) where
   unfolding storeOf packedOf
   store-words = refl
 
-  store-total : length (storeOf m .vals) ≡ topologyFrom m .total
+  pub store-total : length (storeOf m .vals) ≡ topologyFrom m .total
   unfolding storeOf packedOf
   store-total = packed-total (m .rows) (m .cols) (λ r. present (entries m r)) (λ r. _)
 
-  store-rows : length (storeOf m .vptr) ≡ m .rows + 1
+  pub store-rows : length (storeOf m .vptr) ≡ m .rows + 1
   unfolding storeOf
   store-rows = packed-pointers (m .rows) (m .cols) (λ r. present (entries m r)) (λ r. _)
 
-  store-finite : every finite (storeOf m .vals) ≡ mergedFinite m
+  pub store-finite : every finite (storeOf m .vals) ≡ mergedFinite m
   unfolding storeOf packedOf mergedFinite rowValues
   store-finite = refl
 

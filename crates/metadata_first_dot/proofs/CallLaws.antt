@@ -1,4 +1,4 @@
--- What the dots know once their checks have accepted: a row's lent parts make the store's row. Assumes nothing.
+-- The checks of the dots in the code's order, what is known once they have accepted, and what the calls leave in lent lists. Assumes nothing.
 use mathlib.Core.Bool.{Bool, true, false, _&&_}
 use mathlib.Core.List.{List, _++_}
 use mathlib.Core.Path.{_≡_, refl, sym, ap, ap₂, _∙_}

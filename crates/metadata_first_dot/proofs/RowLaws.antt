@@ -1,4 +1,4 @@
--- A loop over the words of a row that adds its dot: after the words below word f, the sums and counts of the columns below 64 · f. Assumes nothing.
+-- A loop over the words of a row that adds its dot: after the words below word f, the sum and the counts of the columns below 64 · f. Assumes nothing.
 use mathlib.Core.Bool.{Bool, true, false, not, _&&_}
 use mathlib.Core.List.{List, [], _++_, map, foldl, foldl-append}
 use mathlib.Core.Path.{_≡_, refl, sym, ap, ap₂, _∙_}

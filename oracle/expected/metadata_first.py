@@ -332,7 +332,7 @@ def operands():
 
 
 def wide_row():
-    cols = [k % 100 * 655 + k % 7 for k in range(300)]
+    cols = [k % 100 * 655 + k % 5 for k in range(300)]
     vals = [(k % 17) / 10 - 0.75 for k in range(300)]
     answer, (p, w, m, vp, vs) = pack(1, 65536, [0, 300], cols, vals, [2, 300, 300, 2, 300])
     print("wide", answer, show(p), show(vp), show(vs[:9], float_text))
@@ -342,7 +342,6 @@ def wide_row():
     dot(s, 0, 65536, mask, ascending(65536))
     dot_rows(s, 65536, mask, ascending(65536), 1, 1)
     vals[1] = vals[201] = LARGEST
-    cols[201] = cols[1]
     pack_room(1, 65536, [0, 300], cols, vals, 0, 0, 0, 0, 0)
     pack_room(1, 65536, [0, 300], cols, vals, 16, 16, 16, 16, 16)
 

@@ -198,13 +198,7 @@ fn fill_floats(list: &mut [f64]) {
     }
 }
 
-// Packing into lists of given lengths.
-fn pack_into(
-    nrows: usize,
-    ncols: usize,
-    ptr: &[u32],
-    cols: &[u32],
-    vals: &[f64],
+fn fill_all(
     row_word_ptr: &mut [u32],
     word_indices: &mut [u32],
     masks: &mut [u64],
@@ -216,6 +210,21 @@ fn pack_into(
     fill_masks(masks);
     fill(row_value_ptr);
     fill_floats(packed);
+}
+
+// Packing into lists of given lengths.
+fn pack_on(
+    nrows: usize,
+    ncols: usize,
+    ptr: &[u32],
+    cols: &[u32],
+    vals: &[f64],
+    row_word_ptr: &mut [u32],
+    word_indices: &mut [u32],
+    masks: &mut [u64],
+    row_value_ptr: &mut [u32],
+    packed: &mut [f64],
+) {
     text(b"pack");
     topology_answer(metadata_first_build::from_csr32(
         nrows,
@@ -235,6 +244,33 @@ fn pack_into(
     show(row_value_ptr);
     show_floats(packed);
     end();
+}
+
+fn pack_into(
+    nrows: usize,
+    ncols: usize,
+    ptr: &[u32],
+    cols: &[u32],
+    vals: &[f64],
+    row_word_ptr: &mut [u32],
+    word_indices: &mut [u32],
+    masks: &mut [u64],
+    row_value_ptr: &mut [u32],
+    packed: &mut [f64],
+) {
+    fill_all(row_word_ptr, word_indices, masks, row_value_ptr, packed);
+    pack_on(
+        nrows,
+        ncols,
+        ptr,
+        cols,
+        vals,
+        row_word_ptr,
+        word_indices,
+        masks,
+        row_value_ptr,
+        packed,
+    );
 }
 
 fn pack_room(
@@ -639,8 +675,8 @@ fn trial() {
         0.1,
         1.0,
         -1.0,
-        f64::from_bits(1),
-        f64::from_bits(0x7fefffffffffffff),
+        5e-324,
+        1.7976931348623157e308,
         -7.25,
         0.0,
     ];
@@ -656,7 +692,7 @@ fn rows_of_one() {
     let copies: [u32; 4] = [9, 9, 9, 9];
     let tenths: [f64; 4] = [0.1, 0.2, 0.3, -0.6];
     pack_rooms(1, 10, &ptr, &copies, &tenths, 2, 1, 1);
-    let largest = f64::from_bits(0x7fefffffffffffff);
+    let largest: f64 = 1.7976931348623157e308;
     let over: [f64; 4] = [1.0, largest, -largest, largest];
     pack_rooms(1, 10, &ptr, &copies, &over, 2, 1, 1);
     let twice: [f64; 4] = [largest, largest, -largest, -largest];
@@ -675,7 +711,7 @@ fn rows_of_one() {
 // Plot lists that break a rule, and of two the one that comes first.
 fn refused_lists() {
     let inf = 1.0f64 / 0.0f64;
-    let largest = f64::from_bits(0x7fefffffffffffff);
+    let largest: f64 = 1.7976931348623157e308;
     let ptr: [u32; 2] = [0, 4];
     let wrong: [u32; 2] = [0, 3];
     let cols: [u32; 4] = [65, 3, 3, 64];
@@ -780,7 +816,8 @@ fn damages(p: &[u32], w: &[u32], m: &[u64], vp: &[u32], vs: &[f64]) {
     let falls: [u32; 6] = [0, 2, 1, 0, 1, 2];
     damaged(3, p, &falls, m, 9, vp, vs);
     damaged(3, p, w, m, 8, vp, vs);
-    damaged(3, p, w, &m[..5], 9, vp, vs);
+    let five: [u64; 5] = [0x8000000000000001, 0x8000000000000001, 2, 32, 96];
+    damaged(3, p, w, &five, 9, vp, vs);
     damaged(1048577, p, w, m, 8, vp, vs);
     let total: [u32; 4] = [0, 5, 5, 8];
     damaged(3, p, w, m, 9, &total, vs);
@@ -795,7 +832,8 @@ fn damages(p: &[u32], w: &[u32], m: &[u64], vp: &[u32], vs: &[f64]) {
     let long: [u32; 5] = [0, 5, 5, 9, 9];
     damaged(3, p, w, m, 9, &long, vs);
     damaged(3, p, w, m, 9, &long[..3], vs);
-    damaged(3, p, w, m, 9, vp, &vs[..8]);
+    let eight: [f64; 8] = [1.0, 3.0, 0.0, 0.1, 2.5, -7.25, 5e-324, 0.0];
+    damaged(3, p, w, m, 9, vp, &eight);
 }
 
 fn damaged_values(p: &[u32], w: &[u32], m: &[u64], vp: &[u32]) {
@@ -818,6 +856,12 @@ fn ascending(x: &mut [f64]) {
     }
 }
 
+fn put(x: &mut [f64], i: usize, v: f64) {
+    if i < x.len() {
+        x[i] = v;
+    }
+}
+
 // Every mask with a vector of ones, and vectors that hold NaN and infinity in masked and in active plots.
 fn vectors(p: &[u32], w: &[u32], m: &[u64], vp: &[u32], vs: &[f64]) {
     let inf = 1.0f64 / 0.0f64;
@@ -833,19 +877,19 @@ fn vectors(p: &[u32], w: &[u32], m: &[u64], vp: &[u32], vs: &[f64]) {
     ascending(&mut x);
     dots(3, 130, p, w, m, 9, vp, vs, 130, &all, &x);
     dots(3, 130, p, w, m, 9, vp, vs, 130, &some, &x);
-    x[63] = nan;
-    x[127] = inf;
-    x[129] = -inf;
-    x[5] = nan;
-    x[69] = nan;
+    put(&mut x, 63, nan);
+    put(&mut x, 127, inf);
+    put(&mut x, 129, -inf);
+    put(&mut x, 5, nan);
+    put(&mut x, 69, nan);
     dots(3, 130, p, w, m, 9, vp, vs, 130, &some, &x);
     dots(3, 130, p, w, m, 9, vp, vs, 130, &all, &x);
     dots(3, 130, p, w, m, 9, vp, vs, 130, &none, &x);
-    x[0] = inf;
-    x[70] = inf;
+    put(&mut x, 0, inf);
+    put(&mut x, 70, inf);
     dots(3, 130, p, w, m, 9, vp, vs, 130, &some, &x);
-    x[0] = nan;
-    x[128] = 2.0;
+    put(&mut x, 0, nan);
+    put(&mut x, 128, 2.0);
     dots(3, 130, p, w, m, 9, vp, vs, 130, &some, &x);
 }
 
@@ -879,9 +923,9 @@ fn stores() {
         0.1,
         2.5,
         -7.25,
-        f64::from_bits(1),
+        5e-324,
         0.0,
-        f64::from_bits(0x7fefffffffffffff),
+        1.7976931348623157e308,
     ];
     ask(3, 130, &p, &w, &m, 9, &vp, &vs);
     damages(&p, &w, &m, &vp, &vs);
@@ -892,12 +936,12 @@ fn stores() {
     ask(1, 0, &[0, 0], &w[..0], &m[..0], 0, &[0, 0], &vs[..0]);
 }
 
-// One row of 65,536 columns: 300 entries, many of them copies, of both windows of the merging.
+// One row of 65,536 columns: 300 entries in 100 columns, three of each, of both windows of the merging.
 
 fn entry_column(k: usize) -> usize
     ensures { λ r. ⌜ r < 65536 ⌝ }
 {
-    k % 100 * 655 + k % 7
+    k % 100 * 655 + k % 5
 }
 
 fn make_entries(cols: &mut [u32], vals: &mut [f64]) {
@@ -917,10 +961,9 @@ fn wide_row() {
     let mut vals: [f64; 300] = [0.0; 300];
     make_entries(&mut cols, &mut vals);
     wide_pack(&cols, &vals);
-    let largest = f64::from_bits(0x7fefffffffffffff);
-    vals[1] = largest;
-    vals[201] = largest;
-    cols[201] = cols[1];
+    let largest: f64 = 1.7976931348623157e308;
+    put(&mut vals, 1, largest);
+    put(&mut vals, 201, largest);
     pack_room(1, 65536, &[0, 300], &cols, &vals, 0, 0, 0, 0, 0);
     pack_room(1, 65536, &[0, 300], &cols, &vals, 16, 16, 16, 16, 16);
 }

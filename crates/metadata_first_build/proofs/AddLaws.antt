@@ -1,5 +1,5 @@
 -- Entries added at the ranks of their columns, in stored order. Assumes nothing.
-use mathlib.Core.Bool.{Bool, true, false}
+use mathlib.Core.Bool.{Bool, true}
 use mathlib.Core.List.{List, [], _∷_, map, zip, zipWith}
 use mathlib.Core.Path.{_≡_, refl, sym, ap, ap₂, _∙_}
 use Prim.Native.Nat.{ℕ, _+_, _/_, _%_, _≤_, _<_, zero-le}
@@ -13,7 +13,7 @@ use borrow.Author.Tests.{eq-eqb, ne-eqb}
 use Rattle.hybit_core.specs.Floats.{zero64}
 use Rattle.lent.specs.Lists.{every}
 use Rattle.lent.proofs.ListLaws.{getD-map-lt, some-getD}
-use Rattle.word.specs.Bits.{has, below, count, ceil64}
+use Rattle.word.specs.Bits.{has, below, count}
 use Rattle.word.proofs.BelowLaws.{length-below-le, rank-lt, selects, below-at-rank}
 use Rattle.csr32.specs.Csr.{present, merged}
 use Rattle.csr32.proofs.CsrLaws.{present-columns, column-below}

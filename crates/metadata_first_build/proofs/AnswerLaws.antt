@@ -4,14 +4,13 @@ use mathlib.Core.List.{List, [], _∷_, _++_}
 use mathlib.Core.Path.{_≡_, refl, sym, ap, ap₂, _∙_}
 use Prim.Native.Nat.{ℕ, zero, suc, _+_, _-_, _^_, _≤_, _<_}
 use native.Mathlib.Nat.{sub-zero}
-use native.Mathlib.Numerals.{add-one}
 use native.Mathlib.Omega.{arith}
 use lib.Dec.{leb}
-use lib.ListN.{length, take, drop, replicate, length-append, length-replicate}
+use lib.ListN.{length, take, drop, replicate}
 use lib.Seq.{take-at}
 use lib.Ieee.{Float}
 use borrow.Author.Tests.{le-leb, leb-true}
-use Rattle.hybit_core.specs.Answer.{Answer, Told, accepted, refused, plain, demand, _andThen_, Given, gives, refuses, answers}
+use Rattle.hybit_core.specs.Answer.{Answer, accepted, refused, plain, demand, _andThen_, Given, gives, refuses, answers}
 use Rattle.hybit_core.specs.Floats.{zero64, finite}
 use Rattle.hybit_core.specs.Table.{paper, told}
 use Rattle.hybit_core.specs.declared.HybitError.{HybitError}
@@ -19,13 +18,11 @@ use Rattle.hybit_core.specs.declared.Verdict.{Verdict}
 use Rattle.hybit_core.specs.declared.Verdict.the-variants as verdict
 use Rattle.hybit_core.proofs.BoolLaws.{and-left, and-right, and-both, flag-on, flag-off}
 use Rattle.hybit_core.proofs.AnswerLaws.{demand-accepted, then-first, then-second, accepted-by, refused-by}
-use Rattle.lent.specs.Lists.{joined, every, starts}
+use Rattle.lent.specs.Lists.{every}
 use Rattle.lent.specs.Lent.{padded, built}
 use Rattle.lent.proofs.LentLaws.{padded-none, handed-used}
-use Rattle.lent.proofs.ListLaws.{length-starts}
 use Rattle.csr32.specs.Csr.{Csr, csrAnswer, entries, present}
 use Rattle.csr32.proofs.CsrLaws.{valid}
-use Rattle.topology.specs.Words.{Words, topologyOf}
 use Rattle.topology.specs.Calls.{asRoom, fitsWords, usedOf, toldTopology}
 use Rattle.topology.specs.declared.TopologyAnswer.{TopologyAnswer}
 use Rattle.topology.specs.declared.TopologyAnswer.the-variants as build
@@ -78,10 +75,6 @@ module _ {A : Type 0} (z : A) where
 -- ---- the store that is built
 
 module _ (m : Csr) where
-  store-words : storeOf m .words ≡ topologyFrom m
-  unfolding storeOf packedOf
-  store-words = refl
-
   pub store-total : length (storeOf m .vals) ≡ topologyFrom m .total
   unfolding storeOf packedOf
   store-total = packed-total (m .rows) (m .cols) (λ r. present (entries m r)) (λ r. _)

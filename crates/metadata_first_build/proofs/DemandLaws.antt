@@ -11,15 +11,14 @@ use lib.Ieee.{Float}
 use borrow.Author.Tests.{lt-ltb, eq-eqb, le-leb}
 use Rattle.hybit_core.specs.Answer.{Answer, accepted, demand, demandLength, lengthIs, gives, answers, onGiven, _andThen_}
 use Rattle.hybit_core.specs.Domain.{few}
-use Rattle.hybit_core.specs.Floats.{zero64, finite}
+use Rattle.hybit_core.specs.Floats.{zero64}
 use Rattle.hybit_core.proofs.BoolLaws.{and-both}
 use Rattle.hybit_core.proofs.AnswerLaws.{demand-accepted, then-first, then-second}
-use Rattle.lent.specs.Lists.{every}
 use Rattle.lent.proofs.LentLaws.{handed-used}
 use Rattle.mask.specs.Mask.{Mask, active, maskRules}
 use Rattle.csr32.specs.Csr.{Csr, entries, present, merged, at}
 use Rattle.csr32.proofs.CsrLaws.{Valid, valid}
-use Rattle.topology.specs.Words.{Words, topologyOf}
+use Rattle.topology.specs.Words.{topologyOf}
 use Rattle.topology.proofs.TopologyLaws.{accepted-facts, topology-pointers, topology-sides}
 use Rattle.topology_build.specs.Build.{topologyFrom}
 use Rattle.topology_build.proofs.AnswerLaws.{built-accepted as words-accepted}

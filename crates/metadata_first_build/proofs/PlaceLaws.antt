@@ -1,6 +1,6 @@
 -- The words of a row, noted one after the other: their masks, and the places of their first values. Assumes nothing.
-use mathlib.Core.Bool.{Bool, true, false, true≢false}
-use mathlib.Core.List.{List, map}
+use mathlib.Core.Bool.{Bool, true, true≢false}
+use mathlib.Core.List.{List}
 use mathlib.Core.Path.{_≡_, refl, sym, ap, ap₂, _∙_}
 use Prim.Native.Nat.{ℕ, _+_, _*_, _/_, _%_, _^_, _≤_, _<_}
 use native.Mathlib.Nat.{mod-eq-of-lt}
@@ -9,7 +9,6 @@ use native.Mathlib.Omega.{arith}
 use lib.Dec.{ltb}
 use lib.ListN.{length, getD, set, length-set, length-map}
 use lib.Seq.{getD-set-same, getD-set-other}
-use borrow.Author.Tests.{lt-ltb}
 use Rattle.hybit_core.proofs.BoolLaws.{and-right}
 use Rattle.lent.specs.Lists.{joined}
 use Rattle.word.specs.Bits.{has, count, within, maskOf, hit, ceil64, wordsOf}

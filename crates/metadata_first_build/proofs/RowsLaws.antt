@@ -21,7 +21,7 @@ use Rattle.mask.specs.Calls.{listed}
 use Rattle.csr32.specs.Csr.{Csr, Entry, entries, present, merged}
 use Rattle.csr32.proofs.FrameLaws.{Framed, RowIn, row-left, row-right, parts-all}
 use Rattle.csr32.proofs.CsrLaws.{Valid, valid, row-of, entries-lent, row-lent, present-row}
-use Rattle.topology.specs.Words.{Words, topologyOf, setBits}
+use Rattle.topology.specs.Words.{topologyOf, setBits}
 use Rattle.topology.proofs.RowLaws.{Row}
 use Rattle.topology.proofs.TopologyLaws.{Accepted, accepted-facts, row-bits, row-words, row-masks}
 use Rattle.topology_build.specs.Build.{topologyFrom}

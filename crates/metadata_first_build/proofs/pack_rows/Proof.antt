@@ -1,7 +1,7 @@
 -- `metadata_first_build::pack_rows` meets its contract. Assumes nothing.
 use Prim.Native.Nat.{_-_}
 use native.Mathlib.Omega.{arith}
-use lib.ListN.{length, length-set}
+use lib.ListN.{length-set}
 use Rattle.csr32.specs.Csr.{asCsr}
 use Rattle.metadata_first_build.proofs.RowsLaws.{Packing, packing-none, packing-few, packing-pointers, packing-words, packing-masks, packing-entries, packing-part, packing-row, packing-more, packing-same, packing-done}
 use borrow.Author.Needs.{needs}

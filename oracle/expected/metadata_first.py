@@ -335,8 +335,8 @@ def wide_row():
     cols = [k % 100 * 655 + k % 5 for k in range(300)]
     vals = [(k % 17) / 10 - 0.75 for k in range(300)]
     answer, (p, w, m, vp, vs) = pack(1, 65536, [0, 300], cols, vals, [2, 300, 300, 2, 300])
-    print("wide", answer, show(p), show(vp), show(vs[:9], float_text))
     words, n = int(answer.split()[1]), int(answer.split()[2])
+    print("wide", answer, show(p), show(vp), show(vs[:n], float_text))
     s = 1, 65536, p, w[:words], m[:words], n, vp, vs[:n]
     mask = [0x9249249249249249] * 1024
     dot(s, 0, 65536, mask, ascending(65536))

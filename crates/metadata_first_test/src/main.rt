@@ -490,6 +490,42 @@ fn dot(
     end();
 }
 
+fn dot_rows_on(
+    nrows: usize,
+    ncols: usize,
+    row_word_ptr: &[u32],
+    word_indices: &[u32],
+    masks: &[u64],
+    structural_nnz: usize,
+    row_value_ptr: &[u32],
+    values: &[f64],
+    mask_len: usize,
+    mask: &[u64],
+    x: &[f64],
+    sums: &mut [f64],
+    executed: &mut [u32],
+) {
+    text(b"dots");
+    verdict(metadata_first_dot::sparse_dot_rows(
+        nrows,
+        ncols,
+        row_word_ptr,
+        word_indices,
+        masks,
+        structural_nnz,
+        row_value_ptr,
+        values,
+        mask_len,
+        mask,
+        x,
+        sums,
+        executed,
+    ));
+    show_floats(sums);
+    show(executed);
+    end();
+}
+
 fn dot_rows(
     nrows: usize,
     ncols: usize,
@@ -507,8 +543,7 @@ fn dot_rows(
 ) {
     let mut sums: [f64; 16] = [7.0; 16];
     let mut executed: [u32; 16] = [77; 16];
-    text(b"dots");
-    verdict(metadata_first_dot::sparse_dot_rows(
+    dot_rows_on(
         nrows,
         ncols,
         row_word_ptr,
@@ -522,10 +557,7 @@ fn dot_rows(
         x,
         &mut sums[..upto(a)],
         &mut executed[..upto(b)],
-    ));
-    show_floats(&sums[..upto(a)]);
-    show(&executed[..upto(b)]);
-    end();
+    );
 }
 
 fn dots(
@@ -944,14 +976,18 @@ fn entry_column(k: usize) -> usize
     k % 100 * 655 + k % 5
 }
 
-fn make_entries(cols: &mut [u32], vals: &mut [f64]) {
-    let n = vals.len();
+fn make_columns(cols: &mut [u32]) {
     let mut k: usize = 0;
     while k < cols.len() {
-        if k < n {
-            cols[k] = hybit_core::narrow(entry_column(k));
-            vals[k] = hybit_core::count_as_f64((k % 17) as u64) / 10.0 - 0.75;
-        }
+        cols[k] = hybit_core::narrow(entry_column(k));
+        k += 1;
+    }
+}
+
+fn make_values(vals: &mut [f64]) {
+    let mut k: usize = 0;
+    while k < vals.len() {
+        vals[k] = hybit_core::count_as_f64((k % 17) as u64) / 10.0 - 0.75;
         k += 1;
     }
 }
@@ -959,7 +995,8 @@ fn make_entries(cols: &mut [u32], vals: &mut [f64]) {
 fn wide_row() {
     let mut cols: [u32; 300] = [0; 300];
     let mut vals: [f64; 300] = [0.0; 300];
-    make_entries(&mut cols, &mut vals);
+    make_columns(&mut cols);
+    make_values(&mut vals);
     wide_pack(&cols, &vals);
     let largest: f64 = 1.7976931348623157e308;
     put(&mut vals, 1, largest);
@@ -970,39 +1007,46 @@ fn wide_row() {
 
 // Packs the row, and asks for its dot under every third column.
 fn wide_pack(cols: &[u32], vals: &[f64]) {
-    let ptr: [u32; 2] = [0, 300];
     let mut p: [u32; 2] = [77; 2];
     let mut w: [u32; 300] = [77; 300];
     let mut m: [u64; 300] = [77; 300];
     let mut vp: [u32; 2] = [77; 2];
     let mut vs: [f64; 300] = [7.0; 300];
-    let a = metadata_first_build::from_csr32(
-        1,
-        65536,
-        &ptr,
-        cols,
-        vals,
-        &mut p,
-        &mut w,
-        &mut m,
-        &mut vp,
-        &mut vs,
-    );
+    wide_pack_on(cols, vals, &mut p, &mut w, &mut m, &mut vp, &mut vs);
+}
+
+fn wide_pack_on(
+    cols: &[u32],
+    vals: &[f64],
+    p: &mut [u32],
+    w: &mut [u32],
+    m: &mut [u64],
+    vp: &mut [u32],
+    vs: &mut [f64],
+) {
+    let ptr: [u32; 2] = [0, 300];
+    let a = metadata_first_build::from_csr32(1, 65536, &ptr, cols, vals, p, w, m, vp, vs);
     text(b"wide");
     topology_answer(a);
-    show(&p);
-    show(&vp);
-    show_floats(&vs[..9]);
+    wide_used(p, w, m, vp, vs, words_in(a), values_in(a));
+}
+
+// The used parts of the lists, and the dot of the store that they are.
+fn wide_used(p: &[u32], w: &[u32], m: &[u64], vp: &[u32], vs: &[f64], words: usize, n: usize) {
+    if words > w.len() {
+        return;
+    }
+    if words > m.len() {
+        return;
+    }
+    if n > vs.len() {
+        return;
+    }
+    show(p);
+    show(vp);
+    show_floats(&vs[..n]);
     end();
-    let words = words_in(a);
-    let n = values_in(a);
-    if words > 300 {
-        return;
-    }
-    if n > 300 {
-        return;
-    }
-    wide_dot(&p, &w[..words], &m[..words], n, &vp, &vs[..n]);
+    wide_dot(p, &w[..words], &m[..words], n, vp, &vs[..n]);
 }
 
 fn wide_dot(p: &[u32], w: &[u32], m: &[u64], n: usize, vp: &[u32], vs: &[f64]) {

@@ -1,31 +1,19 @@
--- `metadata_first_test::make_entries` meets its contract. Assumes nothing.
+-- `metadata_first_test::make_values` meets its contract. Assumes nothing.
 use borrow.Author.Needs.{needs}
 use mathlib.Core.Path.{_≡_}
 use Prim.Native.Nat.{_≤_, _-_}
 use lib.ListN.{length}
-use Rattle.metadata_first_test.proofs.make_entries.Statement.{statement}
-use Rattle.metadata_first_test.proofs.make_entries.Tie as tie
+use Rattle.metadata_first_test.proofs.make_values.Statement.{statement}
+use Rattle.metadata_first_test.proofs.make_values.Tie as tie
 
 abbrev Inv-loop : tie.InvT-loop
-Inv-loop cols₀ vals₀ n k₀ cols vals k = (length cols ≡ length cols₀) × (length vals ≡ n) × (k ≤ length cols₀)
+Inv-loop vals₀ k₀ vals k = (length vals ≡ length vals₀) × (k ≤ length vals₀)
 
 abbrev μ-loop : tie.MeasureT-loop
-μ-loop cols₀ vals₀ n k₀ cols vals k = length cols₀ - k
+μ-loop vals₀ k₀ vals k = length vals₀ - k
 
 loop-holds : tie.Need-loop-holds Inv-loop μ-loop
 loop-holds c = search needs
-
-entry-column-requires : tie.Need-entry-column-requires Inv-loop μ-loop
-entry-column-requires c κs = search needs
-
-narrow-requires : tie.Need-narrow-requires Inv-loop μ-loop
-narrow-requires c κs = search needs
-
-mul-cols : tie.Need-mul-cols Inv-loop μ-loop
-mul-cols c = search needs
-
-slice-write-cols : tie.Need-slice-write-cols Inv-loop μ-loop
-slice-write-cols c = search needs
 
 count-as-f64-requires : tie.Need-count-as-f64-requires Inv-loop μ-loop
 count-as-f64-requires c κs = search needs
@@ -48,23 +36,16 @@ loop-again c = search needs
 same-length : tie.Need-same-length Inv-loop μ-loop
 same-length c = search needs
 
-same-length-2 : tie.Need-same-length-2 Inv-loop μ-loop
-same-length-2 c = search needs
-
 returns : tie.Need-returns Inv-loop μ-loop
 returns c = search needs
 
-pub make-entries-spec : {M : Type 1} → statement M
-make-entries-spec =
+pub make-values-spec : {M : Type 1} → statement M
+make-values-spec =
     tie.close
     (tie.spec
     Inv-loop
     μ-loop
     loop-holds
-    entry-column-requires
-    narrow-requires
-    mul-cols
-    slice-write-cols
     count-as-f64-requires
     mul-vals
     slice-write-vals
@@ -72,5 +53,4 @@ make-entries-spec =
     loop-less
     loop-again
     same-length
-    same-length-2
     returns)

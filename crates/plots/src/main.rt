@@ -318,9 +318,18 @@ fn show_empty() {
     show_row(&row_ptr, &cols, &values, &mut ptr, &mut words, &mut masks);
 }
 
-fn float(x: f64) {
+fn bits(w: u64) {
     text(b" ");
-    io::print_hex(1, f64::to_bits(x), 16);
+    io::print_hex(1, w, 16);
+}
+
+// A float's bits; a NaN has none that are compared.
+fn float(x: f64) {
+    if x == x {
+        bits(f64::to_bits(x));
+    } else {
+        text(b" nan");
+    }
 }
 
 fn show_floats(values: &[f64]) {

@@ -188,3 +188,11 @@ pub ruleset lists = (kept-refused, kept-accepted, built-refused, built-accepted)
 pub appended-part : {A : Type 0} (new : List A) (from to : ℕ) (old out : List A) → Appended new from to old out → from ≤ length old → take (to - from) (drop from out) ≡ new
 appended-part {A} new from to old out a h =
     part-mid from to (take from old) new (drop to out) out (sym (take-append-drop to out) ∙ ap (λ (t : List A). t ++ drop to out) (a .list)) (length-take-le from old h) (a .next)
+
+-- a list whose first n places are written, cleared past them
+pub cleared-front : {A : Type 0} (z : A) (n : ℕ) (f : ℕ → A) (front old last : List A) → front ≡ each f n → n ≤ length old → last ≡ padded z (length (front ++ drop n old)) (take n (front ++ drop n old)) → last ≡ padded z (length old) (each f n)
+cleared-front z n f front old last e h q =
+    let long : length front ≡ n = ap length e ∙ length-each f n in
+    let whole : length (front ++ drop n old) ≡ length old = omega (arith, length-append front (drop n old), length-drop n old) in
+    let first : take n (front ++ drop n old) ≡ front = take-at front (drop n old) n long in
+    q ∙ ap₂ (λ (k : ℕ) (l : List _). padded z k l) whole (first ∙ e)

@@ -9,7 +9,7 @@ use lib.Ieee.{Float, binary64, add, mul}
 use Rattle.hybit_core.specs.Floats.{zero64}
 use Rattle.lent.specs.Lists.{consIf}
 use Rattle.word.specs.Bits.{below, both, wordsOf}
-use Rattle.word.proofs.BelowLaws.{below-cong, below-zero, below-snoc, length-below-parts}
+use Rattle.word.proofs.BelowLaws.{below-cong, length-below-parts, fold-below}
 use Rattle.word.proofs.BitLaws.{wordsOf-cong}
 use Rattle.csr32.specs.Csr.{Entry, present, merged}
 use Rattle.metadata_first.specs.Dot.{sumOver, dotOf, threeOf, demanded}
@@ -17,19 +17,9 @@ use Rattle.metadata_first.specs.Dot.{sumOver, dotOf, threeOf, demanded}
 pub sum-cong : (n : ℕ) (p : ℕ → Bool) (v w x y : ℕ → Float) → ((c : ℕ) → c < n → p c ≡ true → v c ≡ w c) → ((c : ℕ) → c < n → p c ≡ true → x c ≡ y c)
     → sumOver (below p n) v x ≡ sumOver (below p n) w y
 unfolding sumOver
-sum-cong zero p v w x y hv hx = ap (λ (l : List ℕ). sumOver l v x) (below-zero p) ∙ sym (ap (λ (l : List ℕ). sumOver l w y) (below-zero p))
-sum-cong (suc n) p v w x y hv hx =
-    ap (λ (l : List ℕ). sumOver l v x) (below-snoc p n) ∙ foldl-append (term v x) zero64 (below p n) (consIf (p n) n [])
-    ∙ ap (λ (s : Float). foldl (term v x) s (consIf (p n) n [])) (sum-cong n p v w x y (λ c l. hv c (omega arith)) (λ c l. hx c (omega arith)))
-    ∙ last (p n) refl (sumOver (below p n) w y)
-    ∙ sym (ap (λ (l : List ℕ). sumOver l w y) (below-snoc p n) ∙ foldl-append (term w y) zero64 (below p n) (consIf (p n) n []))
-  where
-    term : (ℕ → Float) → (ℕ → Float) → Float → ℕ → Float
-    term v x s c = add binary64 s (mul binary64 (v c) (x c))
-
-    last : (t : Bool) → p n ≡ t → (s : Float) → foldl (term v x) s (consIf t n []) ≡ foldl (term w y) s (consIf t n [])
-    last true e s = ap₂ (λ (f g : Float). add binary64 s (mul binary64 f g)) (hv n (omega arith) e) (hx n (omega arith) e)
-    last false e s = refl
+sum-cong n p v w x y hv hx =
+    fold-below (λ (s : Float) (c : ℕ). add binary64 s (mul binary64 (v c) (x c))) (λ (s : Float) (c : ℕ). add binary64 s (mul binary64 (w c) (y c))) p n zero64
+    (λ s c l e. ap₂ (λ (f g : Float). add binary64 s (mul binary64 f g)) (hv c l e) (hx c l e))
 
 -- what demand 3 speaks of depends on the columns that are both present and active
 module _ (n : ℕ) (p q a b : ℕ → Bool) (v w x y : ℕ → Float) where

@@ -1,5 +1,5 @@
 -- An accepted build: its store is accepted by `check`, is what the lent lists hand on, has the merged values, and its pruned dot
--- is what demand 3 wants. Assumes nothing.
+-- is what demand 3 wants, so nothing that masked plots hold reaches it. Assumes nothing.
 use mathlib.Core.Bool.{Bool, true, _&&_}
 use mathlib.Core.List.{List}
 use mathlib.Core.Path.{_≡_, refl, sym, ap, ap₂, _∙_}
@@ -23,8 +23,9 @@ use Rattle.topology.proofs.TopologyLaws.{accepted-facts, topology-pointers, top
 use Rattle.topology_build.specs.Build.{topologyFrom}
 use Rattle.topology_build.proofs.AnswerLaws.{built-accepted as words-accepted}
 use Rattle.metadata_first.specs.Store.{Store, packedOf, valueAt, storeSizes, storeFaults, storeAnswer}
-use Rattle.metadata_first.specs.Dot.{dotOf, dotOn, operandsAnswer, dotAnswer, sparseDotRow, threeOf}
+use Rattle.metadata_first.specs.Dot.{dotOf, dotOn, operandsAnswer, dotAnswer, sparseDotRow, threeOf, demanded}
 use Rattle.metadata_first.proofs.DotLaws.{demanded-three}
+use Rattle.metadata_first.proofs.ActiveLaws.{entriesIn, demanded-same}
 use Rattle.metadata_first.proofs.StoreLaws.{value-of-packed, dot-of-packed, packed-checked}
 use Rattle.metadata_first_build.specs.Pack.{storeOf, StoreRoom, packAnswer, packed, prunedDot, wanted}
 use Rattle.metadata_first_build.proofs.RowsLaws.{store-long, columns-in}
@@ -86,3 +87,15 @@ module _ (m : Csr) (room : StoreRoom) (e : packAnswer m room ≡ accepted) where
     -- packing and the dot give what the matrix itself has
     pub pruned-dot : prunedDot m room a x r ≡ gives (wanted m a x r)
     pruned-dot = ap (onGiven threeOf) built-dot ∙ ap gives (demanded-three (m .cols) (entries m r) (active a) (at x))
+
+-- two matrices of one frame, both accepted for packing, whose rows r have the same active entries, and two vectors that agree at
+-- active columns: the pruned dots of row r give the same three
+pub two-runs : (m n : Csr) (rm rn : StoreRoom) → packAnswer m rm ≡ accepted → packAnswer n rn ≡ accepted → m .rows ≡ n .rows → m .cols ≡ n .cols
+    → (a : Mask) (x y : List Float) (r : ℕ) → maskRules a ≡ true → a .size ≡ m .cols → length x ≡ m .cols → length y ≡ m .cols → r < m .rows
+    → entriesIn (active a) (entries m r) ≡ entriesIn (active a) (entries n r) → ((c : ℕ) → active a c ≡ true → at x c ≡ at y c)
+    → prunedDot m rm a x r ≡ prunedDot n rn a y r
+two-runs m n rm rn em en rows cols a x y r va la lx ly h same agree =
+    let k : r < n .rows = omega arith in
+    pruned-dot m rm em a x r va la lx h
+    ∙ ap gives (demanded-same (m .cols) (entries m r) (entries n r) (active a) (at x) (at y) same (λ c l e. agree c e) ∙ ap (λ (w : ℕ). demanded w (entries n r) (active a) (at y)) cols)
+    ∙ sym (pruned-dot n rn en a y r va (la ∙ cols) (ly ∙ cols) k)

@@ -20,7 +20,7 @@ use Rattle.hybit_core.proofs.AnswerLaws.{demand-accepted, then-first, then-seco
 use Rattle.lent.specs.Lists.{part, each}
 use Rattle.lent.specs.Lent.{padded}
 use Rattle.lent.proofs.ListLaws.{length-each}
-use Rattle.lent.proofs.LentLaws.{Filled, filled-none, filled-more, filled-length, filled-done}
+use Rattle.lent.proofs.LentLaws.{Filled, filled-none, filled-more, filled-length, filled-done, cleared-front}
 use Rattle.word.specs.Bits.{count, both}
 use Rattle.word.proofs.BelowLaws.{rank-lt, length-below-le}
 use Rattle.mask.specs.Mask.{Mask, asMask, active, maskRules, maskAnswer}
@@ -227,14 +227,7 @@ module _ (s : Store) (a : Mask) (x : List Float) (v : Verdict) (ac : v ≡ Accep
     pub counts-room : s .words .rows ≤ counts
     counts-room = leb-true (s .words .rows) counts (and-right (leb (s .words .rows) sums) (leb (s .words .rows) counts) room)
 
--- ---- a list whose first n places are written, cleared past them
-
-cleared-front : {A : Type 0} (z : A) (n : ℕ) (f : ℕ → A) (front old last : List A) → front ≡ each f n → n ≤ length old → last ≡ padded z (length (front ++ drop n old)) (take n (front ++ drop n old)) → last ≡ padded z (length old) (each f n)
-cleared-front z n f front old last e h q =
-    let long : length front ≡ n = ap length e ∙ length-each f n in
-    let whole : length (front ++ drop n old) ≡ length old = omega (arith, length-append front (drop n old), length-drop n old) in
-    let first : take n (front ++ drop n old) ≡ front = take-at front (drop n old) n long in
-    q ∙ ap₂ (λ (k : ℕ) (l : List _). padded z k l) whole (first ∙ e)
+-- ---- the lists that the rows' dots leave
 
 module _ (s : Store) (a : Mask) (x : List Float) where
   pub sums-built : (front old last : List Float) → front ≡ rowSums s a x → s .words .rows ≤ length old → last ≡ padded zero64 (length (front ++ drop (s .words .rows) old)) (take (s .words .rows) (front ++ drop (s .words .rows) old))

@@ -16,7 +16,7 @@ use Rattle.hybit_core.proofs.BoolLaws.{and-left, and-right, and-both}
 use Rattle.lent.specs.Lists.{consIf}
 use Rattle.lent.proofs.ListLaws.{foldl-map}
 use Rattle.word.specs.Bits.{has, below, count, both, within, members, wordOf, maskOf, hit, ceil64, wordsOf}
-use Rattle.word.proofs.BelowLaws.{below-zero, below-snoc, below-cong, below-trim, below-block, length-below-suc, length-below-le, length-below-parts, rank-lt}
+use Rattle.word.proofs.BelowLaws.{below-zero, below-snoc, below-cong, below-trim, below-block, length-below-suc, length-below-le, length-below-parts, rank-lt, fold-below}
 use Rattle.word.proofs.BitLaws.{has-mask-of, has-mask-at, has-none, within-in, every-below}
 use Rattle.word.proofs.OpLaws.{intersection-is}
 use Rattle.word.proofs.WordLaws.{mask-both, mask-none}
@@ -29,19 +29,6 @@ use Rattle.topology.proofs.FrontLaws.{Front, front-none, Next, next, Placed, pl
 use Rattle.metadata_first.specs.declared.AbtmRowDot.{AbtmRowDot}
 use Rattle.metadata_first.specs.Dot.{sumOver, dotOf}
 use Rattle.metadata_first_dot.specs.Walk.{wordSum, wordInside, RowReady, rowDot}
-
--- two steps that agree on the numbers of a list give one fold
-fold-cong : (f g : Float → ℕ → Float) (q : ℕ → Bool) (n : ℕ) (s : Float) → ((t : Float) (i : ℕ) → i < n → f t i ≡ g t i) → foldl f s (below q n) ≡ foldl g s (below q n)
-fold-cong f g q zero s h = ap (foldl f s) (below-zero q) ∙ sym (ap (foldl g s) (below-zero q))
-fold-cong f g q (suc n) s h =
-    ap (foldl f s) (below-snoc q n) ∙ foldl-append f s (below q n) (consIf (q n) n [])
-    ∙ ap (λ (t : Float). foldl f t (consIf (q n) n [])) (fold-cong f g q n s (λ t i l. h t i (omega arith)))
-    ∙ last (q n) (foldl g s (below q n))
-    ∙ sym (ap (foldl g s) (below-snoc q n) ∙ foldl-append g s (below q n) (consIf (q n) n []))
-  where
-    last : (b : Bool) (t : Float) → foldl f t (consIf b n []) ≡ foldl g t (consIf b n [])
-    last true t = h t n (omega arith)
-    last false t = refl
 
 -- the product of column c added, its value at the rank of c
 abbrev added : (ℕ → Bool) → List Float → List Float → Float → ℕ → Float
@@ -174,8 +161,8 @@ module _ (p a : ℕ → Bool) (n : ℕ) where
         unfolding wordSum members
         sum-more =
             let f : Float → ℕ → Float = added (within n p) vals x in
-            fold-cong (λ (s : Float) (j : ℕ). add binary64 s (mul binary64 (getD vals (candidate + count (has m) j) nan) (at x (64 * w + j)))) (λ (s : Float) (j : ℕ). f s (64 * w + j)) (has b) 64 sum
-            (λ s j l. ap (λ (k : ℕ). add binary64 s (mul binary64 (getD vals k nan) (at x (64 * w + j)))) (place-is j (omega arith)))
+            fold-below (λ (s : Float) (j : ℕ). add binary64 s (mul binary64 (getD vals (candidate + count (has m) j) nan) (at x (64 * w + j)))) (λ (s : Float) (j : ℕ). f s (64 * w + j)) (has b) 64 sum
+            (λ s j l y. ap (λ (k : ℕ). add binary64 s (mul binary64 (getD vals k nan) (at x (64 * w + j)))) (place-is j (omega arith)))
             ∙ sym (foldl-map f (λ (j : ℕ). 64 * w + j) sum (below (has b) 64))
             ∙ ap₂ (λ (s : Float) (k : ℕ). foldl f s (map (λ (j : ℕ). 64 * w + j) (below (has k) 64))) (d .sum-is ∙ sym (ap (foldl f zero64) (skip-both (d .next-word) w (the-next .after) (the-next .skipped)))) e
             ∙ sym (foldl-append f zero64 (below (within n (both p a)) (64 * w)) (map (λ (j : ℕ). 64 * w + j) (members (maskOf (both p a) n w))))
@@ -200,7 +187,7 @@ module _ (p a : ℕ → Bool) (n : ℕ) where
             let f : Float → ℕ → Float = added (within n p) vals x in
             d .sum-is
             ∙ ap (foldl f zero64) (sym (skip-both (d .next-word) (ceil64 n) (d .front .inside) (ended p n i (d .next-word) (d .front) l)) ∙ frame (both p a))
-            ∙ fold-cong f (added p vals x) (both p a) n zero64 (λ s c u. ap (λ (k : ℕ). add binary64 s (mul binary64 (getD vals k nan) (at x c))) (sym (count-frame p n c (omega arith))))
+            ∙ fold-below f (added p vals x) (both p a) n zero64 (λ s c u y. ap (λ (k : ℕ). add binary64 s (mul binary64 (getD vals k nan) (at x c))) (sym (count-frame p n c (omega arith))))
 
         candidate-all : candidate ≡ count p n
         candidate-all = d .candidate-is ∙ ap length (sym (skip-columns (d .next-word) (ceil64 n) (d .front .inside) (ended p n i (d .next-word) (d .front) l)) ∙ frame p)

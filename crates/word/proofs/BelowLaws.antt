@@ -1,6 +1,6 @@
 -- Laws of `below p n`, the ascending list of the positions below n at which p holds, for any test p. Assumes nothing.
 use mathlib.Core.Bool.{Bool, true, false, not, _&&_, _||_}
-use mathlib.Core.List.{List, [], _∷_, _++_, map, append-nil}
+use mathlib.Core.List.{List, [], _∷_, _++_, map, foldl, foldl-append, append-nil}
 use mathlib.Core.Path.{_≡_, refl, sym, ap, ap₂, _∙_, subst}
 use Prim.Native.Nat.{ℕ, zero, suc, _+_, _-_, _≤_, _<_, zero-le}
 use native.Mathlib.Nat.{add-zero, add-suc, suc-add, zero-add, sub-zero, le-refl, not-suc-le-zero}
@@ -287,3 +287,16 @@ selected-small p n k c e = go (decLt k (count p n))
     go : Dec (k < count p n) → c < n
     go (yes h) = omega (arith, is c (getD (below p n) k 0) (e ∙ selected-at p n k 0 h), selects p n k h .bound)
     go (no h) = let z : suc c ≡ 0 = ap value (e ∙ selected-nothing p n k (omega arith)) in absurd (omega arith)
+
+-- two steps that agree at the numbers that pass give one fold
+pub fold-below : {B : Type 0} (f g : B → ℕ → B) (p : ℕ → Bool) (n : ℕ) (s : B) → ((t : B) (i : ℕ) → i < n → p i ≡ true → f t i ≡ g t i) → foldl f s (below p n) ≡ foldl g s (below p n)
+fold-below f g p zero s h = ap (foldl f s) (below-zero p) ∙ sym (ap (foldl g s) (below-zero p))
+fold-below {B} f g p (suc n) s h =
+    ap (foldl f s) (below-snoc p n) ∙ foldl-append f s (below p n) (consIf (p n) n [])
+    ∙ ap (λ (t : B). foldl f t (consIf (p n) n [])) (fold-below f g p n s (λ t i l. h t i (omega arith)))
+    ∙ last (p n) refl (foldl g s (below p n))
+    ∙ sym (ap (foldl g s) (below-snoc p n) ∙ foldl-append g s (below p n) (consIf (p n) n []))
+  where
+    last : (b : Bool) → p n ≡ b → (t : B) → foldl f t (consIf b n []) ≡ foldl g t (consIf b n [])
+    last true e t = h t n (omega arith) e
+    last false e t = refl

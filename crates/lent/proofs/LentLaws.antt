@@ -15,7 +15,7 @@ use Rattle.hybit_core.specs.declared.HybitError.{HybitError}
 use Rattle.hybit_core.proofs.AnswerLaws.{accepted-by, refused-by}
 use Rattle.lent.specs.Lists.{joined, each}
 use Rattle.lent.specs.Lent.{padded, built, kept, handed, Appended}
-use Rattle.lent.proofs.ListLaws.{length-each, part-mid}
+use Rattle.lent.proofs.ListLaws.{length-each, part-mid, zeros-front}
 
 -- ---- padded
 
@@ -196,3 +196,18 @@ cleared-front z n f front old last e h q =
     let whole : length (front ++ drop n old) ≡ length old = omega (arith, length-append front (drop n old), length-drop n old) in
     let first : take n (front ++ drop n old) ≡ front = take-at front (drop n old) n long in
     q ∙ ap₂ (λ (k : ℕ) (l : List _). padded z k l) whole (first ∙ e)
+
+-- ---- lists of zeros, and what is written to their fronts
+
+module _ {A : Type 0} (z : A) where
+  drop-zeros : (k n : ℕ) → drop k (replicate n z) ≡ replicate (n - k) z
+  drop-zeros zero n = ap (λ (i : ℕ). replicate i z) (sym (sub-zero n))
+  drop-zeros (suc k) zero = let e : 0 - suc k ≡ 0 = omega arith in ap (λ (i : ℕ). replicate i z) (sym e)
+  drop-zeros (suc k) (suc n) = let e : suc n - suc k ≡ n - k = omega arith in drop-zeros k n ∙ ap (λ (i : ℕ). replicate i z) (sym e)
+
+  pub front-zeros : (k n : ℕ) (l : List A) → l ≡ padded z n [] → k ≤ n → take k l ≡ replicate k z
+  front-zeros k n l e h = ap (take k) (e ∙ padded-none z n) ∙ zeros-front z k n h
+
+  pub written-front : (k n : ℕ) (l new : List A) → l ≡ padded z n [] → length new ≡ k → new ++ drop k l ≡ padded z n new
+  unfolding padded
+  written-front k n l new e h = ap (λ (t : List A). new ++ t) (ap (drop k) (e ∙ padded-none z n) ∙ drop-zeros k n ∙ ap (λ (i : ℕ). replicate (n - i) z) (sym h))

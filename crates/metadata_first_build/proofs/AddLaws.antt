@@ -14,41 +14,12 @@ use Rattle.hybit_core.specs.Floats.{zero64}
 use Rattle.lent.specs.Lists.{every}
 use Rattle.lent.proofs.ListLaws.{getD-map-lt, some-getD}
 use Rattle.word.specs.Bits.{has, below, count}
-use Rattle.word.proofs.BelowLaws.{length-below-le, rank-lt, selects, below-at-rank}
+use Rattle.word.proofs.BelowLaws.{length-below-le, rank-lt, selects, below-at-rank, at-rank, set-rank}
 use Rattle.csr32.specs.Csr.{present, merged}
 use Rattle.csr32.proofs.CsrLaws.{present-columns, column-below}
 use Rattle.metadata_first_merge.specs.Merge.{rowValues}
 use Rattle.csr32.proofs.MergedLaws.{addIf, merged-none, merged-more, firsts-all}
 use Rattle.metadata_first_build.specs.Ranks.{Ranks}
-
--- ---- a function over the columns of a test
-
-module _ {A : Type 0} (f : ℕ → A) (p : ℕ → Bool) (n c : ℕ) (d : A) (h : c < n) (e : p c ≡ true) where
-  at-rank : getD (map f (below p n)) (count p c) d ≡ f c
-  at-rank = getD-map-lt f (below p n) (count p c) 0 d (rank-lt p c n h e) ∙ ap f (below-at-rank p n c h e)
-
-  -- where it changes at column c alone, the list changes at the column's rank
-  set-rank : (g : ℕ → A) → ((i : ℕ) → (i ≡ c → ⊥) → g i ≡ f i) → set (map f (below p n)) (count p c) (g c) ≡ map g (below p n)
-  set-rank g s = ext-getD d (set (map f (below p n)) (count p c) (g c)) (map g (below p n)) (length-set (map f (below p n)) (count p c) (g c) ∙ length-map (below p n) f ∙ sym (length-map (below p n) g)) places
-    where
-      places : (j : ℕ) → j < length (set (map f (below p n)) (count p c) (g c)) → getD (set (map f (below p n)) (count p c) (g c)) j d ≡ getD (map g (below p n)) j d
-      places j b = go (decLt j (count p c)) (decLt (count p c) j)
-        where
-          inside : j < count p n
-          inside = omega (arith, length-set (map f (below p n)) (count p c) (g c), length-map (below p n) f)
-
-          other : (j ≡ count p c → ⊥) → getD (set (map f (below p n)) (count p c) (g c)) j d ≡ getD (map g (below p n)) j d
-          other q =
-              getD-set-other (map f (below p n)) (count p c) j (g c) d q ∙ getD-map-lt f (below p n) j 0 d inside
-              ∙ sym (s (getD (below p n) j 0) (λ k. q (sym (selects p n j inside .ranked) ∙ ap (count p) k))) ∙ sym (getD-map-lt g (below p n) j 0 d inside)
-
-          go : Dec (j < count p c) → Dec (count p c < j) → getD (set (map f (below p n)) (count p c) (g c)) j d ≡ getD (map g (below p n)) j d
-          go (yes x) y = other (λ q. omega arith)
-          go (no x) (yes y) = other (λ q. omega arith)
-          go (no x) (no y) =
-              let q : j ≡ count p c = omega arith in
-              ap (λ (i : ℕ). getD (set (map f (below p n)) (count p c) (g c)) i d) q ∙ getD-set-same (map f (below p n)) (count p c) (g c) d (omega (arith, length-map (below p n) f, rank-lt p c n h e))
-              ∙ sym (ap (λ (i : ℕ). getD (map g (below p n)) i d) q ∙ getD-map-lt g (below p n) (count p c) 0 d (rank-lt p c n h e) ∙ ap g (below-at-rank p n c h e))
 
 -- ---- the first k entries are added
 

@@ -20,7 +20,7 @@ use Rattle.hybit_core.proofs.BoolLaws.{and-left, and-right, and-both, flag-on, 
 use Rattle.hybit_core.proofs.AnswerLaws.{demand-accepted, then-first, then-second, accepted-by, refused-by}
 use Rattle.lent.specs.Lists.{every}
 use Rattle.lent.specs.Lent.{padded, built}
-use Rattle.lent.proofs.LentLaws.{padded-none, handed-used}
+use Rattle.lent.proofs.LentLaws.{padded-none, handed-used, front-zeros, written-front}
 use Rattle.csr32.specs.Csr.{Csr, csrAnswer, entries, present}
 use Rattle.csr32.proofs.CsrLaws.{valid}
 use Rattle.topology.specs.Calls.{asRoom, fitsWords, usedOf, toldTopology}
@@ -51,26 +51,6 @@ refuse-first m v e t k = sym (ap (λ (a : Answer). refuses (lastRefusal a)) (ref
 
 pub refuse-last : (m : Csr) (v : Verdict) → told v ≡ mergeAnswer m → v ≡ verdict.Accepted → _≡_ {A = Given (ℕ × ℕ)} (refuses (plain 13)) (refuses (lastRefusal (mergeAnswer m)))
 refuse-last m v t k = sym (ap (λ (a : Answer). refuses (lastRefusal a)) (accepted-by (mergeAnswer m) v t k))
-
--- ---- lists of zeros, and what is written to their fronts
-
-module _ {A : Type 0} (z : A) where
-  take-zeros : (k n : ℕ) → k ≤ n → take k (replicate n z) ≡ replicate k z
-  take-zeros zero n h = refl
-  take-zeros (suc k) zero h = absurd (omega arith)
-  take-zeros (suc k) (suc n) h = ap (λ (l : List A). z ∷ l) (take-zeros k n (omega arith))
-
-  drop-zeros : (k n : ℕ) → drop k (replicate n z) ≡ replicate (n - k) z
-  drop-zeros zero n = ap (λ (i : ℕ). replicate i z) (sym (sub-zero n))
-  drop-zeros (suc k) zero = let e : 0 - suc k ≡ 0 = omega arith in ap (λ (i : ℕ). replicate i z) (sym e)
-  drop-zeros (suc k) (suc n) = let e : suc n - suc k ≡ n - k = omega arith in drop-zeros k n ∙ ap (λ (i : ℕ). replicate i z) (sym e)
-
-  front-zeros : (k n : ℕ) (l : List A) → l ≡ padded z n [] → k ≤ n → take k l ≡ replicate k z
-  front-zeros k n l e h = ap (take k) (e ∙ padded-none z n) ∙ take-zeros k n h
-
-  written : (k n : ℕ) (l new : List A) → l ≡ padded z n [] → length new ≡ k → new ++ drop k l ≡ padded z n new
-  unfolding padded
-  written k n l new e h = ap (λ (t : List A). new ++ t) (ap (drop k) (e ∙ padded-none z n) ∙ drop-zeros k n ∙ ap (λ (i : ℕ). replicate (n - i) z) (sym h))
 
 -- ---- the store that is built
 
@@ -248,7 +228,7 @@ module _ (m : Csr) (np nw nm nv nx : ℕ) where
                       ew ∙ ap (λ (a : Answer). built 0 nw a (topologyFrom m .word)) (words-made .0),
                       (
                         em ∙ ap (λ (a : Answer). built 0 nm a (topologyFrom m .mask)) (words-made .0),
-                        (written 0 (m .rows + 1) nv ov ov1 ev (ap length ev1 ∙ store-rows m) ∙ ap (padded 0 nv) ev1, written zero64 n nx ox ox1 ex values-long ∙ ap (padded zero64 nx) ex1),
+                        (written-front 0 (m .rows + 1) nv ov ov1 ev (ap length ev1 ∙ store-rows m) ∙ ap (padded 0 nv) ev1, written-front zero64 n nx ox ox1 ex values-long ∙ ap (padded zero64 nx) ex1),
                       ),
                     ),
                   ),

@@ -7,10 +7,11 @@ use native.Mathlib.Nat.{add-zero, add-suc, suc-add, zero-add, sub-zero, le-refl,
 use native.Mathlib.Decide.{le-ind, decLt}
 use native.Mathlib.Omega.{arith}
 use mathlib.Core.Option.{Option, none, some}
-use lib.ListN.{length, getD, getElem?, length-append, length-map, List·getD-append}
-use lib.Seq.{getD-at, getD-append-seam}
+use lib.ListN.{length, getD, getElem?, set, length-set, length-append, length-map, List·getD-append}
+use lib.Seq.{ext-getD, getD-set-same, getD-set-other, getD-at, getD-append-seam}
 use mir.Val.{boolByte}
 use Rattle.lent.specs.Lists.{consIf}
+use Rattle.lent.proofs.ListLaws.{getD-map-lt}
 use Rattle.word.specs.Bits.{from, below, between, count, selected}
 
 consIf-append : (t : Bool) (i : ℕ) (l r : List ℕ) → consIf t i (l ++ r) ≡ consIf t i l ++ r
@@ -300,3 +301,32 @@ fold-below {B} f g p (suc n) s h =
     last : (b : Bool) → p n ≡ b → (t : B) → foldl f t (consIf b n []) ≡ foldl g t (consIf b n [])
     last true e t = h t n (omega arith) e
     last false e t = refl
+
+-- ---- a function over the numbers that pass
+
+module _ {A : Type 0} (f : ℕ → A) (p : ℕ → Bool) (n c : ℕ) (d : A) (h : c < n) (e : p c ≡ true) where
+  pub at-rank : getD (map f (below p n)) (count p c) d ≡ f c
+  at-rank = getD-map-lt f (below p n) (count p c) 0 d (rank-lt p c n h e) ∙ ap f (below-at-rank p n c h e)
+
+  -- where it changes at c alone, the list changes at the rank of c
+  pub set-rank : (g : ℕ → A) → ((i : ℕ) → (i ≡ c → ⊥) → g i ≡ f i) → set (map f (below p n)) (count p c) (g c) ≡ map g (below p n)
+  set-rank g s = ext-getD d (set (map f (below p n)) (count p c) (g c)) (map g (below p n)) (length-set (map f (below p n)) (count p c) (g c) ∙ length-map (below p n) f ∙ sym (length-map (below p n) g)) places
+    where
+      places : (j : ℕ) → j < length (set (map f (below p n)) (count p c) (g c)) → getD (set (map f (below p n)) (count p c) (g c)) j d ≡ getD (map g (below p n)) j d
+      places j b = go (decLt j (count p c)) (decLt (count p c) j)
+        where
+          inside : j < count p n
+          inside = omega (arith, length-set (map f (below p n)) (count p c) (g c), length-map (below p n) f)
+
+          other : (j ≡ count p c → ⊥) → getD (set (map f (below p n)) (count p c) (g c)) j d ≡ getD (map g (below p n)) j d
+          other q =
+              getD-set-other (map f (below p n)) (count p c) j (g c) d q ∙ getD-map-lt f (below p n) j 0 d inside
+              ∙ sym (s (getD (below p n) j 0) (λ k. q (sym (selects p n j inside .ranked) ∙ ap (count p) k))) ∙ sym (getD-map-lt g (below p n) j 0 d inside)
+
+          go : Dec (j < count p c) → Dec (count p c < j) → getD (set (map f (below p n)) (count p c) (g c)) j d ≡ getD (map g (below p n)) j d
+          go (yes x) y = other (λ q. omega arith)
+          go (no x) (yes y) = other (λ q. omega arith)
+          go (no x) (no y) =
+              let q : j ≡ count p c = omega arith in
+              ap (λ (i : ℕ). getD (set (map f (below p n)) (count p c) (g c)) i d) q ∙ getD-set-same (map f (below p n)) (count p c) (g c) d (omega (arith, length-map (below p n) f, rank-lt p c n h e))
+              ∙ sym (ap (λ (i : ℕ). getD (map g (below p n)) i d) q ∙ getD-map-lt g (below p n) (count p c) 0 d (rank-lt p c n h e) ∙ ap g (below-at-rank p n c h e))

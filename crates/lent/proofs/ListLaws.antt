@@ -354,10 +354,6 @@ module _ {A : Type 0} (p : A → Bool) where
   some-getD [] k d h e = absurd (not-suc-le-zero h)
   some-getD (a ∷ l) zero d h e = ap (λ (t : Bool). t || some p l) e
   some-getD (a ∷ l) (suc k) d h e = ap (λ (t : Bool). p a || t) (some-getD l k d (omega arith) e) ∙ or-true (p a)
-    where
-      or-true : (t : Bool) → (t || true) ≡ true
-      or-true true = refl
-      or-true false = refl
 
 -- the places from a to b, as a part of a list in three parts
 pub part-mid : {A : Type 0} (a b : ℕ) (front mid rest l : List A) → l ≡ (front ++ mid) ++ rest → length front ≡ a → b ≡ a + length mid → take (b - a) (drop a l) ≡ mid

@@ -1,5 +1,5 @@
 -- What the loops and stores of the calls do to a mask. Assumes nothing.
-use mathlib.Core.Bool.{Bool, true, false, not, cond, _&&_, _||_, or-false}
+use mathlib.Core.Bool.{Bool, true, false, not, cond, _&&_, _||_, or-false, and-false}
 use mathlib.Core.List.{List, [], _∷_, _++_, map}
 use mathlib.Core.Path.{_≡_, refl, sym, ap, ap₂, _∙_, subst}
 use Prim.Native.Nat.{ℕ, suc, _+_, _-_, _*_, _/_, _%_, _^_, _≤_, _<_}
@@ -27,7 +27,7 @@ use Rattle.word.specs.declared.Operation.the-variants.{Union, Intersection, And
 use Rattle.word.proofs.BelowLaws.{below-zero, below-block, length-below-mono, below-trim, below-cong, length-below-le, length-block, rank-lt}
 use Rattle.word.proofs.BitLaws.{has-none, has-mask-of, count-cong, within-cong, within-in, number-lt}
 use Rattle.word.proofs.LowestLaws.{none, lowest-has, lowest-lt}
-use Rattle.word.proofs.OpLaws.{word-is, word-cong, has-word}
+use Rattle.word.proofs.OpLaws.{word-is, word-cong, has-word, combined-none}
 use Rattle.mask.specs.Mask.{asMask, bitAt, active, maskWords, maskRules, maskAnswer}
 use Rattle.mask.specs.Calls.{newAnswer, fromIndicesAnswer, listed, setAnswer, changed, indicesAnswer, pairAnswer, joinedWord}
 use Rattle.mask.proofs.MaskLaws.{Valid, valid, rules-valid, bit-in, active-is, word-bit, active-within, words-are, members-are, length-words, word-of-words}
@@ -133,12 +133,8 @@ pub empty-words : (n : ℕ) → maskWords (λ c. false) n ≡ replicate (ceil64 
 unfolding maskWords maskOf
 empty-words n = each-cong (λ w. wordOf (λ i. within n (λ c. false) (64 * w + i))) (λ w. 0) (ceil64 n) (λ w h. none w) ∙ each-same 0 (ceil64 n)
   where
-    off : (t : Bool) → (t && false) ≡ false
-    off true = refl
-    off false = refl
-
     none : (w : ℕ) → wordOf (λ i. within n (λ c. false) (64 * w + i)) ≡ 0
-    none w = sym (word-is 0 (λ i. within n (λ c. false) (64 * w + i)) (lit< tt) (λ i b. has-none i ∙ sym (off (ltb (64 * w + i) n))))
+    none w = sym (word-is 0 (λ i. within n (λ c. false) (64 * w + i)) (lit< tt) (λ i b. has-none i ∙ sym (and-false (ltb (64 * w + i) n))))
 
 -- no index: all zeros, used or not
 pub new-is : (n room : ℕ) → ceil64 n ≤ room → padded 0 room [] ≡ padded 0 room (maskWords (λ c. false) n)
@@ -301,12 +297,6 @@ module _ (o : Operation) (ws us : List ℕ) where
 
     pub combining-done : length ws ≤ k → out ≡ each (λ w. wordOf (λ i. combined o (has (getD ws w 0) i) (has (getD us w 0) i))) (length ws)
     combining-done h = filled-done _ ws k out (inv .filled) (length ws) refl (inv .inside) h
-
-combined-none : (o : Operation) → combined o false false ≡ false
-combined-none Union = refl
-combined-none Intersection = refl
-combined-none AndNot = refl
-combined-none Xor = refl
 
 module _ (n : ℕ) (ws us : List ℕ) (a : Valid n ws) (b : Valid n us) where
   pub combine-are : (o : Operation) → each (λ w. wordOf (λ i. combined o (has (getD ws w 0) i) (has (getD us w 0) i))) (length ws) ≡ maskWords (λ c. combined o (active (asMask n ws) c) (active (asMask n us) c)) n

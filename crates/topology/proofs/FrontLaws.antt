@@ -14,15 +14,12 @@ use mir.Val.{boolByte}
 use borrow.Author.Tests.{ltb-true}
 use Rattle.hybit_core.proofs.BoolLaws.{and-left, and-right}
 use Rattle.word.specs.Bits.{has, below, count, selected, within, maskOf, hit, ceil64, wordsOf}
-use Rattle.word.proofs.BelowLaws.{below-zero, below-cong, length-below-suc, length-below-mono, length-below-le, rank-lt, Selects, selects, length-block, below-trim, selected-finds, selected-nothing, selected-of-rank}
+use Rattle.word.proofs.BelowLaws.{below-zero, below-cong, length-below-suc, length-below-mono, length-below-le, rank-lt, Selects, selects, length-block, below-trim, selected-finds, selected-nothing, selected-of-rank, some-is}
 use Rattle.word.proofs.LowestLaws.{none as none-in}
 use Rattle.word.proofs.BitLaws.{within-in, has-mask-of}
 use Rattle.word.proofs.WordLaws.{mask-none}
 use Rattle.lent.proofs.ListLaws.{getD-map-lt}
 use Rattle.topology.proofs.RowLaws.{Row}
-
-pub some-is : (a b : ℕ) → _≡_ {A = Option ℕ} (some a) (some b) → a ≡ b
-some-is a b e = cc
 
 module _ (p : ℕ → Bool) (n : ℕ) where
   -- ---- words

@@ -8,11 +8,10 @@ use native.Mathlib.Decide.{decLt}
 use native.Mathlib.Omega.{arith}
 use Rattle.lent.specs.Lists.{part}
 use Rattle.word.specs.Bits.{count}
-use Rattle.word.proofs.BelowLaws.{Selects, selected-finds, selected-nothing, selected-of-rank}
+use Rattle.word.proofs.BelowLaws.{Selects, selected-finds, selected-nothing, selected-of-rank, some-is}
 use Rattle.topology.specs.Words.{Words, member, setBits}
 use Rattle.topology.specs.Calls.{rank, select}
 use Rattle.topology.proofs.RowLaws.{small}
-use Rattle.topology.proofs.FrontLaws.{some-is}
 use Rattle.topology.proofs.TopologyLaws.{Accepted, row-of, row-bits}
 
 abbrev is-some : Option ℕ → Bool

@@ -1,6 +1,6 @@
 -- What the loops over words and masks find: the rule of a word, of a row and of all rows, the bits of some masks, the mask of one
 -- word. Assumes nothing.
-use mathlib.Core.Bool.{Bool, true, false, not, cond, _&&_}
+use mathlib.Core.Bool.{Bool, true, false, not, cond, _&&_, and-false}
 use mathlib.Core.List.{List, [], _∷_, _++_, zip, zipWith}
 use mathlib.Core.Path.{_≡_, refl, sym, ap, ap₂, _∙_}
 use Prim.Native.Nat.{ℕ, suc, _+_, _-_, _*_, _/_, _%_, _^_, _≤_, _<_}
@@ -90,11 +90,7 @@ module _ (cols : ℕ) (ws ms : List ℕ) (a i : ℕ) (inv : rowRule cols ws ms �
     row-falls h = sym (row-step ∙ ap (λ (s : Bool). (s && climbs (suc w) (drop (i + 1) ws)) && (wordRule cols (w, m) && every (wordRule cols) (zip (drop (i + 1) ws) (drop (i + 1) ms)))) (lt-leb a w h))
 
     pub row-breaks : false ≡ wordRule cols (w, m) → false ≡ rowRule cols ws ms
-    row-breaks e = sym (row-step ∙ ap (λ (s : Bool). (leb a w && climbs (suc w) (drop (i + 1) ws)) && (s && every (wordRule cols) (zip (drop (i + 1) ws) (drop (i + 1) ms)))) (sym e) ∙ off (leb a w && climbs (suc w) (drop (i + 1) ws)))
-      where
-        off : (t : Bool) → (t && false) ≡ false
-        off true = refl
-        off false = refl
+    row-breaks e = sym (row-step ∙ ap (λ (s : Bool). (leb a w && climbs (suc w) (drop (i + 1) ws)) && (s && every (wordRule cols) (zip (drop (i + 1) ws) (drop (i + 1) ms)))) (sym e) ∙ and-false (leb a w && climbs (suc w) (drop (i + 1) ws)))
 
   pub row-done : length ws ≤ i → true ≡ rowRule cols ws ms
   unfolding climbs every zip zipWith

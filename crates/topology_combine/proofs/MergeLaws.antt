@@ -17,7 +17,7 @@ use Rattle.word.specs.declared.Operation.{Operation}
 use Rattle.word.specs.declared.Operation.the-variants.{Union, Intersection, AndNot, Xor}
 use Rattle.word.proofs.BelowLaws.{below-trim, below-at-rank, length-below-suc, length-below-mono, length-below-le, rank-lt}
 use Rattle.word.proofs.BitLaws.{has-mask-of, has-none}
-use Rattle.word.proofs.OpLaws.{word-is, word-cong}
+use Rattle.word.proofs.OpLaws.{word-is, word-cong, combined-none}
 use Rattle.word.proofs.WordLaws.{mask-none}
 use Rattle.topology.specs.Words.{rowMember}
 use Rattle.topology.proofs.RowLaws.{Row, row-is, small-is}
@@ -31,12 +31,6 @@ abbrev pub joint : Operation → (ℕ → Bool) → (ℕ → Bool) → ℕ → B
 joint op p q c = combined op (p c) (q c)
 
 -- no operation makes a member of none
-pub combined-none : (op : Operation) → combined op false false ≡ false
-combined-none Union = refl
-combined-none Intersection = refl
-combined-none AndNot = refl
-combined-none Xor = refl
-
 module _ (op : Operation) (p q : ℕ → Bool) (n : ℕ) where
   pub mask-joint : (w : ℕ) → maskOf (joint op p q) n w ≡ wordOf (λ i. combined op (has (maskOf p n w) i) (has (maskOf q n w) i))
   unfolding maskOf

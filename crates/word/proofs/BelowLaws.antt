@@ -273,20 +273,20 @@ selected-nothing p n k h = no-element (below p n) k h
 pub selected-of-rank : (p : ℕ → Bool) (n c : ℕ) → c < n → p c ≡ true → selected p n (count p c) ≡ some c
 selected-of-rank p n c h e = selected-at p n (count p c) 0 (rank-lt p c n h e) ∙ ap (λ (i : ℕ). some i) (below-at-rank p n c h e)
 
+pub some-is : (a b : ℕ) → _≡_ {A = Option ℕ} (some a) (some b) → a ≡ b
+some-is a b e = cc
+
 -- what is selected lies below n
 pub selected-small : (p : ℕ → Bool) (n k c : ℕ) → some c ≡ selected p n k → c < n
 unfolding selected
 selected-small p n k c e = go (decLt k (count p n))
   where
-    is : (a b : ℕ) → _≡_ {A = Option ℕ} (some a) (some b) → a ≡ b
-    is a b e = cc
-
     value : Option ℕ → ℕ
     value none = 0
     value (some a) = suc a
 
     go : Dec (k < count p n) → c < n
-    go (yes h) = omega (arith, is c (getD (below p n) k 0) (e ∙ selected-at p n k 0 h), selects p n k h .bound)
+    go (yes h) = omega (arith, some-is c (getD (below p n) k 0) (e ∙ selected-at p n k 0 h), selects p n k h .bound)
     go (no h) = let z : suc c ≡ 0 = ap value (e ∙ selected-nothing p n k (omega arith)) in absurd (omega arith)
 
 -- two steps that agree at the numbers that pass give one fold

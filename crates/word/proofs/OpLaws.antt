@@ -18,6 +18,7 @@ use lib.Seq.{getD-drop, drop-drop}
 use Rattle.word.specs.Bits.{has, below, count, number, wordOf, members, selected}
 use Rattle.word.specs.Word.{combined}
 use Rattle.word.specs.declared.Operation.{Operation}
+use Rattle.word.specs.declared.Operation.the-variants.{Union, Intersection, AndNot, Xor}
 use Rattle.word.proofs.BelowLaws.{selected-at, selected-nothing}
 use Rattle.word.proofs.HasLaws.{has-and, has-or, has-xor, has-and-not, has-past, has-pow, has-low, has-ext, shl-one, low-mask}
 use Rattle.word.proofs.BitLaws.{has-number, number-lt}
@@ -122,3 +123,10 @@ nothing-left w n r l e = sym (selected-nothing (has w) 64 n (omega arith))
 
 pub combined-as : (p o : Operation) (a b r : ℕ) → p ≡ o → r ≡ wordOf (λ i. combined o (has a i) (has b i)) → r ≡ wordOf (λ i. combined p (has a i) (has b i))
 combined-as p o a b r e h = h ∙ sym (ap (λ (q : Operation). wordOf (λ i. combined q (has a i) (has b i))) e)
+
+-- no operation makes a member of two that are none
+pub combined-none : (op : Operation) → combined op false false ≡ false
+combined-none Union = refl
+combined-none Intersection = refl
+combined-none AndNot = refl
+combined-none Xor = refl

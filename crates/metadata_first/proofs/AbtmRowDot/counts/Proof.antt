@@ -1,0 +1,10 @@
+-- `AbtmRowDot::counts` meets its contract. Assumes nothing.
+use mathlib.Core.Path.{refl}
+use Rattle.metadata_first.proofs.AbtmRowDot.counts.Statement.{statement}
+use Rattle.metadata_first.proofs.AbtmRowDot.counts.Tie as tie
+
+returns : tie.Need-returns
+returns c = refl
+
+pub counts-spec : {M : Type 1} → statement M
+counts-spec = tie.close (tie.spec returns)

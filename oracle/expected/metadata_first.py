@@ -290,6 +290,7 @@ def damages():
     for vp in [[0, 5, 5, 8], [1, 5, 5, 9], [0, 6, 5, 9], [0, 4, 4, 9], [0, 5, 6, 9], [0, 5, 5, 9, 9], [0, 5, 5]]:
         damaged(vp=vp)
     damaged(vs=VS[:8])
+    damaged(vp=[0, 5, 5, 10], vs=[1.0] * 10)
     last = [1.0, 3.0, 0.0, 0.5, 2.5, -7.25, 0.0, 0.0, NAN]
     damaged(vs=last)
     damaged(vs=last, total=8)
@@ -341,7 +342,7 @@ def wide_row():
     mask = [0x9249249249249249] * 1024
     dot(s, 0, 65536, mask, ascending(65536))
     dot_rows(s, 65536, mask, ascending(65536), 1, 1)
-    vals[1] = vals[201] = LARGEST
+    vals[60] = vals[260] = LARGEST
     pack_room(1, 65536, [0, 300], cols, vals, 0, 0, 0, 0, 0)
     pack_room(1, 65536, [0, 300], cols, vals, 16, 16, 16, 16, 16)
 
@@ -377,6 +378,7 @@ def by_value():
 
 pack_rooms(3, 130, *TRIAL, 4, 6, 9)
 rows_of_one()
+pack_rooms(2, 10, [0, 2, 3], [9, 3, 9], [LARGEST, -LARGEST, LARGEST], 3, 2, 3)
 refused_lists()
 ask(*store())
 damages()

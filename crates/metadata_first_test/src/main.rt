@@ -740,6 +740,15 @@ fn rows_of_one() {
     pack_rooms(0, 70, &none[..1], &cols[..0], &vals[..0], 1, 0, 0);
 }
 
+// The largest finite value in one column of two rows: none of their merged values is infinite.
+fn rows_of_two() {
+    let ptr: [u32; 3] = [0, 2, 3];
+    let cols: [u32; 3] = [9, 3, 9];
+    let largest: f64 = 1.7976931348623157e308;
+    let vals: [f64; 3] = [largest, -largest, largest];
+    pack_rooms(2, 10, &ptr, &cols, &vals, 3, 2, 3);
+}
+
 // Plot lists that break a rule, and of two the one that comes first.
 fn refused_lists() {
     let inf = 1.0f64 / 0.0f64;
@@ -866,6 +875,9 @@ fn damages(p: &[u32], w: &[u32], m: &[u64], vp: &[u32], vs: &[f64]) {
     damaged(3, p, w, m, 9, &long[..3], vs);
     let eight: [f64; 8] = [1.0, 3.0, 0.0, 0.1, 2.5, -7.25, 5e-324, 0.0];
     damaged(3, p, w, m, 9, vp, &eight);
+    let ten: [f64; 10] = [1.0; 10];
+    let one_more: [u32; 4] = [0, 5, 5, 10];
+    damaged(3, p, w, m, 9, &one_more, &ten);
 }
 
 fn damaged_values(p: &[u32], w: &[u32], m: &[u64], vp: &[u32]) {
@@ -999,8 +1011,8 @@ fn wide_row() {
     make_values(&mut vals);
     wide_pack(&cols, &vals);
     let largest: f64 = 1.7976931348623157e308;
-    put(&mut vals, 1, largest);
-    put(&mut vals, 201, largest);
+    put(&mut vals, 60, largest);
+    put(&mut vals, 260, largest);
     pack_room(1, 65536, &[0, 300], &cols, &vals, 0, 0, 0, 0, 0);
     pack_room(1, 65536, &[0, 300], &cols, &vals, 16, 16, 16, 16, 16);
 }
@@ -1129,6 +1141,7 @@ fn by_value() {
 fn main() {
     trial();
     rows_of_one();
+    rows_of_two();
     refused_lists();
     stores();
     wide_row();

@@ -1,5 +1,5 @@
 -- Laws of the public build: when it is refused and how, and what each of its ends answers and leaves. Assumes nothing.
-use mathlib.Core.Bool.{Bool, true, false, not, _&&_, true≢false}
+use mathlib.Core.Bool.{Bool, true, false, not, _&&_, true≢false, false≢true}
 use mathlib.Core.List.{List, [], _∷_, _++_}
 use mathlib.Core.Path.{_≡_, refl, sym, ap, ap₂, _∙_}
 use Prim.Native.Nat.{ℕ, zero, suc, _+_, _-_, _^_, _≤_, _<_}
@@ -9,7 +9,7 @@ use lib.Dec.{leb}
 use lib.ListN.{length, take, drop, replicate}
 use lib.Seq.{take-at}
 use lib.Ieee.{Float}
-use borrow.Author.Tests.{le-leb, leb-true}
+use borrow.Author.Tests.{le-leb, leb-true, not-true, not-false}
 use Rattle.hybit_core.specs.Answer.{Answer, accepted, refused, plain, demand, _andThen_, Given, gives, refuses, answers}
 use Rattle.hybit_core.specs.Floats.{zero64, finite}
 use Rattle.hybit_core.specs.Table.{paper, told}
@@ -32,7 +32,7 @@ use Rattle.metadata_first.specs.Store.{Store, packedOf}
 use Rattle.metadata_first.proofs.StoreLaws.{packed-total, packed-pointers}
 use Rattle.metadata_first_merge.specs.Merge.{rowValues, mergedFinite, mergeAnswer}
 use Rattle.metadata_first_build.specs.Pack.{storeOf, asStoreRoom, fitsStore, packAnswer}
-use Rattle.metadata_first_build.specs.Ranks.{Source, lastRefusal}
+use Rattle.metadata_first_build.specs.Ranks.{Source, Valued, lastRefusal}
 
 -- what the call answers, and what its lists of np, nw, nm, nv and nx places hold
 abbrev Result : Answer → Given (ℕ × ℕ) → Store → ℕ → ℕ → ℕ → ℕ → ℕ → List ℕ → List ℕ → List ℕ → List ℕ → List Float → Type 0
@@ -44,7 +44,7 @@ Result a g s np nw nm nv nx op ow om ov ox =
 given-same : (x y : ℕ × ℕ) → gives x ≡ gives y → x ≡ y
 given-same x y e = cc
 
--- ---- the refusal of `refuse`
+-- ---- the refusal of a refused build
 
 pub refuse-first : (m : Csr) (v : Verdict) (e : HybitError) → told v ≡ mergeAnswer m → v ≡ verdict.Refused e → _≡_ {A = Given (ℕ × ℕ)} (refuses (paper e)) (refuses (lastRefusal (mergeAnswer m)))
 refuse-first m v e t k = sym (ap (λ (a : Answer). refuses (lastRefusal a)) (refused-by (mergeAnswer m) v e t k))
@@ -105,6 +105,9 @@ module _ (m : Csr) (np nw nm : ℕ) (t : TopologyAnswer) (e : toldTopology t ≡
           word-in = omega (arith, made .1 .0, leb-true (length (topologyFrom m .word)) nw (and-right fp fw (and-left (fp && fw) fm words-in)));
           mask-in = omega (arith, made .1 .0, topology-sides (m .rows) (m .cols) (λ r. present (entries m r)), leb-true (length (topologyFrom m .mask)) nm (and-right (fp && fw) fm words-in));
         }
+
+    pub values-many : n ≡ length (storeOf m .vals)
+    values-many = made .1 .1 ∙ sym (store-total m)
 
     -- what the build of the words left
     module _ (op ow om : List ℕ) (ep : op ≡ built 0 np (buildAnswer m (asRoom np nw nm)) (topologyFrom m .ptr)) (ew : ow ≡ built 0 nw (buildAnswer m (asRoom np nw nm)) (topologyFrom m .word))
@@ -180,9 +183,6 @@ module _ (m : Csr) (np nw nm nv nx : ℕ) where
 
   -- ---- why a build is not accepted, in the order of the code
 
-  pub no-pointers : nv ≤ m .rows → Packs → ⊥
-  no-pointers h p = omega (arith, p .pointers)
-
   module _ (t : TopologyAnswer) (e : toldTopology t ≡ answers (buildAnswer m (asRoom np nw nm)) (usedOf (topologyFrom m))) where
     pub no-words : (x : HybitError) → t ≡ build.Refused x → Packs → ⊥
     unfolding buildAnswer
@@ -195,41 +195,54 @@ module _ (m : Csr) (np nw nm nv nx : ℕ) where
       words-made : (buildAnswer m (asRoom np nw nm) ≡ accepted) × ((w ≡ length (topologyFrom m .word)) × (n ≡ topologyFrom m .total))
       words-made = made m np nw nm t e w n k
 
-      pub no-values : nx < n → Packs → ⊥
-      no-values h p = omega (arith, p .values, words-made .1 .1)
+      -- the values were asked for: b tells whether they are written
+      module _ (b : Bool) (ov : List ℕ) (ox : List Float) (vs : Valued m nv nx b ov ox) where
+        pub no-values-written : not b ≡ true → Packs → ⊥
+        no-values-written h p = vs .not-held (not-true b h) (omega (arith, p .pointers)) (omega (arith, store-total m, p .values)) (p .finites)
 
-      -- the lists of pointers and values, all 0 before
-      module _ (ov : List ℕ) (ox : List Float) (ev : ov ≡ padded 0 nv []) (ex : ox ≡ padded zero64 nx []) (hv : m .rows < nv) (hx : n ≤ nx) where
-        pub pack-zeros : take n ox ≡ replicate (length (storeOf m .vals)) zero64
-        pack-zeros = front-zeros zero64 n nx ox ex hx ∙ ap (λ (i : ℕ). replicate i zero64) (words-made .1 .1 ∙ sym (store-total m))
+        pub pack-built : not b ≡ false → (op ow om : List ℕ) → op ≡ built 0 np (buildAnswer m (asRoom np nw nm)) (topologyFrom m .ptr) → ow ≡ built 0 nw (buildAnswer m (asRoom np nw nm)) (topologyFrom m .word)
+            → om ≡ built 0 nm (buildAnswer m (asRoom np nw nm)) (topologyFrom m .mask) → Result whole (gives (w, n)) (storeOf m) np nw nm nv nx op ow om ov ox
+        unfolding storeOf packedOf
+        pack-built h op ow om ep ew em =
+            let y : b ≡ true = not-false b h in
+            let k1 = vs .held y in
+            let k2 = vs .written y in
+            let ok : whole ≡ accepted = accepts (record { list = list-is m np nw nm t e w n k; finites = k1 .2; fits = words-in m np nw nm t e w n k; pointers = omega (arith, k1 .0); values = omega (arith, k1 .1, store-total m) }) in
+            rw ok (
+              ap₂ (λ (i j : ℕ). gives (i, j)) (words-made .1 .0) (words-made .1 .1),
+              (
+                ep ∙ ap (λ (a : Answer). built 0 np a (topologyFrom m .ptr)) (words-made .0),
+                (
+                  ew ∙ ap (λ (a : Answer). built 0 nw a (topologyFrom m .word)) (words-made .0),
+                  (em ∙ ap (λ (a : Answer). built 0 nm a (topologyFrom m .mask)) (words-made .0), (k2 .0, k2 .1)),
+                ),
+              ),
+            )
 
-        module _ (ov1 : List ℕ) (ox1 : List Float) (ev1 : ov1 ≡ storeOf m .vptr) (ex1 : ox1 ≡ storeOf m .vals) where
-          values-long : length ox1 ≡ n
-          values-long = ap length ex1 ∙ store-total m ∙ sym (words-made .1 .1)
+-- ---- the values: n of them, for lists of nv and nx places
 
-          -- b tells whether they are finite
-          module _ (b : Bool) (eb : b ≡ every finite (take n (ox1 ++ drop n ox))) where
-            tested : b ≡ mergedFinite m
-            tested = eb ∙ ap (every finite) (take-at ox1 (drop n ox) n values-long ∙ ex1) ∙ store-finite m
+module _ (m : Csr) (nv nx n : ℕ) (en : n ≡ length (storeOf m .vals)) where
+  pub few-pointers : (ov : List ℕ) (ox : List Float) → nv ≤ m .rows → Valued m nv nx false ov ox
+  few-pointers ov ox h = record { held = λ e. absurd (false≢true e); written = λ e. absurd (false≢true e); not-held = λ e a b f. omega arith }
 
-            pub no-finites : not b ≡ true → Packs → ⊥
-            no-finites h p = true≢false (sym (p .finites) ∙ sym (flag-off (mergedFinite m) b tested h))
+  pub few-values : (ov : List ℕ) (ox : List Float) → nx < n → Valued m nv nx false ov ox
+  few-values ov ox h = record { held = λ e. absurd (false≢true e); written = λ e. absurd (false≢true e); not-held = λ e a b f. omega arith }
 
-            pub pack-built : not b ≡ false → (op ow om : List ℕ) → op ≡ built 0 np (buildAnswer m (asRoom np nw nm)) (topologyFrom m .ptr) → ow ≡ built 0 nw (buildAnswer m (asRoom np nw nm)) (topologyFrom m .word)
-                → om ≡ built 0 nm (buildAnswer m (asRoom np nw nm)) (topologyFrom m .mask) → Result whole (gives (w, n)) (storeOf m) np nw nm nv nx op ow om (ov1 ++ drop (m .rows + 1) ov) (ox1 ++ drop n ox)
-            unfolding storeOf packedOf
-            pack-built h op ow om ep ew em =
-                let ok : whole ≡ accepted = accepts (record { list = list-is m np nw nm t e w n k; finites = sym (flag-on (mergedFinite m) b tested h); fits = words-in m np nw nm t e w n k; pointers = omega arith; values = omega (arith, words-made .1 .1) }) in
-                rw ok (
-                  ap₂ (λ (i j : ℕ). gives (i, j)) (words-made .1 .0) (words-made .1 .1),
-                  (
-                    ep ∙ ap (λ (a : Answer). built 0 np a (topologyFrom m .ptr)) (words-made .0),
-                    (
-                      ew ∙ ap (λ (a : Answer). built 0 nw a (topologyFrom m .word)) (words-made .0),
-                      (
-                        em ∙ ap (λ (a : Answer). built 0 nm a (topologyFrom m .mask)) (words-made .0),
-                        (written-front 0 (m .rows + 1) nv ov ov1 ev (ap length ev1 ∙ store-rows m) ∙ ap (padded 0 nv) ev1, written-front zero64 n nx ox ox1 ex values-long ∙ ap (padded zero64 nx) ex1),
-                      ),
-                    ),
-                  ),
-                )
+  -- both lists are cleared, and then written
+  module _ (ov : List ℕ) (ox : List Float) (ev : ov ≡ padded 0 nv []) (ex : ox ≡ padded zero64 nx []) (hv : m .rows < nv) (hx : n ≤ nx) where
+    pub pack-zeros : take n ox ≡ replicate (length (storeOf m .vals)) zero64
+    pack-zeros = front-zeros zero64 n nx ox ex hx ∙ ap (λ (i : ℕ). replicate i zero64) en
+
+    module _ (ov1 : List ℕ) (ox1 : List Float) (ev1 : ov1 ≡ storeOf m .vptr) (ex1 : ox1 ≡ storeOf m .vals) where
+      values-long : length ox1 ≡ n
+      values-long = ap length ex1 ∙ sym en
+
+      -- b tells whether they are finite
+      pub values-filled : (b : Bool) → b ≡ every finite (take n (ox1 ++ drop n ox)) → Valued m nv nx b (ov1 ++ drop (m .rows + 1) ov) (ox1 ++ drop n ox)
+      values-filled b eb =
+          let tested : b ≡ mergedFinite m = eb ∙ ap (every finite) (take-at ox1 (drop n ox) n values-long ∙ ex1) ∙ store-finite m in
+          record {
+            held = λ y. (hv, omega arith, sym tested ∙ y);
+            written = λ y. (written-front 0 (m .rows + 1) nv ov ov1 ev (ap length ev1 ∙ store-rows m) ∙ ap (padded 0 nv) ev1, written-front zero64 n nx ox ox1 ex values-long ∙ ap (padded zero64 nx) ex1);
+            not-held = λ y a c f. absurd (true≢false (sym f ∙ sym tested ∙ y));
+          }

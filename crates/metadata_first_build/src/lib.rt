@@ -18,7 +18,7 @@ ghost use Rattle.topology.specs.Calls.{usedOf, toldTopology};
 ghost use Rattle.topology.proofs.RowLaws.{Row};
 ghost use Rattle.metadata_first_merge.specs.Merge.{rowValues, mergeAnswer};
 ghost use Rattle.metadata_first_build.specs.Pack.{storeOf, asStoreRoom, packAnswer};
-ghost use Rattle.metadata_first_build.specs.Ranks.{Ranks, Source, lastRefusal};
+ghost use Rattle.metadata_first_build.specs.Ranks.{Ranks, Source, Valued, lastRefusal};
 use hybit_core::HybitError;
 use hybit_core::Verdict;
 use topology::TopologyAnswer;
@@ -159,29 +159,76 @@ fn pack(
     );
 }
 
-// A refused build: all lists zero, and the refusal of the checks, 4 for a merged value among them, or else 13.
-fn refuse(
+// The values of a plot list whose words are built, where the two lists hold them; answers whether they do and all values are
+// finite.
+fn fill_values(
     nrows: usize,
     ncols: usize,
     row_ptr: &[u32],
     col_idx: &[u32],
     values: &[f64],
+    row_word_ptr: &[u32],
+    word_indices: &[u32],
+    masks: &[u64],
+    structural_nnz: usize,
+    row_value_ptr: &mut [u32],
+    packed: &mut [f64],
+) -> bool
+    requires { ⌜ Source (asCsr nrows ncols (now «row_ptr») (now «col_idx») (now values)) (now «row_word_ptr») (now «word_indices») (now masks) ⌝ ∗ ⌜ «structural_nnz» ≡ length (storeOf (asCsr nrows ncols (now «row_ptr») (now «col_idx») (now values)) .vals) ⌝ }
+    ensures { λ r. ⌜ Valued (asCsr nrows ncols (now («row_ptr» .entry)) (now («col_idx» .entry)) (now (values .entry))) (length (now («row_value_ptr» .entry))) (length (now (packed .entry))) r (now («row_value_ptr» .exit)) (now (packed .exit)) ⌝ }
+{
+    if row_value_ptr.len() <= nrows {
+        return false;
+    }
+    if packed.len() < structural_nnz {
+        return false;
+    }
+    lent::clear_from_u32(row_value_ptr, 0);
+    lent::clear_from_f64(packed, 0);
+    pack(
+        nrows,
+        ncols,
+        row_ptr,
+        col_idx,
+        values,
+        row_word_ptr,
+        word_indices,
+        masks,
+        &mut row_value_ptr[..nrows + 1],
+        &mut packed[..structural_nnz],
+    );
+    csr32::all_finite(&packed[..structural_nnz])
+}
+
+// Zeros in all lists: what a refused build leaves.
+fn clear_all(
     row_word_ptr: &mut [u32],
     word_indices: &mut [u32],
     masks: &mut [u64],
     row_value_ptr: &mut [u32],
     packed: &mut [f64],
-) -> TopologyAnswer
-    ensures answer { λ r. ⌜ toldTopology r ≡ refuses (lastRefusal (mergeAnswer (asCsr nrows ncols (now («row_ptr» .entry)) (now («col_idx» .entry)) (now (values .entry))))) ⌝ }
-    ensures pointers { λ r. ⌜ now («row_word_ptr» .exit) ≡ padded 0 (length (now («row_word_ptr» .entry))) [] ⌝ }
-    ensures numbers { λ r. ⌜ now («word_indices» .exit) ≡ padded 0 (length (now («word_indices» .entry))) [] ⌝ }
-    ensures bits { λ r. ⌜ now (masks .exit) ≡ padded 0 (length (now (masks .entry))) [] ⌝ }
-    ensures starts { λ r. ⌜ now («row_value_ptr» .exit) ≡ padded 0 (length (now («row_value_ptr» .entry))) [] ⌝ }
-    ensures values { λ r. ⌜ now (packed .exit) ≡ padded zero64 (length (now (packed .entry))) [] ⌝ }
+)
+    ensures pointers { λ _. ⌜ now («row_word_ptr» .exit) ≡ padded 0 (length (now («row_word_ptr» .entry))) [] ⌝ }
+    ensures numbers { λ _. ⌜ now («word_indices» .exit) ≡ padded 0 (length (now («word_indices» .entry))) [] ⌝ }
+    ensures bits { λ _. ⌜ now (masks .exit) ≡ padded 0 (length (now (masks .entry))) [] ⌝ }
+    ensures starts { λ _. ⌜ now («row_value_ptr» .exit) ≡ padded 0 (length (now («row_value_ptr» .entry))) [] ⌝ }
+    ensures values { λ _. ⌜ now (packed .exit) ≡ padded zero64 (length (now (packed .entry))) [] ⌝ }
 {
     topology::clear_past(0, 0, row_word_ptr, word_indices, masks);
     lent::clear_from_u32(row_value_ptr, 0);
     lent::clear_from_f64(packed, 0);
+}
+
+// The refusal of a refused build: that of the checks, 4 for a merged value among them, or else 13.
+fn refusal(
+    nrows: usize,
+    ncols: usize,
+    row_ptr: &[u32],
+    col_idx: &[u32],
+    values: &[f64],
+) -> TopologyAnswer
+    ensures { λ r. ⌜ toldTopology r ≡ refuses (lastRefusal (mergeAnswer (asCsr nrows ncols (now («row_ptr» .entry)) (now («col_idx» .entry)) (now (values .entry))))) ⌝ }
+{
     let v = metadata_first_merge::check(nrows, ncols, row_ptr, col_idx, values);
     if let Verdict::Refused(e) = v {
         return TopologyAnswer::Refused(e);
@@ -225,50 +272,10 @@ pub fn from_csr32(
         structural_nnz,
     } = t
     else {
-        return refuse(
-            nrows,
-            ncols,
-            row_ptr,
-            col_idx,
-            values,
-            row_word_ptr,
-            word_indices,
-            masks,
-            row_value_ptr,
-            packed,
-        );
+        clear_all(row_word_ptr, word_indices, masks, row_value_ptr, packed);
+        return refusal(nrows, ncols, row_ptr, col_idx, values);
     };
-    if row_value_ptr.len() <= nrows {
-        return refuse(
-            nrows,
-            ncols,
-            row_ptr,
-            col_idx,
-            values,
-            row_word_ptr,
-            word_indices,
-            masks,
-            row_value_ptr,
-            packed,
-        );
-    }
-    if packed.len() < structural_nnz {
-        return refuse(
-            nrows,
-            ncols,
-            row_ptr,
-            col_idx,
-            values,
-            row_word_ptr,
-            word_indices,
-            masks,
-            row_value_ptr,
-            packed,
-        );
-    }
-    lent::clear_from_u32(row_value_ptr, 0);
-    lent::clear_from_f64(packed, 0);
-    pack(
+    if !fill_values(
         nrows,
         ncols,
         row_ptr,
@@ -277,22 +284,12 @@ pub fn from_csr32(
         &row_word_ptr[..nrows + 1],
         &word_indices[..words],
         &masks[..words],
-        &mut row_value_ptr[..nrows + 1],
-        &mut packed[..structural_nnz],
-    );
-    if !csr32::all_finite(&packed[..structural_nnz]) {
-        return refuse(
-            nrows,
-            ncols,
-            row_ptr,
-            col_idx,
-            values,
-            row_word_ptr,
-            word_indices,
-            masks,
-            row_value_ptr,
-            packed,
-        );
+        structural_nnz,
+        row_value_ptr,
+        packed,
+    ) {
+        clear_all(row_word_ptr, word_indices, masks, row_value_ptr, packed);
+        return refusal(nrows, ncols, row_ptr, col_idx, values);
     }
     TopologyAnswer::Built {
         words: words,

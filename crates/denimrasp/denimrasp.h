@@ -1,0 +1,377 @@
+/* Denimrasp: the sparse-matrix layer of hybit with every function proved.
+ *
+ * Every call checks its own input and refuses by number, and no input stops it: what a caller owes is that each list's pointer
+ * is not null, is aligned, and leads to as many places as the length after it says (for an empty list any such address will
+ * do), and that a list which a call writes to overlaps no other list of that call.
+ *
+ * number in an answer: 0 accepted, 1 over size, 2 bad frame, 3 outside column, 4 not finite, 5 bad mask, 6 lengths differ,
+ * 7 no such place, 8 frames differ, 9 bad thresholds, 10 not square, 11 bad words, 12 bad store, 13 short list. Under 6
+ * expected and actual are the two lengths, otherwise 0. All other fields of a refused answer are 0.
+ *
+ * A build (new, from_indices, indices, from_csr32, the set operations, sparse_dot_rows) leaves zeros past the part that it used,
+ * and zeros alone where it is refused. Any other refused call leaves what it was lent as it was.
+ */
+#ifndef DENIMRASP_H
+#define DENIMRASP_H
+
+#include <stdbool.h>
+#include <stddef.h>
+#include <stdint.h>
+
+#ifdef __cplusplus
+extern "C" {
+#endif
+
+/* The answer of a call that has no other result. number is 0 when accepted, else the refusal's; expected
+ * and actual are 0 but under 6. */
+typedef struct {
+    uint32_t number;
+    size_t expected;
+    size_t actual;
+} DenimraspVerdict;
+
+typedef struct {
+    uint32_t number;
+    size_t expected;
+    size_t actual;
+    size_t count;
+} DenimraspCount;
+
+typedef struct {
+    uint32_t number;
+    size_t expected;
+    size_t actual;
+    bool is;
+} DenimraspBool;
+
+/* column is 0 where nothing was found. */
+typedef struct {
+    uint32_t number;
+    size_t expected;
+    size_t actual;
+    bool found;
+    size_t column;
+} DenimraspSelect;
+
+/* A part of a lent list: the places from start, below end. */
+typedef struct {
+    uint32_t number;
+    size_t expected;
+    size_t actual;
+    size_t start;
+    size_t end;
+} DenimraspPart;
+
+/* How much of the lent lists a build used. */
+typedef struct {
+    uint32_t number;
+    size_t expected;
+    size_t actual;
+    size_t words;
+    size_t structural_nnz;
+} DenimraspTopology;
+
+typedef struct {
+    uint32_t number;
+    size_t expected;
+    size_t actual;
+    size_t nrows;
+    size_t ncols;
+    size_t structural_nnz;
+    size_t nonempty_words;
+    size_t metadata_bytes;
+} DenimraspTopologyStats;
+
+typedef struct {
+    uint32_t number;
+    size_t expected;
+    size_t actual;
+    size_t nrows;
+    size_t ncols;
+    size_t structural_nnz;
+    size_t topology_metadata_bytes;
+    size_t value_row_ptr_bytes;
+    size_t packed_value_bytes;
+} DenimraspStoreStats;
+
+typedef struct {
+    uint32_t number;
+    size_t expected;
+    size_t actual;
+    double sum;
+    size_t candidate_products;
+    size_t executed_products;
+    size_t skipped_products;
+    size_t topology_words;
+    size_t active_words;
+} DenimraspDot;
+
+typedef struct {
+    uint32_t number;
+    size_t expected;
+    size_t actual;
+    size_t candidate_products;
+    size_t executed_products;
+    size_t skipped_products;
+    size_t topology_words;
+    size_t active_words;
+} DenimraspTotals;
+
+/* 5 where the words are not those of a mask of that length. */
+DenimraspVerdict denimrasp_mask_check(size_t len, const uint64_t *words, size_t words_len);
+
+/* Whether index is a member; false from the length on. */
+DenimraspBool denimrasp_mask_contains(size_t len, const uint64_t *words, size_t words_len, size_t index);
+
+/* How many members the mask has. */
+DenimraspCount denimrasp_mask_count_ones(size_t len, const uint64_t *words, size_t words_len);
+
+/* Whether the mask has no member. */
+DenimraspBool denimrasp_mask_is_empty(size_t len, const uint64_t *words, size_t words_len);
+
+/* The empty mask of that length. */
+DenimraspVerdict denimrasp_mask_new(size_t len, uint64_t *words, size_t words_len);
+
+/* The mask of the listed members. */
+DenimraspVerdict denimrasp_mask_from_indices(size_t len, const size_t *indices, size_t indices_len,
+    uint64_t *words, size_t words_len);
+
+/* Puts index in or out; a refused call leaves the words as they were. */
+DenimraspVerdict denimrasp_mask_set(size_t len, uint64_t *words, size_t words_len, size_t index, bool value);
+
+/* Joins the members of one word; bits from the length on are dropped, a word past the end changes nothing. */
+DenimraspVerdict denimrasp_mask_or_word(size_t len, uint64_t *words, size_t words_len, size_t word_index,
+    uint64_t bits);
+
+/* The members, ascending; answers how many. */
+DenimraspCount denimrasp_mask_indices(size_t len, const uint64_t *words, size_t words_len,
+    size_t *out, size_t out_len);
+
+/* Joins the other mask's members to this one's. */
+DenimraspVerdict denimrasp_mask_union_assign(size_t len, uint64_t *words, size_t words_len, size_t other_len,
+    const uint64_t *other, size_t other_count);
+
+/* Keeps the members that the other mask has too. */
+DenimraspVerdict denimrasp_mask_intersect_assign(size_t len, uint64_t *words, size_t words_len,
+    size_t other_len, const uint64_t *other, size_t other_count);
+
+/* Keeps the members that the other mask does not have. */
+DenimraspVerdict denimrasp_mask_and_not_assign(size_t len, uint64_t *words, size_t words_len,
+    size_t other_len, const uint64_t *other, size_t other_count);
+
+/* Whether the two masks have a member in common. */
+DenimraspBool denimrasp_mask_intersects(size_t len, const uint64_t *words, size_t words_len, size_t other_len,
+    const uint64_t *other, size_t other_count);
+
+/* The Rust's `new` and `validate`. */
+DenimraspVerdict denimrasp_csr32_check(size_t nrows, size_t ncols,
+    const uint32_t *row_ptr, size_t row_ptr_len, const uint32_t *col_idx, size_t col_idx_len,
+    const double *values, size_t values_len);
+
+/* The row products; a refused call leaves y as it was. */
+DenimraspVerdict denimrasp_csr32_apply(size_t nrows, size_t ncols,
+    const uint32_t *row_ptr, size_t row_ptr_len, const uint32_t *col_idx, size_t col_idx_len,
+    const double *values, size_t values_len, const double *x, size_t x_len, double *y, size_t y_len);
+
+/* The bytes of the pointers and columns. */
+DenimraspCount denimrasp_csr32_metadata_bytes(size_t nrows, size_t ncols,
+    const uint32_t *row_ptr, size_t row_ptr_len, const uint32_t *col_idx, size_t col_idx_len,
+    const double *values, size_t values_len);
+
+/* The same and those of the values. */
+DenimraspCount denimrasp_csr32_storage_bytes(size_t nrows, size_t ncols,
+    const uint32_t *row_ptr, size_t row_ptr_len, const uint32_t *col_idx, size_t col_idx_len,
+    const double *values, size_t values_len);
+
+/* The Rust's `validate`. */
+DenimraspVerdict denimrasp_topology_check(size_t nrows, size_t ncols,
+    const uint32_t *row_word_ptr, size_t row_word_ptr_len,
+    const uint32_t *word_indices, size_t word_indices_len, const uint64_t *masks, size_t masks_len,
+    size_t structural_nnz);
+
+/* The words of a plot list. */
+DenimraspTopology denimrasp_topology_from_csr32(size_t nrows, size_t ncols,
+    const uint32_t *row_ptr, size_t row_ptr_len, const uint32_t *col_idx, size_t col_idx_len,
+    const double *values, size_t values_len, uint32_t *row_word_ptr, size_t row_word_ptr_len,
+    uint32_t *word_indices, size_t word_indices_len, uint64_t *masks, size_t masks_len);
+
+/* The places of the row's word numbers and masks in their lists: from start, below end. */
+DenimraspPart denimrasp_topology_row_words(size_t nrows, size_t ncols,
+    const uint32_t *row_word_ptr, size_t row_word_ptr_len,
+    const uint32_t *word_indices, size_t word_indices_len, const uint64_t *masks, size_t masks_len,
+    size_t structural_nnz, size_t row);
+
+/* How many words the row has. */
+DenimraspCount denimrasp_topology_row_nonempty_words(size_t nrows, size_t ncols,
+    const uint32_t *row_word_ptr, size_t row_word_ptr_len,
+    const uint32_t *word_indices, size_t word_indices_len, const uint64_t *masks, size_t masks_len,
+    size_t structural_nnz, size_t row);
+
+/* How many columns the row holds. */
+DenimraspCount denimrasp_topology_row_popcount(size_t nrows, size_t ncols,
+    const uint32_t *row_word_ptr, size_t row_word_ptr_len,
+    const uint32_t *word_indices, size_t word_indices_len, const uint64_t *masks, size_t masks_len,
+    size_t structural_nnz, size_t row);
+
+/* Whether the row holds the column; false from the column count on. */
+DenimraspBool denimrasp_topology_row_contains(size_t nrows, size_t ncols,
+    const uint32_t *row_word_ptr, size_t row_word_ptr_len,
+    const uint32_t *word_indices, size_t word_indices_len, const uint64_t *masks, size_t masks_len,
+    size_t structural_nnz, size_t row, size_t col);
+
+/* How many columns below col the row holds; the column count is allowed. */
+DenimraspCount denimrasp_topology_row_rank(size_t nrows, size_t ncols,
+    const uint32_t *row_word_ptr, size_t row_word_ptr_len,
+    const uint32_t *word_indices, size_t word_indices_len, const uint64_t *masks, size_t masks_len,
+    size_t structural_nnz, size_t row, size_t col);
+
+/* The row's column with ordinal columns below it, if there is one. */
+DenimraspSelect denimrasp_topology_row_select(size_t nrows, size_t ncols,
+    const uint32_t *row_word_ptr, size_t row_word_ptr_len,
+    const uint32_t *word_indices, size_t word_indices_len, const uint64_t *masks, size_t masks_len,
+    size_t structural_nnz, size_t row, size_t ordinal);
+
+/* The figures of a record. */
+DenimraspTopologyStats denimrasp_topology_stats(size_t nrows, size_t ncols,
+    const uint32_t *row_word_ptr, size_t row_word_ptr_len,
+    const uint32_t *word_indices, size_t word_indices_len, const uint64_t *masks, size_t masks_len,
+    size_t structural_nnz);
+
+/* The columns that either record holds, row by row. */
+DenimraspTopology denimrasp_topology_union(size_t nrows, size_t ncols,
+    const uint32_t *row_word_ptr, size_t row_word_ptr_len,
+    const uint32_t *word_indices, size_t word_indices_len, const uint64_t *masks, size_t masks_len,
+    size_t structural_nnz, size_t other_nrows, size_t other_ncols,
+    const uint32_t *other_row_word_ptr, size_t other_row_word_ptr_len,
+    const uint32_t *other_word_indices, size_t other_word_indices_len,
+    const uint64_t *other_masks, size_t other_masks_len, size_t other_structural_nnz,
+    uint32_t *out_ptr, size_t out_ptr_len, uint32_t *out_words, size_t out_words_len,
+    uint64_t *out_masks, size_t out_masks_len);
+
+/* The columns that both hold. */
+DenimraspTopology denimrasp_topology_intersection(size_t nrows, size_t ncols,
+    const uint32_t *row_word_ptr, size_t row_word_ptr_len,
+    const uint32_t *word_indices, size_t word_indices_len, const uint64_t *masks, size_t masks_len,
+    size_t structural_nnz, size_t other_nrows, size_t other_ncols,
+    const uint32_t *other_row_word_ptr, size_t other_row_word_ptr_len,
+    const uint32_t *other_word_indices, size_t other_word_indices_len,
+    const uint64_t *other_masks, size_t other_masks_len, size_t other_structural_nnz,
+    uint32_t *out_ptr, size_t out_ptr_len, uint32_t *out_words, size_t out_words_len,
+    uint64_t *out_masks, size_t out_masks_len);
+
+/* The columns that the first holds and the other does not. */
+DenimraspTopology denimrasp_topology_and_not(size_t nrows, size_t ncols,
+    const uint32_t *row_word_ptr, size_t row_word_ptr_len,
+    const uint32_t *word_indices, size_t word_indices_len, const uint64_t *masks, size_t masks_len,
+    size_t structural_nnz, size_t other_nrows, size_t other_ncols,
+    const uint32_t *other_row_word_ptr, size_t other_row_word_ptr_len,
+    const uint32_t *other_word_indices, size_t other_word_indices_len,
+    const uint64_t *other_masks, size_t other_masks_len, size_t other_structural_nnz,
+    uint32_t *out_ptr, size_t out_ptr_len, uint32_t *out_words, size_t out_words_len,
+    uint64_t *out_masks, size_t out_masks_len);
+
+/* The columns that one of them holds and the other does not. */
+DenimraspTopology denimrasp_topology_xor(size_t nrows, size_t ncols,
+    const uint32_t *row_word_ptr, size_t row_word_ptr_len,
+    const uint32_t *word_indices, size_t word_indices_len, const uint64_t *masks, size_t masks_len,
+    size_t structural_nnz, size_t other_nrows, size_t other_ncols,
+    const uint32_t *other_row_word_ptr, size_t other_row_word_ptr_len,
+    const uint32_t *other_word_indices, size_t other_word_indices_len,
+    const uint64_t *other_masks, size_t other_masks_len, size_t other_structural_nnz,
+    uint32_t *out_ptr, size_t out_ptr_len, uint32_t *out_words, size_t out_words_len,
+    uint64_t *out_masks, size_t out_masks_len);
+
+/* The Rust's `validate`. */
+DenimraspVerdict denimrasp_metadata_first_check(size_t nrows, size_t ncols,
+    const uint32_t *row_word_ptr, size_t row_word_ptr_len,
+    const uint32_t *word_indices, size_t word_indices_len, const uint64_t *masks, size_t masks_len,
+    size_t structural_nnz, const uint32_t *row_value_ptr, size_t row_value_ptr_len,
+    const double *values, size_t values_len);
+
+/* Whether the plot list can be packed: 4 too where a merged value is not finite. Writes nothing. */
+DenimraspVerdict denimrasp_metadata_first_check_merge(size_t nrows, size_t ncols,
+    const uint32_t *row_ptr, size_t row_ptr_len, const uint32_t *col_idx, size_t col_idx_len,
+    const double *values, size_t values_len);
+
+/* The packed store of a plot list. */
+DenimraspTopology denimrasp_metadata_first_from_csr32(size_t nrows, size_t ncols,
+    const uint32_t *row_ptr, size_t row_ptr_len, const uint32_t *col_idx, size_t col_idx_len,
+    const double *values, size_t values_len, uint32_t *row_word_ptr, size_t row_word_ptr_len,
+    uint32_t *word_indices, size_t word_indices_len, uint64_t *masks, size_t masks_len,
+    uint32_t *row_value_ptr, size_t row_value_ptr_len, double *packed, size_t packed_len);
+
+/* The places of the row's values in their list: from start, below end. */
+DenimraspPart denimrasp_metadata_first_row_values(size_t nrows, size_t ncols,
+    const uint32_t *row_word_ptr, size_t row_word_ptr_len,
+    const uint32_t *word_indices, size_t word_indices_len, const uint64_t *masks, size_t masks_len,
+    size_t structural_nnz, const uint32_t *row_value_ptr, size_t row_value_ptr_len,
+    const double *values, size_t values_len, size_t row);
+
+/* The figures of a store. */
+DenimraspStoreStats denimrasp_metadata_first_stats(size_t nrows, size_t ncols,
+    const uint32_t *row_word_ptr, size_t row_word_ptr_len,
+    const uint32_t *word_indices, size_t word_indices_len, const uint64_t *masks, size_t masks_len,
+    size_t structural_nnz, const uint32_t *row_value_ptr, size_t row_value_ptr_len,
+    const double *values, size_t values_len);
+
+/* One row's pruned dot, with its counts. */
+DenimraspDot denimrasp_metadata_first_sparse_dot_row(size_t nrows, size_t ncols,
+    const uint32_t *row_word_ptr, size_t row_word_ptr_len,
+    const uint32_t *word_indices, size_t word_indices_len, const uint64_t *masks, size_t masks_len,
+    size_t structural_nnz, const uint32_t *row_value_ptr, size_t row_value_ptr_len,
+    const double *values, size_t values_len, size_t row, size_t mask_len,
+    const uint64_t *mask, size_t mask_count, const double *x, size_t x_len);
+
+/* Every row's number and count of executed products. */
+DenimraspVerdict denimrasp_metadata_first_sparse_dot_rows(size_t nrows, size_t ncols,
+    const uint32_t *row_word_ptr, size_t row_word_ptr_len,
+    const uint32_t *word_indices, size_t word_indices_len, const uint64_t *masks, size_t masks_len,
+    size_t structural_nnz, const uint32_t *row_value_ptr, size_t row_value_ptr_len,
+    const double *values, size_t values_len, size_t mask_len, const uint64_t *mask, size_t mask_count,
+    const double *x, size_t x_len, double *sums, size_t sums_len, uint32_t *executed, size_t executed_len);
+
+/* The first column of a word. */
+size_t denimrasp_word_base_col(uint32_t word_index);
+
+/* How many bits the mask has. */
+size_t denimrasp_word_popcount(uint64_t mask);
+
+/* Whether bit offset is set; false from 64 on. */
+bool denimrasp_word_contains_offset(uint64_t mask, size_t offset);
+
+/* How many bits below offset are set; 7 above 64. */
+DenimraspCount denimrasp_word_rank(uint64_t mask, size_t offset);
+
+/* The bit with ordinal set bits below it, if there is one. */
+DenimraspSelect denimrasp_word_select(uint64_t mask, size_t ordinal);
+
+/* Columns for each word; the ratios are 0.0 where there is nothing to divide by. */
+double denimrasp_topology_average_word_nnz(size_t structural_nnz, size_t nonempty_words);
+
+/* The same for each of the 64 columns of a word. */
+double denimrasp_topology_word_fill_ratio(size_t structural_nnz, size_t nonempty_words);
+
+/* Bytes for each column. */
+double denimrasp_topology_metadata_bytes_per_nnz(size_t metadata_bytes, size_t structural_nnz);
+
+/* Skipped products among the candidates. */
+double denimrasp_metadata_first_pruning_ratio(size_t skipped_products, size_t candidate_products);
+
+/* Words without a product among the words; 0.0 where more are active than there are. */
+double denimrasp_metadata_first_empty_word_ratio(size_t topology_words, size_t active_words);
+
+/* Their sum, at most SIZE_MAX. */
+size_t denimrasp_metadata_first_total_estimated_bytes(size_t topology_metadata_bytes,
+    size_t value_row_ptr_bytes, size_t packed_value_bytes);
+
+/* The five totals of two reports; 1 and no totals where one is above SIZE_MAX. */
+DenimraspTotals denimrasp_metadata_first_accumulate(size_t candidate_products, size_t executed_products,
+    size_t skipped_products, size_t topology_words, size_t active_words, size_t other_candidate_products,
+    size_t other_executed_products, size_t other_skipped_products, size_t other_topology_words,
+    size_t other_active_words);
+
+#ifdef __cplusplus
+}
+#endif
+
+#endif

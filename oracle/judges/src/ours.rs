@@ -1,7 +1,7 @@
 //! The library's answer to a call, through its C interface.
 
 use crate::sys;
-use calls::{Call, Counts, Csr, Mask, Outcome, Store, StoreRoom, Words, WordsRoom, bits};
+use calls::{Call, Counts, Csr, Mask, Outcome, Store, StoreRoom, WordsRoom, bits};
 
 /// A number of an answer or of a list, as an outcome holds it.
 trait Number: Copy {
@@ -508,52 +508,4 @@ fn accumulate(a: Counts, b: Counts) -> Outcome {
         )
     }
     .outcome()
-}
-
-/// The words that the library builds of a plot list, by their used parts; None where it refuses.
-pub fn words_of(c: &Csr) -> Option<Words> {
-    let n = c.col_idx.len();
-    let room = WordsRoom {
-        row_word_ptr: vec![0; c.row_ptr.len()],
-        word_indices: vec![0; n],
-        masks: vec![0; n],
-    };
-    let made = topology_from_csr32(c, &room);
-    (made.number == 0).then(|| used_words(c, &made))
-}
-
-fn used_words(c: &Csr, made: &Outcome) -> Words {
-    let used = made.result[0] as usize;
-    Words {
-        nrows: c.nrows,
-        ncols: c.ncols,
-        row_word_ptr: made.lists[0].iter().map(|&v| v as u32).collect(),
-        word_indices: made.lists[1][..used].iter().map(|&v| v as u32).collect(),
-        masks: made.lists[2][..used].to_vec(),
-        structural_nnz: made.result[1] as usize,
-    }
-}
-
-/// The store that the library packs of a plot list, by its used parts; None where it refuses.
-pub fn store_of(c: &Csr) -> Option<Store> {
-    let n = c.col_idx.len();
-    let room = StoreRoom {
-        words: WordsRoom {
-            row_word_ptr: vec![0; c.row_ptr.len()],
-            word_indices: vec![0; n],
-            masks: vec![0; n],
-        },
-        row_value_ptr: vec![0; c.row_ptr.len()],
-        values: vec![0.0; n],
-    };
-    let made = metadata_first_from_csr32(c, &room);
-    (made.number == 0).then(|| {
-        let words = used_words(c, &made);
-        let values = &made.lists[4][..words.structural_nnz];
-        Store {
-            row_value_ptr: made.lists[3].iter().map(|&v| v as u32).collect(),
-            values: values.iter().map(|&v| f64::from_bits(v)).collect(),
-            words,
-        }
-    })
 }

@@ -1,0 +1,1068 @@
+// The C interface: every public call of mask, csr32, topology and metadata_first under a name of its own, for programs in C and
+// Rust to link (denimrasp.h). A list crosses as a pointer and a length, an answer as one struct of denimrasp_answers.
+ghost use mathlib.Core.Path.{_≡_};
+ghost use mathlib.Core.Bool.{false, not, _&&_, _||_};
+ghost use Prim.Native.Nat.{_+_, _-_, _*_};
+ghost use lib.Dec.{eqb};
+ghost use lib.ListN.{length};
+ghost use lib.Ieee.{binary64, div};
+ghost use Rattle.hybit_core.specs.Answer.{gives, answers};
+ghost use Rattle.hybit_core.specs.Floats.{zero64, countAsFloat, ratioOf};
+ghost use Rattle.lent.specs.Lent.{built, kept};
+ghost use Rattle.word.specs.Bits.{has, below, count, both, within, selected, wordsOf};
+ghost use Rattle.word.specs.Word.{rankAnswer as wordRankAnswer};
+ghost use Rattle.mask.specs.Mask.{asMask, active, maskWords, maskAnswer};
+ghost use Rattle.mask.specs.Calls.{newAnswer, fromIndicesAnswer, listed, setAnswer, changed, indicesAnswer, joinedWord, pairAnswer as maskPairAnswer};
+ghost use Rattle.csr32.specs.Csr.{asCsr, csrAnswer, applyAnswer, product, csrMetadataBytes, csrStorageBytes};
+ghost use Rattle.topology.specs.Words.{asWords, member, wordAnswer};
+ghost use Rattle.topology.specs.Calls.{asRoom, usedOf, rowAnswer, rankAnswer, select, statsOf};
+ghost use Rattle.topology_build.specs.Build.{topologyFrom, buildAnswer};
+ghost use Rattle.topology_combine.specs.Combine.{combinedWords, combineAnswer};
+ghost use Rattle.metadata_first.specs.Store.{asStore, storeAnswer, storeRowAnswer, storeStats, saturated};
+ghost use Rattle.metadata_first.specs.Dot.{sparseDotRow, accumulated, accumulateAnswer};
+ghost use Rattle.metadata_first_merge.specs.Merge.{mergeAnswer};
+ghost use Rattle.metadata_first_build.specs.Pack.{asStoreRoom, storeOf, packAnswer};
+ghost use Rattle.metadata_first_dot.specs.Rows.{rowsAnswer, rowSums, rowCounts};
+ghost use Rattle.denimrasp_answers.specs.Answers.{verdictOf, countOf, boolOf, selectOf, partOf, topologyOf, topologyStatsOf, storeStatsOf, dotOf, totalsOf, placesOf, countsFrom};
+use denimrasp_answers::DenimraspBool;
+use denimrasp_answers::DenimraspCount;
+use denimrasp_answers::DenimraspDot;
+use denimrasp_answers::DenimraspPart;
+use denimrasp_answers::DenimraspSelect;
+use denimrasp_answers::DenimraspStoreStats;
+use denimrasp_answers::DenimraspTopology;
+use denimrasp_answers::DenimraspTopologyStats;
+use denimrasp_answers::DenimraspTotals;
+use denimrasp_answers::DenimraspVerdict;
+use hybit_core::HybitError;
+use hybit_core::Verdict;
+use metadata_first::AbtmMetadataFirstStats;
+use metadata_first::AbtmProductPruningStats;
+use topology::AbtmTopologyStats;
+use topology::AbtmTopologyWord;
+use word::Operation;
+
+// 5 where the words are not those of a mask of that length.
+#[no_mangle]
+pub extern "C" fn denimrasp_mask_check(len: usize, words: &[u64]) -> DenimraspVerdict
+    ensures { λ r. ⌜ r ≡ verdictOf (maskAnswer (asMask len (now (words .entry)))) ⌝ }
+{
+    denimrasp_answers::verdict(mask::check(len, words))
+}
+
+// Whether index is a member; false from the length on.
+#[no_mangle]
+pub extern "C" fn denimrasp_mask_contains(len: usize, words: &[u64], index: usize) -> DenimraspBool
+    ensures { λ r. ⌜ r ≡ boolOf (answers (maskAnswer (asMask len (now (words .entry)))) (active (asMask len (now (words .entry))) index)) ⌝ }
+{
+    denimrasp_answers::truth(mask::contains(len, words, index))
+}
+
+// How many members the mask has.
+#[no_mangle]
+pub extern "C" fn denimrasp_mask_count_ones(len: usize, words: &[u64]) -> DenimraspCount
+    ensures { λ r. ⌜ r ≡ countOf (answers (maskAnswer (asMask len (now (words .entry)))) (count (active (asMask len (now (words .entry)))) len)) ⌝ }
+{
+    denimrasp_answers::count(mask::count_ones(len, words))
+}
+
+// Whether the mask has no member.
+#[no_mangle]
+pub extern "C" fn denimrasp_mask_is_empty(len: usize, words: &[u64]) -> DenimraspBool
+    ensures { λ r. ⌜ r ≡ boolOf (answers (maskAnswer (asMask len (now (words .entry)))) (eqb (count (active (asMask len (now (words .entry)))) len) 0)) ⌝ }
+{
+    denimrasp_answers::truth(mask::is_empty(len, words))
+}
+
+// The empty mask of that length.
+#[no_mangle]
+pub extern "C" fn denimrasp_mask_new(len: usize, words: &mut [u64]) -> DenimraspVerdict
+    ensures answer { λ r. ⌜ r ≡ verdictOf (newAnswer len (length (now (words .entry)))) ⌝ }
+    ensures list { λ _. ⌜ now (words .exit) ≡ built 0 (length (now (words .entry))) (newAnswer len (length (now (words .entry)))) (maskWords (λ c. false) len) ⌝ }
+{
+    denimrasp_answers::verdict(mask::new(len, words))
+}
+
+// The mask of the listed members.
+#[no_mangle]
+pub extern "C" fn denimrasp_mask_from_indices(
+    len: usize,
+    indices: &[usize],
+    words: &mut [u64],
+) -> DenimraspVerdict
+    ensures answer { λ r. ⌜ r ≡ verdictOf (fromIndicesAnswer len (now (indices .entry)) (length (now (words .entry)))) ⌝ }
+    ensures list { λ _. ⌜ now (words .exit) ≡ built 0 (length (now (words .entry))) (fromIndicesAnswer len (now (indices .entry)) (length (now (words .entry)))) (maskWords (listed (now (indices .entry))) len) ⌝ }
+{
+    denimrasp_answers::verdict(mask::from_indices(len, indices, words))
+}
+
+// Puts index in or out; a refused call leaves the words as they were.
+#[no_mangle]
+pub extern "C" fn denimrasp_mask_set(
+    len: usize,
+    words: &mut [u64],
+    index: usize,
+    value: bool,
+) -> DenimraspVerdict
+    ensures answer { λ r. ⌜ r ≡ verdictOf (setAnswer (asMask len (now (words .entry))) index) ⌝ }
+    ensures list { λ _. ⌜ now (words .exit) ≡ kept (setAnswer (asMask len (now (words .entry))) index) (maskWords (changed (active (asMask len (now (words .entry)))) index value) len) (now (words .entry)) ⌝ }
+{
+    denimrasp_answers::verdict(mask::set(len, words, index, value))
+}
+
+// Joins the members of one word; bits from the length on are dropped, a word past the end changes nothing.
+#[no_mangle]
+pub extern "C" fn denimrasp_mask_or_word(
+    len: usize,
+    words: &mut [u64],
+    word_index: usize,
+    bits: u64,
+) -> DenimraspVerdict
+    ensures answer { λ r. ⌜ r ≡ verdictOf (maskAnswer (asMask len (now (words .entry)))) ⌝ }
+    ensures list { λ _. ⌜ now (words .exit) ≡ kept (maskAnswer (asMask len (now (words .entry)))) (maskWords (joinedWord (active (asMask len (now (words .entry)))) «word_index» bits) len) (now (words .entry)) ⌝ }
+{
+    denimrasp_answers::verdict(mask::or_word(len, words, word_index, bits))
+}
+
+// The members, ascending; answers how many.
+#[no_mangle]
+pub extern "C" fn denimrasp_mask_indices(
+    len: usize,
+    words: &[u64],
+    out: &mut [usize],
+) -> DenimraspCount
+    ensures answer { λ r. ⌜ r ≡ countOf (answers (indicesAnswer (asMask len (now (words .entry))) (length (now (out .entry)))) (count (active (asMask len (now (words .entry)))) len)) ⌝ }
+    ensures list { λ _. ⌜ now (out .exit) ≡ built 0 (length (now (out .entry))) (indicesAnswer (asMask len (now (words .entry))) (length (now (out .entry)))) (below (active (asMask len (now (words .entry)))) len) ⌝ }
+{
+    denimrasp_answers::count(mask::indices(len, words, out))
+}
+
+// Joins the other mask's members to this one's.
+#[no_mangle]
+pub extern "C" fn denimrasp_mask_union_assign(
+    len: usize,
+    words: &mut [u64],
+    other_len: usize,
+    other: &[u64],
+) -> DenimraspVerdict
+    ensures answer { λ r. ⌜ r ≡ verdictOf (maskPairAnswer (asMask len (now (words .entry))) (asMask «other_len» (now (other .entry)))) ⌝ }
+    ensures list { λ _. ⌜ now (words .exit) ≡ kept (maskPairAnswer (asMask len (now (words .entry))) (asMask «other_len» (now (other .entry)))) (maskWords (λ c. active (asMask len (now (words .entry))) c || active (asMask «other_len» (now (other .entry))) c) len) (now (words .entry)) ⌝ }
+{
+    denimrasp_answers::verdict(mask::union_assign(len, words, other_len, other))
+}
+
+// Keeps the members that the other mask has too.
+#[no_mangle]
+pub extern "C" fn denimrasp_mask_intersect_assign(
+    len: usize,
+    words: &mut [u64],
+    other_len: usize,
+    other: &[u64],
+) -> DenimraspVerdict
+    ensures answer { λ r. ⌜ r ≡ verdictOf (maskPairAnswer (asMask len (now (words .entry))) (asMask «other_len» (now (other .entry)))) ⌝ }
+    ensures list { λ _. ⌜ now (words .exit) ≡ kept (maskPairAnswer (asMask len (now (words .entry))) (asMask «other_len» (now (other .entry)))) (maskWords (λ c. active (asMask len (now (words .entry))) c && active (asMask «other_len» (now (other .entry))) c) len) (now (words .entry)) ⌝ }
+{
+    denimrasp_answers::verdict(mask::intersect_assign(len, words, other_len, other))
+}
+
+// Keeps the members that the other mask does not have.
+#[no_mangle]
+pub extern "C" fn denimrasp_mask_and_not_assign(
+    len: usize,
+    words: &mut [u64],
+    other_len: usize,
+    other: &[u64],
+) -> DenimraspVerdict
+    ensures answer { λ r. ⌜ r ≡ verdictOf (maskPairAnswer (asMask len (now (words .entry))) (asMask «other_len» (now (other .entry)))) ⌝ }
+    ensures list { λ _. ⌜ now (words .exit) ≡ kept (maskPairAnswer (asMask len (now (words .entry))) (asMask «other_len» (now (other .entry)))) (maskWords (λ c. active (asMask len (now (words .entry))) c && not (active (asMask «other_len» (now (other .entry))) c)) len) (now (words .entry)) ⌝ }
+{
+    denimrasp_answers::verdict(mask::and_not_assign(len, words, other_len, other))
+}
+
+// Whether the two masks have a member in common.
+#[no_mangle]
+pub extern "C" fn denimrasp_mask_intersects(
+    len: usize,
+    words: &[u64],
+    other_len: usize,
+    other: &[u64],
+) -> DenimraspBool
+    ensures { λ r. ⌜ r ≡ boolOf (answers (maskPairAnswer (asMask len (now (words .entry))) (asMask «other_len» (now (other .entry)))) (not (eqb (count (both (active (asMask len (now (words .entry)))) (active (asMask «other_len» (now (other .entry))))) len) 0))) ⌝ }
+{
+    denimrasp_answers::truth(mask::intersects(len, words, other_len, other))
+}
+
+// The Rust's `new` and `validate`.
+#[no_mangle]
+pub extern "C" fn denimrasp_csr32_check(
+    nrows: usize,
+    ncols: usize,
+    row_ptr: &[u32],
+    col_idx: &[u32],
+    values: &[f64],
+) -> DenimraspVerdict
+    ensures { λ r. ⌜ r ≡ verdictOf (csrAnswer (asCsr nrows ncols (now («row_ptr» .entry)) (now («col_idx» .entry)) (now (values .entry)))) ⌝ }
+{
+    denimrasp_answers::verdict(csr32::check(nrows, ncols, row_ptr, col_idx, values))
+}
+
+// The row products; a refused call leaves y as it was.
+#[no_mangle]
+pub extern "C" fn denimrasp_csr32_apply(
+    nrows: usize,
+    ncols: usize,
+    row_ptr: &[u32],
+    col_idx: &[u32],
+    values: &[f64],
+    x: &[f64],
+    y: &mut [f64],
+) -> DenimraspVerdict
+    ensures answer { λ r. ⌜ r ≡ verdictOf (applyAnswer (asCsr nrows ncols (now («row_ptr» .entry)) (now («col_idx» .entry)) (now (values .entry))) (now (x .entry)) (length (now (y .entry)))) ⌝ }
+    ensures target { λ _. ⌜ now (y .exit) ≡ kept (applyAnswer (asCsr nrows ncols (now («row_ptr» .entry)) (now («col_idx» .entry)) (now (values .entry))) (now (x .entry)) (length (now (y .entry)))) (product (asCsr nrows ncols (now («row_ptr» .entry)) (now («col_idx» .entry)) (now (values .entry))) (now (x .entry))) (now (y .entry)) ⌝ }
+{
+    denimrasp_answers::verdict(csr32::apply(nrows, ncols, row_ptr, col_idx, values, x, y))
+}
+
+// The bytes of the pointers and columns.
+#[no_mangle]
+pub extern "C" fn denimrasp_csr32_metadata_bytes(
+    nrows: usize,
+    ncols: usize,
+    row_ptr: &[u32],
+    col_idx: &[u32],
+    values: &[f64],
+) -> DenimraspCount
+    ensures { λ r. ⌜ r ≡ countOf (answers (csrAnswer (asCsr nrows ncols (now («row_ptr» .entry)) (now («col_idx» .entry)) (now (values .entry)))) (csrMetadataBytes (asCsr nrows ncols (now («row_ptr» .entry)) (now («col_idx» .entry)) (now (values .entry))))) ⌝ }
+{
+    denimrasp_answers::count(csr32::metadata_bytes(nrows, ncols, row_ptr, col_idx, values))
+}
+
+// The same and those of the values.
+#[no_mangle]
+pub extern "C" fn denimrasp_csr32_storage_bytes(
+    nrows: usize,
+    ncols: usize,
+    row_ptr: &[u32],
+    col_idx: &[u32],
+    values: &[f64],
+) -> DenimraspCount
+    ensures { λ r. ⌜ r ≡ countOf (answers (csrAnswer (asCsr nrows ncols (now («row_ptr» .entry)) (now («col_idx» .entry)) (now (values .entry)))) (csrStorageBytes (asCsr nrows ncols (now («row_ptr» .entry)) (now («col_idx» .entry)) (now (values .entry))))) ⌝ }
+{
+    denimrasp_answers::count(csr32::storage_bytes(nrows, ncols, row_ptr, col_idx, values))
+}
+
+// The Rust's `validate`.
+#[no_mangle]
+pub extern "C" fn denimrasp_topology_check(
+    nrows: usize,
+    ncols: usize,
+    row_word_ptr: &[u32],
+    word_indices: &[u32],
+    masks: &[u64],
+    structural_nnz: usize,
+) -> DenimraspVerdict
+    ensures { λ r. ⌜ r ≡ verdictOf (wordAnswer (asWords nrows ncols (now («row_word_ptr» .entry)) (now («word_indices» .entry)) (now (masks .entry)) «structural_nnz»)) ⌝ }
+{
+    let answer = topology::check(
+        nrows,
+        ncols,
+        row_word_ptr,
+        word_indices,
+        masks,
+        structural_nnz,
+    );
+    denimrasp_answers::verdict(answer)
+}
+
+// The words of a plot list.
+#[no_mangle]
+pub extern "C" fn denimrasp_topology_from_csr32(
+    nrows: usize,
+    ncols: usize,
+    row_ptr: &[u32],
+    col_idx: &[u32],
+    values: &[f64],
+    row_word_ptr: &mut [u32],
+    word_indices: &mut [u32],
+    masks: &mut [u64],
+) -> DenimraspTopology
+    ensures answer { λ r. ⌜ r ≡ topologyOf (answers (buildAnswer (asCsr nrows ncols (now («row_ptr» .entry)) (now («col_idx» .entry)) (now (values .entry))) (asRoom (length (now («row_word_ptr» .entry))) (length (now («word_indices» .entry))) (length (now (masks .entry))))) (usedOf (topologyFrom (asCsr nrows ncols (now («row_ptr» .entry)) (now («col_idx» .entry)) (now (values .entry)))))) ⌝ }
+    ensures pointers { λ _. ⌜ now («row_word_ptr» .exit) ≡ built 0 (length (now («row_word_ptr» .entry))) (buildAnswer (asCsr nrows ncols (now («row_ptr» .entry)) (now («col_idx» .entry)) (now (values .entry))) (asRoom (length (now («row_word_ptr» .entry))) (length (now («word_indices» .entry))) (length (now (masks .entry))))) (topologyFrom (asCsr nrows ncols (now («row_ptr» .entry)) (now («col_idx» .entry)) (now (values .entry))) .ptr) ⌝ }
+    ensures numbers { λ _. ⌜ now («word_indices» .exit) ≡ built 0 (length (now («word_indices» .entry))) (buildAnswer (asCsr nrows ncols (now («row_ptr» .entry)) (now («col_idx» .entry)) (now (values .entry))) (asRoom (length (now («row_word_ptr» .entry))) (length (now («word_indices» .entry))) (length (now (masks .entry))))) (topologyFrom (asCsr nrows ncols (now («row_ptr» .entry)) (now («col_idx» .entry)) (now (values .entry))) .word) ⌝ }
+    ensures bits { λ _. ⌜ now (masks .exit) ≡ built 0 (length (now (masks .entry))) (buildAnswer (asCsr nrows ncols (now («row_ptr» .entry)) (now («col_idx» .entry)) (now (values .entry))) (asRoom (length (now («row_word_ptr» .entry))) (length (now («word_indices» .entry))) (length (now (masks .entry))))) (topologyFrom (asCsr nrows ncols (now («row_ptr» .entry)) (now («col_idx» .entry)) (now (values .entry))) .mask) ⌝ }
+{
+    let answer = topology_build::from_csr32(
+        nrows,
+        ncols,
+        row_ptr,
+        col_idx,
+        values,
+        row_word_ptr,
+        word_indices,
+        masks,
+    );
+    denimrasp_answers::topology_built(answer)
+}
+
+// The places of the row's word numbers and masks in their lists: from start, below end.
+#[no_mangle]
+pub extern "C" fn denimrasp_topology_row_words(
+    nrows: usize,
+    ncols: usize,
+    row_word_ptr: &[u32],
+    word_indices: &[u32],
+    masks: &[u64],
+    structural_nnz: usize,
+    row: usize,
+) -> DenimraspPart
+    ensures { λ r. ⌜ r ≡ partOf (answers (rowAnswer (asWords nrows ncols (now («row_word_ptr» .entry)) (now («word_indices» .entry)) (now (masks .entry)) «structural_nnz») row) (placesOf (now («row_word_ptr» .entry)) row)) ⌝ }
+{
+    let v = topology::check(
+        nrows,
+        ncols,
+        row_word_ptr,
+        word_indices,
+        masks,
+        structural_nnz,
+    );
+    if let Verdict::Refused(e) = v {
+        return denimrasp_answers::part_refused(e);
+    }
+    if row >= nrows {
+        return denimrasp_answers::part_refused(HybitError::NoSuchPlace);
+    }
+    denimrasp_answers::part(row_word_ptr, row)
+}
+
+// How many words the row has.
+#[no_mangle]
+pub extern "C" fn denimrasp_topology_row_nonempty_words(
+    nrows: usize,
+    ncols: usize,
+    row_word_ptr: &[u32],
+    word_indices: &[u32],
+    masks: &[u64],
+    structural_nnz: usize,
+    row: usize,
+) -> DenimraspCount
+    ensures { λ r. ⌜ r ≡ countOf (answers (rowAnswer (asWords nrows ncols (now («row_word_ptr» .entry)) (now («word_indices» .entry)) (now (masks .entry)) «structural_nnz») row) (length (wordsOf (member (asWords nrows ncols (now («row_word_ptr» .entry)) (now («word_indices» .entry)) (now (masks .entry)) «structural_nnz») row) ncols))) ⌝ }
+{
+    let answer = topology::row_nonempty_words(
+        nrows,
+        ncols,
+        row_word_ptr,
+        word_indices,
+        masks,
+        structural_nnz,
+        row,
+    );
+    denimrasp_answers::count(answer)
+}
+
+// How many columns the row holds.
+#[no_mangle]
+pub extern "C" fn denimrasp_topology_row_popcount(
+    nrows: usize,
+    ncols: usize,
+    row_word_ptr: &[u32],
+    word_indices: &[u32],
+    masks: &[u64],
+    structural_nnz: usize,
+    row: usize,
+) -> DenimraspCount
+    ensures { λ r. ⌜ r ≡ countOf (answers (rowAnswer (asWords nrows ncols (now («row_word_ptr» .entry)) (now («word_indices» .entry)) (now (masks .entry)) «structural_nnz») row) (count (member (asWords nrows ncols (now («row_word_ptr» .entry)) (now («word_indices» .entry)) (now (masks .entry)) «structural_nnz») row) ncols)) ⌝ }
+{
+    let answer = topology::row_popcount(
+        nrows,
+        ncols,
+        row_word_ptr,
+        word_indices,
+        masks,
+        structural_nnz,
+        row,
+    );
+    denimrasp_answers::count(answer)
+}
+
+// Whether the row holds the column; false from the column count on.
+#[no_mangle]
+pub extern "C" fn denimrasp_topology_row_contains(
+    nrows: usize,
+    ncols: usize,
+    row_word_ptr: &[u32],
+    word_indices: &[u32],
+    masks: &[u64],
+    structural_nnz: usize,
+    row: usize,
+    col: usize,
+) -> DenimraspBool
+    ensures { λ r. ⌜ r ≡ boolOf (answers (rowAnswer (asWords nrows ncols (now («row_word_ptr» .entry)) (now («word_indices» .entry)) (now (masks .entry)) «structural_nnz») row) (within ncols (member (asWords nrows ncols (now («row_word_ptr» .entry)) (now («word_indices» .entry)) (now (masks .entry)) «structural_nnz») row) col)) ⌝ }
+{
+    let answer = topology::row_contains(
+        nrows,
+        ncols,
+        row_word_ptr,
+        word_indices,
+        masks,
+        structural_nnz,
+        row,
+        col,
+    );
+    denimrasp_answers::truth(answer)
+}
+
+// How many columns below col the row holds; the column count is allowed.
+#[no_mangle]
+pub extern "C" fn denimrasp_topology_row_rank(
+    nrows: usize,
+    ncols: usize,
+    row_word_ptr: &[u32],
+    word_indices: &[u32],
+    masks: &[u64],
+    structural_nnz: usize,
+    row: usize,
+    col: usize,
+) -> DenimraspCount
+    ensures { λ r. ⌜ r ≡ countOf (rankAnswer (asWords nrows ncols (now («row_word_ptr» .entry)) (now («word_indices» .entry)) (now (masks .entry)) «structural_nnz») row col) ⌝ }
+{
+    let answer = topology::row_rank(
+        nrows,
+        ncols,
+        row_word_ptr,
+        word_indices,
+        masks,
+        structural_nnz,
+        row,
+        col,
+    );
+    denimrasp_answers::count(answer)
+}
+
+// The row's column with ordinal columns below it, if there is one.
+#[no_mangle]
+pub extern "C" fn denimrasp_topology_row_select(
+    nrows: usize,
+    ncols: usize,
+    row_word_ptr: &[u32],
+    word_indices: &[u32],
+    masks: &[u64],
+    structural_nnz: usize,
+    row: usize,
+    ordinal: usize,
+) -> DenimraspSelect
+    ensures { λ r. ⌜ r ≡ selectOf (answers (rowAnswer (asWords nrows ncols (now («row_word_ptr» .entry)) (now («word_indices» .entry)) (now (masks .entry)) «structural_nnz») row) (select (asWords nrows ncols (now («row_word_ptr» .entry)) (now («word_indices» .entry)) (now (masks .entry)) «structural_nnz») row ordinal)) ⌝ }
+{
+    let answer = topology::row_select(
+        nrows,
+        ncols,
+        row_word_ptr,
+        word_indices,
+        masks,
+        structural_nnz,
+        row,
+        ordinal,
+    );
+    denimrasp_answers::selection(answer)
+}
+
+// The figures of a record.
+#[no_mangle]
+pub extern "C" fn denimrasp_topology_stats(
+    nrows: usize,
+    ncols: usize,
+    row_word_ptr: &[u32],
+    word_indices: &[u32],
+    masks: &[u64],
+    structural_nnz: usize,
+) -> DenimraspTopologyStats
+    ensures { λ r. ⌜ r ≡ topologyStatsOf (answers (wordAnswer (asWords nrows ncols (now («row_word_ptr» .entry)) (now («word_indices» .entry)) (now (masks .entry)) «structural_nnz»)) (statsOf (asWords nrows ncols (now («row_word_ptr» .entry)) (now («word_indices» .entry)) (now (masks .entry)) «structural_nnz»))) ⌝ }
+{
+    let answer = topology::stats(
+        nrows,
+        ncols,
+        row_word_ptr,
+        word_indices,
+        masks,
+        structural_nnz,
+    );
+    denimrasp_answers::topology_stats(answer)
+}
+
+// The columns that either record holds, row by row.
+#[no_mangle]
+pub extern "C" fn denimrasp_topology_union(
+    nrows: usize,
+    ncols: usize,
+    row_word_ptr: &[u32],
+    word_indices: &[u32],
+    masks: &[u64],
+    structural_nnz: usize,
+    other_nrows: usize,
+    other_ncols: usize,
+    other_row_word_ptr: &[u32],
+    other_word_indices: &[u32],
+    other_masks: &[u64],
+    other_structural_nnz: usize,
+    out_ptr: &mut [u32],
+    out_words: &mut [u32],
+    out_masks: &mut [u64],
+) -> DenimraspTopology
+    ensures answer { λ r. ⌜ r ≡ topologyOf (answers (combineAnswer Operation.Union (asWords nrows ncols (now («row_word_ptr» .entry)) (now («word_indices» .entry)) (now (masks .entry)) «structural_nnz») (asWords «other_nrows» «other_ncols» (now («other_row_word_ptr» .entry)) (now («other_word_indices» .entry)) (now («other_masks» .entry)) «other_structural_nnz») (asRoom (length (now («out_ptr» .entry))) (length (now («out_words» .entry))) (length (now («out_masks» .entry))))) (usedOf (combinedWords Operation.Union (asWords nrows ncols (now («row_word_ptr» .entry)) (now («word_indices» .entry)) (now (masks .entry)) «structural_nnz») (asWords «other_nrows» «other_ncols» (now («other_row_word_ptr» .entry)) (now («other_word_indices» .entry)) (now («other_masks» .entry)) «other_structural_nnz»)))) ⌝ }
+    ensures pointers { λ _. ⌜ now («out_ptr» .exit) ≡ built 0 (length (now («out_ptr» .entry))) (combineAnswer Operation.Union (asWords nrows ncols (now («row_word_ptr» .entry)) (now («word_indices» .entry)) (now (masks .entry)) «structural_nnz») (asWords «other_nrows» «other_ncols» (now («other_row_word_ptr» .entry)) (now («other_word_indices» .entry)) (now («other_masks» .entry)) «other_structural_nnz») (asRoom (length (now («out_ptr» .entry))) (length (now («out_words» .entry))) (length (now («out_masks» .entry))))) (combinedWords Operation.Union (asWords nrows ncols (now («row_word_ptr» .entry)) (now («word_indices» .entry)) (now (masks .entry)) «structural_nnz») (asWords «other_nrows» «other_ncols» (now («other_row_word_ptr» .entry)) (now («other_word_indices» .entry)) (now («other_masks» .entry)) «other_structural_nnz») .ptr) ⌝ }
+    ensures numbers { λ _. ⌜ now («out_words» .exit) ≡ built 0 (length (now («out_words» .entry))) (combineAnswer Operation.Union (asWords nrows ncols (now («row_word_ptr» .entry)) (now («word_indices» .entry)) (now (masks .entry)) «structural_nnz») (asWords «other_nrows» «other_ncols» (now («other_row_word_ptr» .entry)) (now («other_word_indices» .entry)) (now («other_masks» .entry)) «other_structural_nnz») (asRoom (length (now («out_ptr» .entry))) (length (now («out_words» .entry))) (length (now («out_masks» .entry))))) (combinedWords Operation.Union (asWords nrows ncols (now («row_word_ptr» .entry)) (now («word_indices» .entry)) (now (masks .entry)) «structural_nnz») (asWords «other_nrows» «other_ncols» (now («other_row_word_ptr» .entry)) (now («other_word_indices» .entry)) (now («other_masks» .entry)) «other_structural_nnz») .word) ⌝ }
+    ensures bits { λ _. ⌜ now («out_masks» .exit) ≡ built 0 (length (now («out_masks» .entry))) (combineAnswer Operation.Union (asWords nrows ncols (now («row_word_ptr» .entry)) (now («word_indices» .entry)) (now (masks .entry)) «structural_nnz») (asWords «other_nrows» «other_ncols» (now («other_row_word_ptr» .entry)) (now («other_word_indices» .entry)) (now («other_masks» .entry)) «other_structural_nnz») (asRoom (length (now («out_ptr» .entry))) (length (now («out_words» .entry))) (length (now («out_masks» .entry))))) (combinedWords Operation.Union (asWords nrows ncols (now («row_word_ptr» .entry)) (now («word_indices» .entry)) (now (masks .entry)) «structural_nnz») (asWords «other_nrows» «other_ncols» (now («other_row_word_ptr» .entry)) (now («other_word_indices» .entry)) (now («other_masks» .entry)) «other_structural_nnz») .mask) ⌝ }
+{
+    let answer = topology_combine::combine(
+        Operation::Union,
+        nrows,
+        ncols,
+        row_word_ptr,
+        word_indices,
+        masks,
+        structural_nnz,
+        other_nrows,
+        other_ncols,
+        other_row_word_ptr,
+        other_word_indices,
+        other_masks,
+        other_structural_nnz,
+        out_ptr,
+        out_words,
+        out_masks,
+    );
+    denimrasp_answers::topology_built(answer)
+}
+
+// The columns that both hold.
+#[no_mangle]
+pub extern "C" fn denimrasp_topology_intersection(
+    nrows: usize,
+    ncols: usize,
+    row_word_ptr: &[u32],
+    word_indices: &[u32],
+    masks: &[u64],
+    structural_nnz: usize,
+    other_nrows: usize,
+    other_ncols: usize,
+    other_row_word_ptr: &[u32],
+    other_word_indices: &[u32],
+    other_masks: &[u64],
+    other_structural_nnz: usize,
+    out_ptr: &mut [u32],
+    out_words: &mut [u32],
+    out_masks: &mut [u64],
+) -> DenimraspTopology
+    ensures answer { λ r. ⌜ r ≡ topologyOf (answers (combineAnswer Operation.Intersection (asWords nrows ncols (now («row_word_ptr» .entry)) (now («word_indices» .entry)) (now (masks .entry)) «structural_nnz») (asWords «other_nrows» «other_ncols» (now («other_row_word_ptr» .entry)) (now («other_word_indices» .entry)) (now («other_masks» .entry)) «other_structural_nnz») (asRoom (length (now («out_ptr» .entry))) (length (now («out_words» .entry))) (length (now («out_masks» .entry))))) (usedOf (combinedWords Operation.Intersection (asWords nrows ncols (now («row_word_ptr» .entry)) (now («word_indices» .entry)) (now (masks .entry)) «structural_nnz») (asWords «other_nrows» «other_ncols» (now («other_row_word_ptr» .entry)) (now («other_word_indices» .entry)) (now («other_masks» .entry)) «other_structural_nnz»)))) ⌝ }
+    ensures pointers { λ _. ⌜ now («out_ptr» .exit) ≡ built 0 (length (now («out_ptr» .entry))) (combineAnswer Operation.Intersection (asWords nrows ncols (now («row_word_ptr» .entry)) (now («word_indices» .entry)) (now (masks .entry)) «structural_nnz») (asWords «other_nrows» «other_ncols» (now («other_row_word_ptr» .entry)) (now («other_word_indices» .entry)) (now («other_masks» .entry)) «other_structural_nnz») (asRoom (length (now («out_ptr» .entry))) (length (now («out_words» .entry))) (length (now («out_masks» .entry))))) (combinedWords Operation.Intersection (asWords nrows ncols (now («row_word_ptr» .entry)) (now («word_indices» .entry)) (now (masks .entry)) «structural_nnz») (asWords «other_nrows» «other_ncols» (now («other_row_word_ptr» .entry)) (now («other_word_indices» .entry)) (now («other_masks» .entry)) «other_structural_nnz») .ptr) ⌝ }
+    ensures numbers { λ _. ⌜ now («out_words» .exit) ≡ built 0 (length (now («out_words» .entry))) (combineAnswer Operation.Intersection (asWords nrows ncols (now («row_word_ptr» .entry)) (now («word_indices» .entry)) (now (masks .entry)) «structural_nnz») (asWords «other_nrows» «other_ncols» (now («other_row_word_ptr» .entry)) (now («other_word_indices» .entry)) (now («other_masks» .entry)) «other_structural_nnz») (asRoom (length (now («out_ptr» .entry))) (length (now («out_words» .entry))) (length (now («out_masks» .entry))))) (combinedWords Operation.Intersection (asWords nrows ncols (now («row_word_ptr» .entry)) (now («word_indices» .entry)) (now (masks .entry)) «structural_nnz») (asWords «other_nrows» «other_ncols» (now («other_row_word_ptr» .entry)) (now («other_word_indices» .entry)) (now («other_masks» .entry)) «other_structural_nnz») .word) ⌝ }
+    ensures bits { λ _. ⌜ now («out_masks» .exit) ≡ built 0 (length (now («out_masks» .entry))) (combineAnswer Operation.Intersection (asWords nrows ncols (now («row_word_ptr» .entry)) (now («word_indices» .entry)) (now (masks .entry)) «structural_nnz») (asWords «other_nrows» «other_ncols» (now («other_row_word_ptr» .entry)) (now («other_word_indices» .entry)) (now («other_masks» .entry)) «other_structural_nnz») (asRoom (length (now («out_ptr» .entry))) (length (now («out_words» .entry))) (length (now («out_masks» .entry))))) (combinedWords Operation.Intersection (asWords nrows ncols (now («row_word_ptr» .entry)) (now («word_indices» .entry)) (now (masks .entry)) «structural_nnz») (asWords «other_nrows» «other_ncols» (now («other_row_word_ptr» .entry)) (now («other_word_indices» .entry)) (now («other_masks» .entry)) «other_structural_nnz») .mask) ⌝ }
+{
+    let answer = topology_combine::combine(
+        Operation::Intersection,
+        nrows,
+        ncols,
+        row_word_ptr,
+        word_indices,
+        masks,
+        structural_nnz,
+        other_nrows,
+        other_ncols,
+        other_row_word_ptr,
+        other_word_indices,
+        other_masks,
+        other_structural_nnz,
+        out_ptr,
+        out_words,
+        out_masks,
+    );
+    denimrasp_answers::topology_built(answer)
+}
+
+// The columns that the first holds and the other does not.
+#[no_mangle]
+pub extern "C" fn denimrasp_topology_and_not(
+    nrows: usize,
+    ncols: usize,
+    row_word_ptr: &[u32],
+    word_indices: &[u32],
+    masks: &[u64],
+    structural_nnz: usize,
+    other_nrows: usize,
+    other_ncols: usize,
+    other_row_word_ptr: &[u32],
+    other_word_indices: &[u32],
+    other_masks: &[u64],
+    other_structural_nnz: usize,
+    out_ptr: &mut [u32],
+    out_words: &mut [u32],
+    out_masks: &mut [u64],
+) -> DenimraspTopology
+    ensures answer { λ r. ⌜ r ≡ topologyOf (answers (combineAnswer Operation.AndNot (asWords nrows ncols (now («row_word_ptr» .entry)) (now («word_indices» .entry)) (now (masks .entry)) «structural_nnz») (asWords «other_nrows» «other_ncols» (now («other_row_word_ptr» .entry)) (now («other_word_indices» .entry)) (now («other_masks» .entry)) «other_structural_nnz») (asRoom (length (now («out_ptr» .entry))) (length (now («out_words» .entry))) (length (now («out_masks» .entry))))) (usedOf (combinedWords Operation.AndNot (asWords nrows ncols (now («row_word_ptr» .entry)) (now («word_indices» .entry)) (now (masks .entry)) «structural_nnz») (asWords «other_nrows» «other_ncols» (now («other_row_word_ptr» .entry)) (now («other_word_indices» .entry)) (now («other_masks» .entry)) «other_structural_nnz»)))) ⌝ }
+    ensures pointers { λ _. ⌜ now («out_ptr» .exit) ≡ built 0 (length (now («out_ptr» .entry))) (combineAnswer Operation.AndNot (asWords nrows ncols (now («row_word_ptr» .entry)) (now («word_indices» .entry)) (now (masks .entry)) «structural_nnz») (asWords «other_nrows» «other_ncols» (now («other_row_word_ptr» .entry)) (now («other_word_indices» .entry)) (now («other_masks» .entry)) «other_structural_nnz») (asRoom (length (now («out_ptr» .entry))) (length (now («out_words» .entry))) (length (now («out_masks» .entry))))) (combinedWords Operation.AndNot (asWords nrows ncols (now («row_word_ptr» .entry)) (now («word_indices» .entry)) (now (masks .entry)) «structural_nnz») (asWords «other_nrows» «other_ncols» (now («other_row_word_ptr» .entry)) (now («other_word_indices» .entry)) (now («other_masks» .entry)) «other_structural_nnz») .ptr) ⌝ }
+    ensures numbers { λ _. ⌜ now («out_words» .exit) ≡ built 0 (length (now («out_words» .entry))) (combineAnswer Operation.AndNot (asWords nrows ncols (now («row_word_ptr» .entry)) (now («word_indices» .entry)) (now (masks .entry)) «structural_nnz») (asWords «other_nrows» «other_ncols» (now («other_row_word_ptr» .entry)) (now («other_word_indices» .entry)) (now («other_masks» .entry)) «other_structural_nnz») (asRoom (length (now («out_ptr» .entry))) (length (now («out_words» .entry))) (length (now («out_masks» .entry))))) (combinedWords Operation.AndNot (asWords nrows ncols (now («row_word_ptr» .entry)) (now («word_indices» .entry)) (now (masks .entry)) «structural_nnz») (asWords «other_nrows» «other_ncols» (now («other_row_word_ptr» .entry)) (now («other_word_indices» .entry)) (now («other_masks» .entry)) «other_structural_nnz») .word) ⌝ }
+    ensures bits { λ _. ⌜ now («out_masks» .exit) ≡ built 0 (length (now («out_masks» .entry))) (combineAnswer Operation.AndNot (asWords nrows ncols (now («row_word_ptr» .entry)) (now («word_indices» .entry)) (now (masks .entry)) «structural_nnz») (asWords «other_nrows» «other_ncols» (now («other_row_word_ptr» .entry)) (now («other_word_indices» .entry)) (now («other_masks» .entry)) «other_structural_nnz») (asRoom (length (now («out_ptr» .entry))) (length (now («out_words» .entry))) (length (now («out_masks» .entry))))) (combinedWords Operation.AndNot (asWords nrows ncols (now («row_word_ptr» .entry)) (now («word_indices» .entry)) (now (masks .entry)) «structural_nnz») (asWords «other_nrows» «other_ncols» (now («other_row_word_ptr» .entry)) (now («other_word_indices» .entry)) (now («other_masks» .entry)) «other_structural_nnz») .mask) ⌝ }
+{
+    let answer = topology_combine::combine(
+        Operation::AndNot,
+        nrows,
+        ncols,
+        row_word_ptr,
+        word_indices,
+        masks,
+        structural_nnz,
+        other_nrows,
+        other_ncols,
+        other_row_word_ptr,
+        other_word_indices,
+        other_masks,
+        other_structural_nnz,
+        out_ptr,
+        out_words,
+        out_masks,
+    );
+    denimrasp_answers::topology_built(answer)
+}
+
+// The columns that one of them holds and the other does not.
+#[no_mangle]
+pub extern "C" fn denimrasp_topology_xor(
+    nrows: usize,
+    ncols: usize,
+    row_word_ptr: &[u32],
+    word_indices: &[u32],
+    masks: &[u64],
+    structural_nnz: usize,
+    other_nrows: usize,
+    other_ncols: usize,
+    other_row_word_ptr: &[u32],
+    other_word_indices: &[u32],
+    other_masks: &[u64],
+    other_structural_nnz: usize,
+    out_ptr: &mut [u32],
+    out_words: &mut [u32],
+    out_masks: &mut [u64],
+) -> DenimraspTopology
+    ensures answer { λ r. ⌜ r ≡ topologyOf (answers (combineAnswer Operation.Xor (asWords nrows ncols (now («row_word_ptr» .entry)) (now («word_indices» .entry)) (now (masks .entry)) «structural_nnz») (asWords «other_nrows» «other_ncols» (now («other_row_word_ptr» .entry)) (now («other_word_indices» .entry)) (now («other_masks» .entry)) «other_structural_nnz») (asRoom (length (now («out_ptr» .entry))) (length (now («out_words» .entry))) (length (now («out_masks» .entry))))) (usedOf (combinedWords Operation.Xor (asWords nrows ncols (now («row_word_ptr» .entry)) (now («word_indices» .entry)) (now (masks .entry)) «structural_nnz») (asWords «other_nrows» «other_ncols» (now («other_row_word_ptr» .entry)) (now («other_word_indices» .entry)) (now («other_masks» .entry)) «other_structural_nnz»)))) ⌝ }
+    ensures pointers { λ _. ⌜ now («out_ptr» .exit) ≡ built 0 (length (now («out_ptr» .entry))) (combineAnswer Operation.Xor (asWords nrows ncols (now («row_word_ptr» .entry)) (now («word_indices» .entry)) (now (masks .entry)) «structural_nnz») (asWords «other_nrows» «other_ncols» (now («other_row_word_ptr» .entry)) (now («other_word_indices» .entry)) (now («other_masks» .entry)) «other_structural_nnz») (asRoom (length (now («out_ptr» .entry))) (length (now («out_words» .entry))) (length (now («out_masks» .entry))))) (combinedWords Operation.Xor (asWords nrows ncols (now («row_word_ptr» .entry)) (now («word_indices» .entry)) (now (masks .entry)) «structural_nnz») (asWords «other_nrows» «other_ncols» (now («other_row_word_ptr» .entry)) (now («other_word_indices» .entry)) (now («other_masks» .entry)) «other_structural_nnz») .ptr) ⌝ }
+    ensures numbers { λ _. ⌜ now («out_words» .exit) ≡ built 0 (length (now («out_words» .entry))) (combineAnswer Operation.Xor (asWords nrows ncols (now («row_word_ptr» .entry)) (now («word_indices» .entry)) (now (masks .entry)) «structural_nnz») (asWords «other_nrows» «other_ncols» (now («other_row_word_ptr» .entry)) (now («other_word_indices» .entry)) (now («other_masks» .entry)) «other_structural_nnz») (asRoom (length (now («out_ptr» .entry))) (length (now («out_words» .entry))) (length (now («out_masks» .entry))))) (combinedWords Operation.Xor (asWords nrows ncols (now («row_word_ptr» .entry)) (now («word_indices» .entry)) (now (masks .entry)) «structural_nnz») (asWords «other_nrows» «other_ncols» (now («other_row_word_ptr» .entry)) (now («other_word_indices» .entry)) (now («other_masks» .entry)) «other_structural_nnz») .word) ⌝ }
+    ensures bits { λ _. ⌜ now («out_masks» .exit) ≡ built 0 (length (now («out_masks» .entry))) (combineAnswer Operation.Xor (asWords nrows ncols (now («row_word_ptr» .entry)) (now («word_indices» .entry)) (now (masks .entry)) «structural_nnz») (asWords «other_nrows» «other_ncols» (now («other_row_word_ptr» .entry)) (now («other_word_indices» .entry)) (now («other_masks» .entry)) «other_structural_nnz») (asRoom (length (now («out_ptr» .entry))) (length (now («out_words» .entry))) (length (now («out_masks» .entry))))) (combinedWords Operation.Xor (asWords nrows ncols (now («row_word_ptr» .entry)) (now («word_indices» .entry)) (now (masks .entry)) «structural_nnz») (asWords «other_nrows» «other_ncols» (now («other_row_word_ptr» .entry)) (now («other_word_indices» .entry)) (now («other_masks» .entry)) «other_structural_nnz») .mask) ⌝ }
+{
+    let answer = topology_combine::combine(
+        Operation::Xor,
+        nrows,
+        ncols,
+        row_word_ptr,
+        word_indices,
+        masks,
+        structural_nnz,
+        other_nrows,
+        other_ncols,
+        other_row_word_ptr,
+        other_word_indices,
+        other_masks,
+        other_structural_nnz,
+        out_ptr,
+        out_words,
+        out_masks,
+    );
+    denimrasp_answers::topology_built(answer)
+}
+
+// The Rust's `validate`.
+#[no_mangle]
+pub extern "C" fn denimrasp_metadata_first_check(
+    nrows: usize,
+    ncols: usize,
+    row_word_ptr: &[u32],
+    word_indices: &[u32],
+    masks: &[u64],
+    structural_nnz: usize,
+    row_value_ptr: &[u32],
+    values: &[f64],
+) -> DenimraspVerdict
+    ensures { λ r. ⌜ r ≡ verdictOf (storeAnswer (asStore nrows ncols (now («row_word_ptr» .entry)) (now («word_indices» .entry)) (now (masks .entry)) «structural_nnz» (now («row_value_ptr» .entry)) (now (values .entry)))) ⌝ }
+{
+    let answer = metadata_first::check(
+        nrows,
+        ncols,
+        row_word_ptr,
+        word_indices,
+        masks,
+        structural_nnz,
+        row_value_ptr,
+        values,
+    );
+    denimrasp_answers::verdict(answer)
+}
+
+// Whether the plot list can be packed: 4 too where a merged value is not finite. Writes nothing.
+#[no_mangle]
+pub extern "C" fn denimrasp_metadata_first_check_merge(
+    nrows: usize,
+    ncols: usize,
+    row_ptr: &[u32],
+    col_idx: &[u32],
+    values: &[f64],
+) -> DenimraspVerdict
+    ensures { λ r. ⌜ r ≡ verdictOf (mergeAnswer (asCsr nrows ncols (now («row_ptr» .entry)) (now («col_idx» .entry)) (now (values .entry)))) ⌝ }
+{
+    let answer = metadata_first_merge::check(nrows, ncols, row_ptr, col_idx, values);
+    denimrasp_answers::verdict(answer)
+}
+
+// The packed store of a plot list.
+#[no_mangle]
+pub extern "C" fn denimrasp_metadata_first_from_csr32(
+    nrows: usize,
+    ncols: usize,
+    row_ptr: &[u32],
+    col_idx: &[u32],
+    values: &[f64],
+    row_word_ptr: &mut [u32],
+    word_indices: &mut [u32],
+    masks: &mut [u64],
+    row_value_ptr: &mut [u32],
+    packed: &mut [f64],
+) -> DenimraspTopology
+    ensures answer { λ r. ⌜ r ≡ topologyOf (answers (packAnswer (asCsr nrows ncols (now («row_ptr» .entry)) (now («col_idx» .entry)) (now (values .entry))) (asStoreRoom (length (now («row_word_ptr» .entry))) (length (now («word_indices» .entry))) (length (now (masks .entry))) (length (now («row_value_ptr» .entry))) (length (now (packed .entry))))) (usedOf (storeOf (asCsr nrows ncols (now («row_ptr» .entry)) (now («col_idx» .entry)) (now (values .entry))) .words))) ⌝ }
+    ensures pointers { λ _. ⌜ now («row_word_ptr» .exit) ≡ built 0 (length (now («row_word_ptr» .entry))) (packAnswer (asCsr nrows ncols (now («row_ptr» .entry)) (now («col_idx» .entry)) (now (values .entry))) (asStoreRoom (length (now («row_word_ptr» .entry))) (length (now («word_indices» .entry))) (length (now (masks .entry))) (length (now («row_value_ptr» .entry))) (length (now (packed .entry))))) (storeOf (asCsr nrows ncols (now («row_ptr» .entry)) (now («col_idx» .entry)) (now (values .entry))) .words .ptr) ⌝ }
+    ensures numbers { λ _. ⌜ now («word_indices» .exit) ≡ built 0 (length (now («word_indices» .entry))) (packAnswer (asCsr nrows ncols (now («row_ptr» .entry)) (now («col_idx» .entry)) (now (values .entry))) (asStoreRoom (length (now («row_word_ptr» .entry))) (length (now («word_indices» .entry))) (length (now (masks .entry))) (length (now («row_value_ptr» .entry))) (length (now (packed .entry))))) (storeOf (asCsr nrows ncols (now («row_ptr» .entry)) (now («col_idx» .entry)) (now (values .entry))) .words .word) ⌝ }
+    ensures bits { λ _. ⌜ now (masks .exit) ≡ built 0 (length (now (masks .entry))) (packAnswer (asCsr nrows ncols (now («row_ptr» .entry)) (now («col_idx» .entry)) (now (values .entry))) (asStoreRoom (length (now («row_word_ptr» .entry))) (length (now («word_indices» .entry))) (length (now (masks .entry))) (length (now («row_value_ptr» .entry))) (length (now (packed .entry))))) (storeOf (asCsr nrows ncols (now («row_ptr» .entry)) (now («col_idx» .entry)) (now (values .entry))) .words .mask) ⌝ }
+    ensures starts { λ _. ⌜ now («row_value_ptr» .exit) ≡ built 0 (length (now («row_value_ptr» .entry))) (packAnswer (asCsr nrows ncols (now («row_ptr» .entry)) (now («col_idx» .entry)) (now (values .entry))) (asStoreRoom (length (now («row_word_ptr» .entry))) (length (now («word_indices» .entry))) (length (now (masks .entry))) (length (now («row_value_ptr» .entry))) (length (now (packed .entry))))) (storeOf (asCsr nrows ncols (now («row_ptr» .entry)) (now («col_idx» .entry)) (now (values .entry))) .vptr) ⌝ }
+    ensures values { λ _. ⌜ now (packed .exit) ≡ built zero64 (length (now (packed .entry))) (packAnswer (asCsr nrows ncols (now («row_ptr» .entry)) (now («col_idx» .entry)) (now (values .entry))) (asStoreRoom (length (now («row_word_ptr» .entry))) (length (now («word_indices» .entry))) (length (now (masks .entry))) (length (now («row_value_ptr» .entry))) (length (now (packed .entry))))) (storeOf (asCsr nrows ncols (now («row_ptr» .entry)) (now («col_idx» .entry)) (now (values .entry))) .vals) ⌝ }
+{
+    let answer = metadata_first_build::from_csr32(
+        nrows,
+        ncols,
+        row_ptr,
+        col_idx,
+        values,
+        row_word_ptr,
+        word_indices,
+        masks,
+        row_value_ptr,
+        packed,
+    );
+    denimrasp_answers::topology_built(answer)
+}
+
+// The places of the row's values in their list: from start, below end.
+#[no_mangle]
+pub extern "C" fn denimrasp_metadata_first_row_values(
+    nrows: usize,
+    ncols: usize,
+    row_word_ptr: &[u32],
+    word_indices: &[u32],
+    masks: &[u64],
+    structural_nnz: usize,
+    row_value_ptr: &[u32],
+    values: &[f64],
+    row: usize,
+) -> DenimraspPart
+    ensures { λ r. ⌜ r ≡ partOf (answers (storeRowAnswer (asStore nrows ncols (now («row_word_ptr» .entry)) (now («word_indices» .entry)) (now (masks .entry)) «structural_nnz» (now («row_value_ptr» .entry)) (now (values .entry))) row) (placesOf (now («row_value_ptr» .entry)) row)) ⌝ }
+{
+    let v = metadata_first::check(
+        nrows,
+        ncols,
+        row_word_ptr,
+        word_indices,
+        masks,
+        structural_nnz,
+        row_value_ptr,
+        values,
+    );
+    if let Verdict::Refused(e) = v {
+        return denimrasp_answers::part_refused(e);
+    }
+    if row >= nrows {
+        return denimrasp_answers::part_refused(HybitError::NoSuchPlace);
+    }
+    denimrasp_answers::part(row_value_ptr, row)
+}
+
+// The figures of a store.
+#[no_mangle]
+pub extern "C" fn denimrasp_metadata_first_stats(
+    nrows: usize,
+    ncols: usize,
+    row_word_ptr: &[u32],
+    word_indices: &[u32],
+    masks: &[u64],
+    structural_nnz: usize,
+    row_value_ptr: &[u32],
+    values: &[f64],
+) -> DenimraspStoreStats
+    ensures { λ r. ⌜ r ≡ storeStatsOf (answers (storeAnswer (asStore nrows ncols (now («row_word_ptr» .entry)) (now («word_indices» .entry)) (now (masks .entry)) «structural_nnz» (now («row_value_ptr» .entry)) (now (values .entry)))) (storeStats (asStore nrows ncols (now («row_word_ptr» .entry)) (now («word_indices» .entry)) (now (masks .entry)) «structural_nnz» (now («row_value_ptr» .entry)) (now (values .entry))))) ⌝ }
+{
+    let answer = metadata_first::stats(
+        nrows,
+        ncols,
+        row_word_ptr,
+        word_indices,
+        masks,
+        structural_nnz,
+        row_value_ptr,
+        values,
+    );
+    denimrasp_answers::store_stats(answer)
+}
+
+// One row's pruned dot, with its counts.
+#[no_mangle]
+pub extern "C" fn denimrasp_metadata_first_sparse_dot_row(
+    nrows: usize,
+    ncols: usize,
+    row_word_ptr: &[u32],
+    word_indices: &[u32],
+    masks: &[u64],
+    structural_nnz: usize,
+    row_value_ptr: &[u32],
+    values: &[f64],
+    row: usize,
+    mask_len: usize,
+    mask: &[u64],
+    x: &[f64],
+) -> DenimraspDot
+    ensures { λ r. ⌜ r ≡ dotOf (sparseDotRow (asStore nrows ncols (now («row_word_ptr» .entry)) (now («word_indices» .entry)) (now (masks .entry)) «structural_nnz» (now («row_value_ptr» .entry)) (now (values .entry))) (asMask «mask_len» (now (mask .entry))) (now (x .entry)) row) ⌝ }
+{
+    let answer = metadata_first_dot::sparse_dot_row(
+        nrows,
+        ncols,
+        row_word_ptr,
+        word_indices,
+        masks,
+        structural_nnz,
+        row_value_ptr,
+        values,
+        row,
+        mask_len,
+        mask,
+        x,
+    );
+    denimrasp_answers::dot(answer)
+}
+
+// Every row's number and count of executed products.
+#[no_mangle]
+pub extern "C" fn denimrasp_metadata_first_sparse_dot_rows(
+    nrows: usize,
+    ncols: usize,
+    row_word_ptr: &[u32],
+    word_indices: &[u32],
+    masks: &[u64],
+    structural_nnz: usize,
+    row_value_ptr: &[u32],
+    values: &[f64],
+    mask_len: usize,
+    mask: &[u64],
+    x: &[f64],
+    sums: &mut [f64],
+    executed: &mut [u32],
+) -> DenimraspVerdict
+    ensures answer { λ r. ⌜ r ≡ verdictOf (rowsAnswer (asStore nrows ncols (now («row_word_ptr» .entry)) (now («word_indices» .entry)) (now (masks .entry)) «structural_nnz» (now («row_value_ptr» .entry)) (now (values .entry))) (asMask «mask_len» (now (mask .entry))) (now (x .entry)) (length (now (sums .entry))) (length (now (executed .entry)))) ⌝ }
+    ensures sums { λ _. ⌜ now (sums .exit) ≡ built zero64 (length (now (sums .entry))) (rowsAnswer (asStore nrows ncols (now («row_word_ptr» .entry)) (now («word_indices» .entry)) (now (masks .entry)) «structural_nnz» (now («row_value_ptr» .entry)) (now (values .entry))) (asMask «mask_len» (now (mask .entry))) (now (x .entry)) (length (now (sums .entry))) (length (now (executed .entry)))) (rowSums (asStore nrows ncols (now («row_word_ptr» .entry)) (now («word_indices» .entry)) (now (masks .entry)) «structural_nnz» (now («row_value_ptr» .entry)) (now (values .entry))) (asMask «mask_len» (now (mask .entry))) (now (x .entry))) ⌝ }
+    ensures counts { λ _. ⌜ now (executed .exit) ≡ built 0 (length (now (executed .entry))) (rowsAnswer (asStore nrows ncols (now («row_word_ptr» .entry)) (now («word_indices» .entry)) (now (masks .entry)) «structural_nnz» (now («row_value_ptr» .entry)) (now (values .entry))) (asMask «mask_len» (now (mask .entry))) (now (x .entry)) (length (now (sums .entry))) (length (now (executed .entry)))) (rowCounts (asStore nrows ncols (now («row_word_ptr» .entry)) (now («word_indices» .entry)) (now (masks .entry)) «structural_nnz» (now («row_value_ptr» .entry)) (now (values .entry))) (asMask «mask_len» (now (mask .entry))) (now (x .entry))) ⌝ }
+{
+    let answer = metadata_first_dot::sparse_dot_rows(
+        nrows,
+        ncols,
+        row_word_ptr,
+        word_indices,
+        masks,
+        structural_nnz,
+        row_value_ptr,
+        values,
+        mask_len,
+        mask,
+        x,
+        sums,
+        executed,
+    );
+    denimrasp_answers::verdict(answer)
+}
+
+// The first column of a word.
+#[no_mangle]
+pub extern "C" fn denimrasp_word_base_col(word_index: u32) -> usize
+    ensures { λ r. ⌜ r ≡ 64 * «word_index» ⌝ }
+{
+    AbtmTopologyWord {
+        word_index,
+        mask: 0,
+    }.base_col()
+}
+
+// How many bits the mask has.
+#[no_mangle]
+pub extern "C" fn denimrasp_word_popcount(mask: u64) -> usize
+    ensures { λ r. ⌜ r ≡ count (has mask) 64 ⌝ }
+{
+    word::popcount(mask)
+}
+
+// Whether bit offset is set; false from 64 on.
+#[no_mangle]
+pub extern "C" fn denimrasp_word_contains_offset(mask: u64, offset: usize) -> bool
+    ensures { λ r. ⌜ r ≡ has mask offset ⌝ }
+{
+    word::contains_offset(mask, offset)
+}
+
+// How many bits below offset are set; 7 above 64.
+#[no_mangle]
+pub extern "C" fn denimrasp_word_rank(mask: u64, offset: usize) -> DenimraspCount
+    ensures { λ r. ⌜ r ≡ countOf (wordRankAnswer mask offset) ⌝ }
+{
+    denimrasp_answers::count(word::rank(mask, offset))
+}
+
+// The bit with ordinal set bits below it, if there is one.
+#[no_mangle]
+pub extern "C" fn denimrasp_word_select(mask: u64, ordinal: usize) -> DenimraspSelect
+    ensures { λ r. ⌜ r ≡ selectOf (gives (selected (has mask) 64 ordinal)) ⌝ }
+{
+    denimrasp_answers::word_selection(word::select(mask, ordinal))
+}
+
+// Columns for each word; the ratios are 0.0 where there is nothing to divide by.
+#[no_mangle]
+pub extern "C" fn denimrasp_topology_average_word_nnz(
+    structural_nnz: usize,
+    nonempty_words: usize,
+) -> f64
+    ensures { λ r. ⌜ r ≡ ratioOf «structural_nnz» «nonempty_words» ⌝ }
+{
+    let s = AbtmTopologyStats {
+        nrows: 0,
+        ncols: 0,
+        structural_nnz: structural_nnz,
+        nonempty_words: nonempty_words,
+        metadata_bytes: 0,
+    };
+    s.average_word_nnz()
+}
+
+// The same for each of the 64 columns of a word.
+#[no_mangle]
+pub extern "C" fn denimrasp_topology_word_fill_ratio(
+    structural_nnz: usize,
+    nonempty_words: usize,
+) -> f64
+    ensures { λ r. ⌜ r ≡ div binary64 (ratioOf «structural_nnz» «nonempty_words») (countAsFloat 64) ⌝ }
+{
+    let s = AbtmTopologyStats {
+        nrows: 0,
+        ncols: 0,
+        structural_nnz: structural_nnz,
+        nonempty_words: nonempty_words,
+        metadata_bytes: 0,
+    };
+    s.word_fill_ratio()
+}
+
+// Bytes for each column.
+#[no_mangle]
+pub extern "C" fn denimrasp_topology_metadata_bytes_per_nnz(
+    metadata_bytes: usize,
+    structural_nnz: usize,
+) -> f64
+    ensures { λ r. ⌜ r ≡ ratioOf «metadata_bytes» «structural_nnz» ⌝ }
+{
+    let s = AbtmTopologyStats {
+        nrows: 0,
+        ncols: 0,
+        structural_nnz: structural_nnz,
+        nonempty_words: 0,
+        metadata_bytes: metadata_bytes,
+    };
+    s.metadata_bytes_per_nnz()
+}
+
+// Skipped products among the candidates.
+#[no_mangle]
+pub extern "C" fn denimrasp_metadata_first_pruning_ratio(
+    skipped_products: usize,
+    candidate_products: usize,
+) -> f64
+    ensures { λ r. ⌜ r ≡ ratioOf «skipped_products» «candidate_products» ⌝ }
+{
+    let s = AbtmProductPruningStats {
+        candidate_products: candidate_products,
+        executed_products: 0,
+        skipped_products: skipped_products,
+        topology_words: 0,
+        active_words: 0,
+    };
+    s.pruning_ratio()
+}
+
+// Words without a product among the words; 0.0 where more are active than there are.
+#[no_mangle]
+pub extern "C" fn denimrasp_metadata_first_empty_word_ratio(
+    topology_words: usize,
+    active_words: usize,
+) -> f64
+    ensures { λ r. ⌜ r ≡ ratioOf («topology_words» - «active_words») «topology_words» ⌝ }
+{
+    let s = AbtmProductPruningStats {
+        candidate_products: 0,
+        executed_products: 0,
+        skipped_products: 0,
+        topology_words: topology_words,
+        active_words: active_words,
+    };
+    s.empty_word_ratio()
+}
+
+// Their sum, at most 2^64 − 1.
+#[no_mangle]
+pub extern "C" fn denimrasp_metadata_first_total_estimated_bytes(
+    topology_metadata_bytes: usize,
+    value_row_ptr_bytes: usize,
+    packed_value_bytes: usize,
+) -> usize
+    ensures { λ r. ⌜ r ≡ saturated («topology_metadata_bytes» + «value_row_ptr_bytes» + «packed_value_bytes») ⌝ }
+{
+    let s = AbtmMetadataFirstStats {
+        nrows: 0,
+        ncols: 0,
+        structural_nnz: 0,
+        topology_metadata_bytes,
+        value_row_ptr_bytes,
+        packed_value_bytes,
+    };
+    s.total_estimated_bytes()
+}
+
+// The five totals of two reports; 1 and no totals where one is above 2^64 − 1.
+#[no_mangle]
+pub extern "C" fn denimrasp_metadata_first_accumulate(
+    candidate_products: usize,
+    executed_products: usize,
+    skipped_products: usize,
+    topology_words: usize,
+    active_words: usize,
+    other_candidate_products: usize,
+    other_executed_products: usize,
+    other_skipped_products: usize,
+    other_topology_words: usize,
+    other_active_words: usize,
+) -> DenimraspTotals
+    ensures { λ r. ⌜ r ≡ totalsOf (answers (accumulateAnswer (countsFrom «candidate_products» «executed_products» «skipped_products» «topology_words» «active_words») (countsFrom «other_candidate_products» «other_executed_products» «other_skipped_products» «other_topology_words» «other_active_words»)) (accumulated (countsFrom «candidate_products» «executed_products» «skipped_products» «topology_words» «active_words») (countsFrom «other_candidate_products» «other_executed_products» «other_skipped_products» «other_topology_words» «other_active_words»))) ⌝ }
+{
+    let s = AbtmProductPruningStats {
+        candidate_products: candidate_products,
+        executed_products: executed_products,
+        skipped_products: skipped_products,
+        topology_words: topology_words,
+        active_words: active_words,
+    };
+    let other = AbtmProductPruningStats {
+        candidate_products: other_candidate_products,
+        executed_products: other_executed_products,
+        skipped_products: other_skipped_products,
+        topology_words: other_topology_words,
+        active_words: other_active_words,
+    };
+    denimrasp_answers::totals(s.accumulate(other))
+}

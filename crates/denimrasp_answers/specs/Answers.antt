@@ -1,0 +1,149 @@
+-- What each answer is as a struct of the C interface: 0, 0, 0 and the result when accepted; the refusal's number, expected and
+-- actual, and zeros for the result, where refused ("A refusal brings no result; a field beside it is 0").
+use Prim.Native.Nat.{ℕ, _+_}
+use mathlib.Core.Bool.{Bool, true, false}
+use mathlib.Core.List.{List}
+use mathlib.Core.Option.{Option, none, some}
+use lib.ListN.{getD}
+use Rattle.hybit_core.specs.Answer.{Answer, accepted, refused, Given, gives, refuses}
+use Rattle.hybit_core.specs.Floats.{zero64}
+use Rattle.topology.specs.declared.AbtmTopologyStats.{AbtmTopologyStats}
+use Rattle.metadata_first.specs.declared.AbtmMetadataFirstStats.{AbtmMetadataFirstStats}
+use Rattle.metadata_first.specs.declared.AbtmRowDot.{AbtmRowDot}
+use Rattle.metadata_first.specs.declared.AbtmProductPruningStats.{AbtmProductPruningStats}
+use Rattle.denimrasp_answers.specs.declared.DenimraspVerdict.{DenimraspVerdict}
+use Rattle.denimrasp_answers.specs.declared.DenimraspCount.{DenimraspCount}
+use Rattle.denimrasp_answers.specs.declared.DenimraspBool.{DenimraspBool}
+use Rattle.denimrasp_answers.specs.declared.DenimraspSelect.{DenimraspSelect}
+use Rattle.denimrasp_answers.specs.declared.DenimraspPart.{DenimraspPart}
+use Rattle.denimrasp_answers.specs.declared.DenimraspTopology.{DenimraspTopology}
+use Rattle.denimrasp_answers.specs.declared.DenimraspTopologyStats.{DenimraspTopologyStats}
+use Rattle.denimrasp_answers.specs.declared.DenimraspStoreStats.{DenimraspStoreStats}
+use Rattle.denimrasp_answers.specs.declared.DenimraspDot.{DenimraspDot}
+use Rattle.denimrasp_answers.specs.declared.DenimraspTotals.{DenimraspTotals}
+
+abbrev pub verdictOf : Answer → DenimraspVerdict
+verdictOf accepted = record { number = 0; expected = 0; actual = 0 }
+verdictOf (refused t) = record { number = t .number; expected = t .expected; actual = t .actual }
+
+abbrev pub countOf : Given ℕ → DenimraspCount
+countOf (gives n) = record { number = 0; expected = 0; actual = 0; count = n }
+countOf (refuses t) = record { number = t .number; expected = t .expected; actual = t .actual; count = 0 }
+
+abbrev pub boolOf : Given Bool → DenimraspBool
+boolOf (gives b) = record { number = 0; expected = 0; actual = 0; is = b }
+boolOf (refuses t) = record { number = t .number; expected = t .expected; actual = t .actual; is = false }
+
+abbrev pub selectOf : Given (Option ℕ) → DenimraspSelect
+selectOf (gives (some c)) = record { number = 0; expected = 0; actual = 0; found = true; column = c }
+selectOf (gives none) = record { number = 0; expected = 0; actual = 0; found = false; column = 0 }
+selectOf (refuses t) = record { number = t .number; expected = t .expected; actual = t .actual; found = false; column = 0 }
+
+-- where row r of a list starts and ends, by its pointers
+unfoldable pub placesOf : List ℕ → ℕ → ℕ × ℕ
+placesOf ptr r = (getD ptr r 0, getD ptr (r + 1) 0)
+
+-- a part of a lent list, by its first place and the place past its last
+abbrev pub partOf : Given (ℕ × ℕ) → DenimraspPart
+partOf (gives p) = record { number = 0; expected = 0; actual = 0; start = p .0; end = p .1 }
+partOf (refuses t) = record { number = t .number; expected = t .expected; actual = t .actual; start = 0; end = 0 }
+
+abbrev pub topologyOf : Given (ℕ × ℕ) → DenimraspTopology
+topologyOf (gives u) = record { number = 0; expected = 0; actual = 0; words = u .0; «structural_nnz» = u .1 }
+topologyOf (refuses t) = record { number = t .number; expected = t .expected; actual = t .actual; words = 0; «structural_nnz» = 0 }
+
+abbrev pub topologyStatsOf : Given AbtmTopologyStats → DenimraspTopologyStats
+topologyStatsOf (gives s) = record {
+  number = 0;
+  expected = 0;
+  actual = 0;
+  nrows = s .nrows;
+  ncols = s .ncols;
+  «structural_nnz» = s .«structural_nnz»;
+  «nonempty_words» = s .«nonempty_words»;
+  «metadata_bytes» = s .«metadata_bytes»;
+}
+topologyStatsOf (refuses t) = record {
+  number = t .number;
+  expected = t .expected;
+  actual = t .actual;
+  nrows = 0;
+  ncols = 0;
+  «structural_nnz» = 0;
+  «nonempty_words» = 0;
+  «metadata_bytes» = 0;
+}
+
+abbrev pub storeStatsOf : Given AbtmMetadataFirstStats → DenimraspStoreStats
+storeStatsOf (gives s) = record {
+  number = 0;
+  expected = 0;
+  actual = 0;
+  nrows = s .nrows;
+  ncols = s .ncols;
+  «structural_nnz» = s .«structural_nnz»;
+  «topology_metadata_bytes» = s .«topology_metadata_bytes»;
+  «value_row_ptr_bytes» = s .«value_row_ptr_bytes»;
+  «packed_value_bytes» = s .«packed_value_bytes»;
+}
+storeStatsOf (refuses t) = record {
+  number = t .number;
+  expected = t .expected;
+  actual = t .actual;
+  nrows = 0;
+  ncols = 0;
+  «structural_nnz» = 0;
+  «topology_metadata_bytes» = 0;
+  «value_row_ptr_bytes» = 0;
+  «packed_value_bytes» = 0;
+}
+
+abbrev pub dotOf : Given AbtmRowDot → DenimraspDot
+dotOf (gives d) = record {
+  number = 0;
+  expected = 0;
+  actual = 0;
+  sum = d .sum;
+  «candidate_products» = d .«candidate_products»;
+  «executed_products» = d .«executed_products»;
+  «skipped_products» = d .«skipped_products»;
+  «topology_words» = d .«topology_words»;
+  «active_words» = d .«active_words»;
+}
+dotOf (refuses t) = record {
+  number = t .number;
+  expected = t .expected;
+  actual = t .actual;
+  sum = zero64;
+  «candidate_products» = 0;
+  «executed_products» = 0;
+  «skipped_products» = 0;
+  «topology_words» = 0;
+  «active_words» = 0;
+}
+
+abbrev pub totalsOf : Given AbtmProductPruningStats → DenimraspTotals
+totalsOf (gives c) = record {
+  number = 0;
+  expected = 0;
+  actual = 0;
+  «candidate_products» = c .«candidate_products»;
+  «executed_products» = c .«executed_products»;
+  «skipped_products» = c .«skipped_products»;
+  «topology_words» = c .«topology_words»;
+  «active_words» = c .«active_words»;
+}
+totalsOf (refuses t) = record {
+  number = t .number;
+  expected = t .expected;
+  actual = t .actual;
+  «candidate_products» = 0;
+  «executed_products» = 0;
+  «skipped_products» = 0;
+  «topology_words» = 0;
+  «active_words» = 0;
+}
+
+-- the five counts of a report, which cross as five numbers
+abbrev pub countsFrom : ℕ → ℕ → ℕ → ℕ → ℕ → AbtmProductPruningStats
+countsFrom c e s w a = record { «candidate_products» = c; «executed_products» = e; «skipped_products» = s; «topology_words» = w; «active_words» = a }

@@ -1,0 +1,409 @@
+// The answers of the C interface: each is one struct, the refusal's number, expected and actual first (0 when accepted), then
+// the result, which is 0 where the call is refused. The calls are the crate denimrasp.
+ghost use mathlib.Core.Path.{_≡_};
+ghost use lib.ListN.{getD};
+ghost use Rattle.hybit_core.specs.Answer.{gives, refuses};
+ghost use Rattle.hybit_core.specs.Table.{paper, told, toldCount, toldBool};
+ghost use Rattle.word.specs.Word.{toldSelect};
+ghost use Rattle.topology.specs.Calls.{toldSelection, toldStats, toldTopology};
+ghost use Rattle.metadata_first.specs.Store.{toldStoreStats};
+ghost use Rattle.metadata_first.specs.Dot.{toldDot, toldTotals};
+ghost use Rattle.denimrasp_answers.specs.Answers.{verdictOf, countOf, boolOf, selectOf, partOf, placesOf, topologyOf, topologyStatsOf, storeStatsOf, dotOf, totalsOf};
+use hybit_core::BoolAnswer;
+use hybit_core::CountAnswer;
+use hybit_core::HybitError;
+use hybit_core::Verdict;
+use metadata_first::DotAnswer;
+use metadata_first::StoreStatsAnswer;
+use metadata_first::TotalsAnswer;
+use topology::SelectAnswer;
+use topology::StatsAnswer;
+use topology::TopologyAnswer;
+use word::WordSelect;
+
+#[repr(C)]
+pub struct DenimraspVerdict {
+    pub number: u32,
+    pub expected: usize,
+    pub actual: usize,
+}
+
+#[repr(C)]
+pub struct DenimraspCount {
+    pub number: u32,
+    pub expected: usize,
+    pub actual: usize,
+    pub count: usize,
+}
+
+#[repr(C)]
+pub struct DenimraspBool {
+    pub number: u32,
+    pub expected: usize,
+    pub actual: usize,
+    pub is: bool,
+}
+
+// The column is 0 where nothing was found.
+#[repr(C)]
+pub struct DenimraspSelect {
+    pub number: u32,
+    pub expected: usize,
+    pub actual: usize,
+    pub found: bool,
+    pub column: usize,
+}
+
+// A part of a lent list: the places from start, below end.
+#[repr(C)]
+pub struct DenimraspPart {
+    pub number: u32,
+    pub expected: usize,
+    pub actual: usize,
+    pub start: usize,
+    pub end: usize,
+}
+
+// How much of the lent lists a build used.
+#[repr(C)]
+pub struct DenimraspTopology {
+    pub number: u32,
+    pub expected: usize,
+    pub actual: usize,
+    pub words: usize,
+    pub structural_nnz: usize,
+}
+
+#[repr(C)]
+pub struct DenimraspTopologyStats {
+    pub number: u32,
+    pub expected: usize,
+    pub actual: usize,
+    pub nrows: usize,
+    pub ncols: usize,
+    pub structural_nnz: usize,
+    pub nonempty_words: usize,
+    pub metadata_bytes: usize,
+}
+
+#[repr(C)]
+pub struct DenimraspStoreStats {
+    pub number: u32,
+    pub expected: usize,
+    pub actual: usize,
+    pub nrows: usize,
+    pub ncols: usize,
+    pub structural_nnz: usize,
+    pub topology_metadata_bytes: usize,
+    pub value_row_ptr_bytes: usize,
+    pub packed_value_bytes: usize,
+}
+
+#[repr(C)]
+pub struct DenimraspDot {
+    pub number: u32,
+    pub expected: usize,
+    pub actual: usize,
+    pub sum: f64,
+    pub candidate_products: usize,
+    pub executed_products: usize,
+    pub skipped_products: usize,
+    pub topology_words: usize,
+    pub active_words: usize,
+}
+
+#[repr(C)]
+pub struct DenimraspTotals {
+    pub number: u32,
+    pub expected: usize,
+    pub actual: usize,
+    pub candidate_products: usize,
+    pub executed_products: usize,
+    pub skipped_products: usize,
+    pub topology_words: usize,
+    pub active_words: usize,
+}
+
+pub fn verdict(v: Verdict) -> DenimraspVerdict
+    ensures { λ r. ⌜ r ≡ verdictOf (told v) ⌝ }
+{
+    match v {
+        Verdict::Accepted => DenimraspVerdict {
+            number: 0,
+            expected: 0,
+            actual: 0,
+        },
+        Verdict::Refused(e) => DenimraspVerdict {
+            number: hybit_core::number(e),
+            expected: hybit_core::expected(e),
+            actual: hybit_core::actual(e),
+        },
+    }
+}
+
+pub fn count(a: CountAnswer) -> DenimraspCount
+    ensures { λ r. ⌜ r ≡ countOf (toldCount a) ⌝ }
+{
+    match a {
+        CountAnswer::Count(n) => DenimraspCount {
+            number: 0,
+            expected: 0,
+            actual: 0,
+            count: n,
+        },
+        CountAnswer::Refused(e) => DenimraspCount {
+            number: hybit_core::number(e),
+            expected: hybit_core::expected(e),
+            actual: hybit_core::actual(e),
+            count: 0,
+        },
+    }
+}
+
+pub fn truth(a: BoolAnswer) -> DenimraspBool
+    ensures { λ r. ⌜ r ≡ boolOf (toldBool a) ⌝ }
+{
+    match a {
+        BoolAnswer::Is(b) => DenimraspBool {
+            number: 0,
+            expected: 0,
+            actual: 0,
+            is: b,
+        },
+        BoolAnswer::Refused(e) => DenimraspBool {
+            number: hybit_core::number(e),
+            expected: hybit_core::expected(e),
+            actual: hybit_core::actual(e),
+            is: false,
+        },
+    }
+}
+
+pub fn selection(a: SelectAnswer) -> DenimraspSelect
+    ensures { λ r. ⌜ r ≡ selectOf (toldSelection a) ⌝ }
+{
+    match a {
+        SelectAnswer::At(c) => DenimraspSelect {
+            number: 0,
+            expected: 0,
+            actual: 0,
+            found: true,
+            column: c,
+        },
+        SelectAnswer::Nothing => DenimraspSelect {
+            number: 0,
+            expected: 0,
+            actual: 0,
+            found: false,
+            column: 0,
+        },
+        SelectAnswer::Refused(e) => DenimraspSelect {
+            number: hybit_core::number(e),
+            expected: hybit_core::expected(e),
+            actual: hybit_core::actual(e),
+            found: false,
+            column: 0,
+        },
+    }
+}
+
+pub fn word_selection(a: WordSelect) -> DenimraspSelect
+    ensures { λ r. ⌜ r ≡ selectOf (gives (toldSelect a)) ⌝ }
+{
+    match a {
+        WordSelect::At(i) => DenimraspSelect {
+            number: 0,
+            expected: 0,
+            actual: 0,
+            found: true,
+            column: i,
+        },
+        WordSelect::Nothing => DenimraspSelect {
+            number: 0,
+            expected: 0,
+            actual: 0,
+            found: false,
+            column: 0,
+        },
+    }
+}
+
+pub fn part_refused(e: HybitError) -> DenimraspPart
+    ensures { λ r. ⌜ r ≡ partOf (refuses (paper e)) ⌝ }
+{
+    DenimraspPart {
+        number: hybit_core::number(e),
+        expected: hybit_core::expected(e),
+        actual: hybit_core::actual(e),
+        start: 0,
+        end: 0,
+    }
+}
+
+// A pointer, 0 past the last.
+fn pointer(row_ptr: &[u32], at: usize) -> usize
+    ensures { λ r. ⌜ r ≡ getD (now («row_ptr» .entry)) at 0 ⌝ }
+{
+    if at < row_ptr.len() {
+        return hybit_core::wide(row_ptr[at]);
+    }
+    0
+}
+
+// Where a row's part of a list starts and ends, by any pointers.
+pub fn part(row_ptr: &[u32], row: usize) -> DenimraspPart
+    ensures { λ r. ⌜ r ≡ partOf (gives (placesOf (now («row_ptr» .entry)) row)) ⌝ }
+{
+    if row >= row_ptr.len() {
+        return DenimraspPart {
+            number: 0,
+            expected: 0,
+            actual: 0,
+            start: 0,
+            end: 0,
+        };
+    }
+    DenimraspPart {
+        number: 0,
+        expected: 0,
+        actual: 0,
+        start: pointer(row_ptr, row),
+        end: pointer(row_ptr, row + 1),
+    }
+}
+
+pub fn topology_built(a: TopologyAnswer) -> DenimraspTopology
+    ensures { λ r. ⌜ r ≡ topologyOf (toldTopology a) ⌝ }
+{
+    match a {
+        TopologyAnswer::Built {
+            words,
+            structural_nnz,
+        } => DenimraspTopology {
+            number: 0,
+            expected: 0,
+            actual: 0,
+            words: words,
+            structural_nnz: structural_nnz,
+        },
+        TopologyAnswer::Refused(e) => DenimraspTopology {
+            number: hybit_core::number(e),
+            expected: hybit_core::expected(e),
+            actual: hybit_core::actual(e),
+            words: 0,
+            structural_nnz: 0,
+        },
+    }
+}
+
+pub fn topology_stats(a: StatsAnswer) -> DenimraspTopologyStats
+    ensures { λ r. ⌜ r ≡ topologyStatsOf (toldStats a) ⌝ }
+{
+    match a {
+        StatsAnswer::Stats(s) => DenimraspTopologyStats {
+            number: 0,
+            expected: 0,
+            actual: 0,
+            nrows: s.nrows,
+            ncols: s.ncols,
+            structural_nnz: s.structural_nnz,
+            nonempty_words: s.nonempty_words,
+            metadata_bytes: s.metadata_bytes,
+        },
+        StatsAnswer::Refused(e) => DenimraspTopologyStats {
+            number: hybit_core::number(e),
+            expected: hybit_core::expected(e),
+            actual: hybit_core::actual(e),
+            nrows: 0,
+            ncols: 0,
+            structural_nnz: 0,
+            nonempty_words: 0,
+            metadata_bytes: 0,
+        },
+    }
+}
+
+pub fn store_stats(a: StoreStatsAnswer) -> DenimraspStoreStats
+    ensures { λ r. ⌜ r ≡ storeStatsOf (toldStoreStats a) ⌝ }
+{
+    match a {
+        StoreStatsAnswer::Stats(s) => DenimraspStoreStats {
+            number: 0,
+            expected: 0,
+            actual: 0,
+            nrows: s.nrows,
+            ncols: s.ncols,
+            structural_nnz: s.structural_nnz,
+            topology_metadata_bytes: s.topology_metadata_bytes,
+            value_row_ptr_bytes: s.value_row_ptr_bytes,
+            packed_value_bytes: s.packed_value_bytes,
+        },
+        StoreStatsAnswer::Refused(e) => DenimraspStoreStats {
+            number: hybit_core::number(e),
+            expected: hybit_core::expected(e),
+            actual: hybit_core::actual(e),
+            nrows: 0,
+            ncols: 0,
+            structural_nnz: 0,
+            topology_metadata_bytes: 0,
+            value_row_ptr_bytes: 0,
+            packed_value_bytes: 0,
+        },
+    }
+}
+
+pub fn dot(a: DotAnswer) -> DenimraspDot
+    ensures { λ r. ⌜ r ≡ dotOf (toldDot a) ⌝ }
+{
+    match a {
+        DotAnswer::Dot(d) => DenimraspDot {
+            number: 0,
+            expected: 0,
+            actual: 0,
+            sum: d.sum,
+            candidate_products: d.candidate_products,
+            executed_products: d.executed_products,
+            skipped_products: d.skipped_products,
+            topology_words: d.topology_words,
+            active_words: d.active_words,
+        },
+        DotAnswer::Refused(e) => DenimraspDot {
+            number: hybit_core::number(e),
+            expected: hybit_core::expected(e),
+            actual: hybit_core::actual(e),
+            sum: 0.0f64,
+            candidate_products: 0,
+            executed_products: 0,
+            skipped_products: 0,
+            topology_words: 0,
+            active_words: 0,
+        },
+    }
+}
+
+pub fn totals(a: TotalsAnswer) -> DenimraspTotals
+    ensures { λ r. ⌜ r ≡ totalsOf (toldTotals a) ⌝ }
+{
+    match a {
+        TotalsAnswer::Totals(t) => DenimraspTotals {
+            number: 0,
+            expected: 0,
+            actual: 0,
+            candidate_products: t.candidate_products,
+            executed_products: t.executed_products,
+            skipped_products: t.skipped_products,
+            topology_words: t.topology_words,
+            active_words: t.active_words,
+        },
+        TotalsAnswer::Refused(e) => DenimraspTotals {
+            number: hybit_core::number(e),
+            expected: hybit_core::expected(e),
+            actual: hybit_core::actual(e),
+            candidate_products: 0,
+            executed_products: 0,
+            skipped_products: 0,
+            topology_words: 0,
+            active_words: 0,
+        },
+    }
+}

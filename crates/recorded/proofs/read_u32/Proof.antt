@@ -1,0 +1,62 @@
+-- `recorded::read_u32` meets its contract. Assumes nothing.
+use borrow.Author.Needs.{needs}
+use Prim.Native.Nat.{_≤_, _-_}
+use Rattle.recorded.proofs.read_u32.Statement.{statement}
+use Rattle.recorded.proofs.read_u32.Tie as tie
+
+abbrev Inv-loop : tie.InvT-loop
+Inv-loop text at out₀ used next₀ k₀ out next k = (k ≤ used) × (used ≤ 64)
+
+abbrev μ-loop : tie.MeasureT-loop
+μ-loop text at out₀ used next₀ k₀ out next k = used - k
+
+numeral-requires : tie.Need-numeral-requires Inv-loop μ-loop
+numeral-requires c κs = search needs
+
+places-requires : tie.Need-places-requires Inv-loop μ-loop
+places-requires c κs = search needs
+
+loop-holds : tie.Need-loop-holds Inv-loop μ-loop
+loop-holds c = search needs
+
+numeral-requires-2 : tie.Need-numeral-requires-2 Inv-loop μ-loop
+numeral-requires-2 c κs = search needs
+
+narrow-requires : tie.Need-narrow-requires Inv-loop μ-loop
+narrow-requires c κs = search needs
+
+mul-out : tie.Need-mul-out Inv-loop μ-loop
+mul-out c = search needs
+
+element-write-out : tie.Need-element-write-out Inv-loop μ-loop
+element-write-out c = search needs
+
+add-k : tie.Need-add-k Inv-loop μ-loop
+add-k c = search needs
+
+loop-less : tie.Need-loop-less Inv-loop μ-loop
+loop-less c = search needs
+
+loop-again : tie.Need-loop-again Inv-loop μ-loop
+loop-again c = search needs
+
+returns : tie.Need-returns Inv-loop μ-loop
+returns c = search needs
+
+pub read-u32-spec : {M : Type 1} → statement M
+read-u32-spec =
+    tie.close
+    (tie.spec
+    Inv-loop
+    μ-loop
+    numeral-requires
+    places-requires
+    loop-holds
+    numeral-requires-2
+    narrow-requires
+    mul-out
+    element-write-out
+    add-k
+    loop-less
+    loop-again
+    returns)

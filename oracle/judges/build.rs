@@ -1,4 +1,5 @@
-//! Links the library: the archive in DENIMRASP_LIB, or the one that `rt staticlib denimrasp` leaves in the project's target folder.
+//! Links the library: the archive in DENIMRASP_LIB, or the one that `rt staticlib denimrasp` leaves in the project's target
+//! folder.
 
 use std::env;
 use std::path::{Path, PathBuf};

@@ -53,7 +53,7 @@ fn number64(rng: &mut Rng, n: u64) -> u64 {
         0 => 0,
         1 => n ^ (1 << rng.below(64)),
         2 => n ^ (1 << rng.below(8)),
-        3 => rng.next(),
+        3 => rng.draw(),
         _ => u64::MAX,
     }
 }

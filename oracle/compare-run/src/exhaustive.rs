@@ -364,7 +364,7 @@ fn valued_patterns(sink: &mut impl Sink, judge: Judge, share: &mut Share) {
         for row in 0..=c.nrows {
             sink.call(&Call::MetadataFirstRowValues(s.clone(), row));
         }
-        let x = if share.next % 3 == 0 {
+        let x = if share.next.is_multiple_of(3) {
             WILD_X
         } else {
             FINITE_X

@@ -46,10 +46,10 @@ pub fn float(rng: &mut Rng, style: Style) -> f64 {
 
 fn finite(rng: &mut Rng) -> f64 {
     if rng.once_in(4) {
-        let any = f64::from_bits(rng.next());
+        let any = f64::from_bits(rng.draw());
         if any.is_finite() { any } else { 1.5 }
     } else {
-        (rng.next() as i64 >> 20) as f64 / 1024.0
+        (rng.draw() as i64 >> 20) as f64 / 1024.0
     }
 }
 
@@ -182,8 +182,8 @@ pub fn mask(rng: &mut Rng, len: usize) -> Mask {
         .map(|_| match style {
             0 => 0,
             1 => u64::MAX,
-            2 => rng.next() & rng.next() & rng.next(),
-            _ => rng.next(),
+            2 => rng.draw() & rng.draw() & rng.draw(),
+            _ => rng.draw(),
         })
         .collect();
     if let Some(last) = words.last_mut()
@@ -206,17 +206,17 @@ fn room_length(rng: &mut Rng, need: usize) -> usize {
 
 pub fn room32(rng: &mut Rng, need: usize) -> Vec<u32> {
     let n = room_length(rng, need);
-    (0..n).map(|_| rng.next() as u32).collect()
+    (0..n).map(|_| rng.draw() as u32).collect()
 }
 
 pub fn room64(rng: &mut Rng, need: usize) -> Vec<u64> {
     let n = room_length(rng, need);
-    (0..n).map(|_| rng.next()).collect()
+    (0..n).map(|_| rng.draw()).collect()
 }
 
 pub fn room_sizes(rng: &mut Rng, need: usize) -> Vec<usize> {
     let n = room_length(rng, need);
-    (0..n).map(|_| rng.next() as usize).collect()
+    (0..n).map(|_| rng.draw() as usize).collect()
 }
 
 pub fn room_floats(rng: &mut Rng, need: usize) -> Vec<f64> {

@@ -82,7 +82,7 @@ fn mask(sink: &mut impl Sink, rng: &mut Rng) {
     for _ in 0..2 {
         let (index, value) = (good::place(rng, len), rng.once_in(2));
         ask(sink, rng, Call::MaskSet(m.clone(), index, value));
-        let (word, bits) = (good::place(rng, len / 64), rng.next());
+        let (word, bits) = (good::place(rng, len / 64), rng.draw());
         ask(sink, rng, Call::MaskOrWord(m.clone(), word, bits));
     }
     let ones: u32 = m.words.iter().map(|w| w.count_ones()).sum();
@@ -241,7 +241,7 @@ fn count(rng: &mut Rng) -> usize {
         0 => rng.below(100),
         1 => (1usize << 53).wrapping_add(rng.below(64)).wrapping_sub(32),
         2 => usize::MAX - rng.below(3000),
-        _ => (rng.next() >> rng.below(64)) as usize,
+        _ => (rng.draw() >> rng.below(64)) as usize,
     }
 }
 
@@ -259,13 +259,13 @@ fn counts(rng: &mut Rng) -> [usize; 5] {
 fn by_value(sink: &mut impl Sink, rng: &mut Rng) {
     for _ in 0..3 {
         let style = rng.below(3);
-        let mask = [rng.next(), rng.next() & rng.next(), 1 << rng.below(64)][style];
+        let mask = [rng.draw(), rng.draw() & rng.draw(), 1 << rng.below(64)][style];
         let n = good::place(rng, 64);
         ask(sink, rng, Call::WordPopcount(mask));
         ask(sink, rng, Call::WordContainsOffset(mask, n));
         ask(sink, rng, Call::WordRank(mask, n));
         ask(sink, rng, Call::WordSelect(mask, n));
-        let word = rng.next() >> (32 + rng.below(32));
+        let word = rng.draw() >> (32 + rng.below(32));
         ask(sink, rng, Call::WordBaseCol(word as u32));
         let (a, b, c) = (count(rng), count(rng), count(rng));
         ask(sink, rng, Call::TopologyAverageWordNnz(a, b));

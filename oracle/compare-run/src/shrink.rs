@@ -160,9 +160,18 @@ fn cut<T>(change: usize, list: &mut Vec<T>) -> Step {
     Step::Changed
 }
 
-/// Steps that keep a record good: a row, an entry or a word dropped, or the columns cut.
+/// A step that keeps a record good.
+#[derive(Clone, Copy)]
+enum Drop {
+    Row(usize),
+    /// A stored entry, or a word; those of a second record follow those of the first.
+    Entry(usize),
+    ColumnsFrom(usize),
+}
+
+/// Smaller records: a row, an entry or a word dropped, or the columns cut.
 fn structured(call: &Call) -> impl Iterator<Item = Call> {
-    let (nrows, ncols, stored) = extent(call);
+    let (nrows, ncols, stored) = extent(&mut call.clone());
     let rows = (0..nrows.min(64)).map(Drop::Row);
     let entries = (0..stored.min(256)).map(Drop::Entry);
     let columns = [
@@ -179,35 +188,7 @@ fn structured(call: &Call) -> impl Iterator<Item = Call> {
     drops.map(|drop| dropped(call, drop))
 }
 
-fn dropped(call: &Call, drop: Drop) -> Call {
-    use Call::*;
-    let mut copy = call.clone();
-    match &mut copy {
-        Csr32Apply(c, x, y) => {
-            drop_csr(c, drop);
-            drop_numbers(drop, x, &mut [y]);
-        }
-        Csr32Check(c)
-        | Csr32MetadataBytes(c)
-        | Csr32StorageBytes(c)
-        | MetadataFirstCheckMerge(c)
-        | TopologyFromCsr32(c, _)
-        | MetadataFirstFromCsr32(c, _) => drop_csr(c, drop),
-        other => drop_above(other, drop),
-    }
-    copy
-}
-
-#[derive(Clone, Copy)]
-enum Drop {
-    Row(usize),
-    /// A stored entry, or a word.
-    Entry(usize),
-    ColumnsFrom(usize),
-}
-
-/// Rows, columns, and stored entries or words of the call's first record; 0 where it has none or a bad frame.
-fn extent(call: &Call) -> (usize, usize, usize) {
+fn csr_in(call: &mut Call) -> Option<&mut Csr> {
     use Call::*;
     match call {
         Csr32Apply(c, ..)
@@ -216,15 +197,27 @@ fn extent(call: &Call) -> (usize, usize, usize) {
         | Csr32StorageBytes(c)
         | MetadataFirstCheckMerge(c)
         | TopologyFromCsr32(c, _)
-        | MetadataFirstFromCsr32(c, _) => {
-            let n = c.col_idx.len().min(c.values.len());
-            let good = framed(&c.row_ptr, c.nrows, n);
-            if good {
-                (c.nrows, c.ncols, n)
-            } else {
-                (0, 0, 0)
-            }
-        }
+        | MetadataFirstFromCsr32(c, _) => Some(c),
+        _ => None,
+    }
+}
+
+fn store_in(call: &mut Call) -> Option<&mut Store> {
+    use Call::*;
+    match call {
+        MetadataFirstCheck(s)
+        | MetadataFirstStats(s)
+        | MetadataFirstRowValues(s, _)
+        | MetadataFirstSparseDotRow(s, ..)
+        | MetadataFirstSparseDotRows(s, ..) => Some(s),
+        _ => None,
+    }
+}
+
+/// The words that are handed in as such.
+fn words_in(call: &mut Call) -> Vec<&mut Words> {
+    use Call::*;
+    match call {
         TopologyCheck(w)
         | TopologyStats(w)
         | TopologyRowWords(w, _)
@@ -232,16 +225,18 @@ fn extent(call: &Call) -> (usize, usize, usize) {
         | TopologyRowPopcount(w, _)
         | TopologyRowContains(w, ..)
         | TopologyRowRank(w, ..)
-        | TopologyRowSelect(w, ..)
-        | TopologyUnion(w, ..)
-        | TopologyIntersection(w, ..)
-        | TopologyAndNot(w, ..)
-        | TopologyXor(w, ..) => words_extent(w),
-        MetadataFirstCheck(s)
-        | MetadataFirstStats(s)
-        | MetadataFirstRowValues(s, _)
-        | MetadataFirstSparseDotRow(s, ..)
-        | MetadataFirstSparseDotRows(s, ..) => words_extent(&s.words),
+        | TopologyRowSelect(w, ..) => vec![w],
+        TopologyUnion(a, b, _)
+        | TopologyIntersection(a, b, _)
+        | TopologyAndNot(a, b, _)
+        | TopologyXor(a, b, _) => vec![a, b],
+        _ => vec![],
+    }
+}
+
+fn masks_in(call: &mut Call) -> Vec<&mut Mask> {
+    use Call::*;
+    match call {
         MaskCheck(m)
         | MaskCountOnes(m)
         | MaskIsEmpty(m)
@@ -249,72 +244,13 @@ fn extent(call: &Call) -> (usize, usize, usize) {
         | MaskSet(m, ..)
         | MaskOrWord(m, ..)
         | MaskIndices(m, _)
-        | MaskUnionAssign(m, _)
-        | MaskIntersectAssign(m, _)
-        | MaskAndNotAssign(m, _)
-        | MaskIntersects(m, _) => (0, m.len, 0),
-        _ => (0, 0, 0),
-    }
-}
-
-fn drop_above(call: &mut Call, drop: Drop) {
-    use Call::*;
-    match call {
-        TopologyCheck(w)
-        | TopologyStats(w)
-        | TopologyRowWords(w, _)
-        | TopologyRowNonemptyWords(w, _)
-        | TopologyRowPopcount(w, _)
-        | TopologyRowContains(w, ..)
-        | TopologyRowRank(w, ..)
-        | TopologyRowSelect(w, ..) => drop_words(w, drop, None),
-        TopologyUnion(a, b, _)
-        | TopologyIntersection(a, b, _)
-        | TopologyAndNot(a, b, _)
-        | TopologyXor(a, b, _) => {
-            drop_words(a, drop, None);
-            if !matches!(drop, Drop::Entry(_)) && words_extent(b) != (0, 0, 0) {
-                drop_words(b, drop, None);
-            }
-        }
-        MetadataFirstCheck(s) | MetadataFirstStats(s) | MetadataFirstRowValues(s, _) => {
-            drop_store(s, drop);
-        }
-        MetadataFirstSparseDotRow(s, _, m, x) => {
-            drop_store(s, drop);
-            drop_mask(m, drop);
-            drop_numbers(drop, x, &mut []);
-        }
-        MetadataFirstSparseDotRows(s, m, x, sums, executed) => {
-            drop_store(s, drop);
-            drop_mask(m, drop);
-            drop_numbers(drop, x, &mut [sums]);
-            if matches!(drop, Drop::Row(_)) {
-                executed.pop();
-            }
-        }
-        other => drop_masks(other, drop),
-    }
-}
-
-fn drop_masks(call: &mut Call, drop: Drop) {
-    use Call::*;
-    match call {
-        MaskCheck(m)
-        | MaskCountOnes(m)
-        | MaskIsEmpty(m)
-        | MaskContains(m, _)
-        | MaskSet(m, ..)
-        | MaskOrWord(m, ..)
-        | MaskIndices(m, _) => drop_mask(m, drop),
+        | MetadataFirstSparseDotRow(_, _, m, _)
+        | MetadataFirstSparseDotRows(_, m, ..) => vec![m],
         MaskUnionAssign(a, b)
         | MaskIntersectAssign(a, b)
         | MaskAndNotAssign(a, b)
-        | MaskIntersects(a, b) => {
-            drop_mask(a, drop);
-            drop_mask(b, drop);
-        }
-        _ => {}
+        | MaskIntersects(a, b) => vec![a, b],
+        _ => vec![],
     }
 }
 
@@ -324,25 +260,84 @@ fn framed(ptr: &[u32], nrows: usize, n: usize) -> bool {
     ptr.len() == nrows.saturating_add(1) && ptr.is_sorted() && inside
 }
 
-fn words_extent(w: &Words) -> (usize, usize, usize) {
-    let n = w.masks.len().min(w.word_indices.len());
-    let good = framed(&w.row_word_ptr, w.nrows, n);
-    if good {
-        (w.nrows, w.ncols, n)
-    } else {
-        (0, 0, 0)
+fn stored_words(w: &Words) -> usize {
+    w.masks.len().min(w.word_indices.len())
+}
+
+fn framed_words(w: &Words) -> bool {
+    framed(&w.row_word_ptr, w.nrows, stored_words(w))
+}
+
+/// Rows, columns, and stored entries or words of the call's records; 0 where their pointers are bad.
+fn extent(call: &mut Call) -> (usize, usize, usize) {
+    if let Some(c) = csr_in(call) {
+        let n = c.col_idx.len().min(c.values.len());
+        let good = framed(&c.row_ptr, c.nrows, n);
+        return if good {
+            (c.nrows, c.ncols, n)
+        } else {
+            (0, 0, 0)
+        };
     }
+    let all: Vec<&Words> = match store_in(call) {
+        Some(s) => vec![&s.words],
+        None => words_in(call).into_iter().map(|w| &*w).collect(),
+    };
+    if let Some(first) = all.first() {
+        let stored = all.iter().map(|w| stored_words(w)).sum();
+        let good = all.iter().all(|w| framed_words(w));
+        return if good {
+            (first.nrows, first.ncols, stored)
+        } else {
+            (0, 0, 0)
+        };
+    }
+    masks_in(call).first().map_or((0, 0, 0), |m| (0, m.len, 0))
+}
+
+fn dropped(call: &Call, drop: Drop) -> Call {
+    let mut copy = call.clone();
+    if let Some(c) = csr_in(&mut copy) {
+        drop_csr(c, drop);
+    }
+    if let Some(s) = store_in(&mut copy) {
+        drop_store(s, drop);
+    }
+    let mut before = 0;
+    for w in words_in(&mut copy) {
+        let stored = stored_words(w);
+        match drop {
+            Drop::Entry(n) if n < before => {}
+            Drop::Entry(n) => drop_words(w, Drop::Entry(n - before), None),
+            _ => drop_words(w, drop, None),
+        }
+        before += stored;
+    }
+    for m in masks_in(&mut copy) {
+        drop_mask(m, drop);
+    }
+    drop_numbers(&mut copy, drop);
+    copy
 }
 
 /// x loses the columns, a list with a place for each row loses one.
-fn drop_numbers(drop: Drop, x: &mut Vec<f64>, by_row: &mut [&mut Vec<f64>]) {
-    match drop {
-        Drop::ColumnsFrom(n) => x.truncate(n),
-        Drop::Row(_) => by_row.iter_mut().for_each(|list| {
-            list.pop();
-        }),
-        Drop::Entry(_) => {}
+fn drop_numbers(call: &mut Call, drop: Drop) {
+    use Call::*;
+    match (call, drop) {
+        (Csr32Apply(_, x, _), Drop::ColumnsFrom(n))
+        | (MetadataFirstSparseDotRow(_, _, _, x), Drop::ColumnsFrom(n))
+        | (MetadataFirstSparseDotRows(_, _, x, ..), Drop::ColumnsFrom(n)) => x.truncate(n),
+        (Csr32Apply(_, _, y), Drop::Row(_)) => drop_last(y),
+        (MetadataFirstSparseDotRows(_, _, _, sums, executed), Drop::Row(_)) => {
+            drop_last(sums);
+            drop_last(executed);
+        }
+        _ => {}
     }
+}
+
+fn drop_last<T>(list: &mut Vec<T>) {
+    list.pop();
 }
 
 fn drop_mask(m: &mut Mask, drop: Drop) {

@@ -321,17 +321,7 @@ fn question(call: &Call) -> Outcome {
             with_store!(denimrasp_metadata_first_row_values, s, *r).outcome()
         }
         MetadataFirstStats(s) => with_store!(denimrasp_metadata_first_stats, s).outcome(),
-        MetadataFirstSparseDotRow(s, r, m, x) => with_store!(
-            denimrasp_metadata_first_sparse_dot_row,
-            s,
-            *r,
-            m.len,
-            m.words.as_ptr(),
-            m.words.len(),
-            x.as_ptr(),
-            x.len()
-        )
-        .outcome(),
+        MetadataFirstSparseDotRow(s, r, m, x) => sparse_dot_row(s, *r, m, x),
         MetadataFirstSparseDotRows(s, m, x, sums, executed) => {
             sparse_dot_rows(s, m, x, sums, executed)
         }
@@ -479,6 +469,20 @@ fn metadata_first_from_csr32(c: &Csr, room: &StoreRoom) -> Outcome {
             packed.numbers(),
         ],
     )
+}
+
+fn sparse_dot_row(s: &Store, row: usize, m: &Mask, x: &[f64]) -> Outcome {
+    with_store!(
+        denimrasp_metadata_first_sparse_dot_row,
+        s,
+        row,
+        m.len,
+        m.words.as_ptr(),
+        m.words.len(),
+        x.as_ptr(),
+        x.len()
+    )
+    .outcome()
 }
 
 fn sparse_dot_rows(s: &Store, m: &Mask, x: &[f64], sums: &[f64], executed: &[u32]) -> Outcome {

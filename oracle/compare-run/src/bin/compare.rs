@@ -72,5 +72,11 @@ fn main() -> ExitCode {
         }
     });
     print!("{}", summary(&TALLIES, 0));
-    ExitCode::SUCCESS
+    match options.fault {
+        Some(name) => {
+            eprintln!("the fault in {name} was not found, or there is no such call");
+            ExitCode::from(3)
+        }
+        None => ExitCode::SUCCESS,
+    }
 }

@@ -230,36 +230,32 @@ impl AbtmTopology {
 
     /// The columns that both hold, row by row.
     pub fn intersection(&self, other: &Self) -> Result<Self, HybitError> {
-        let most = self.masks.len().min(other.masks.len());
-        self.combine(other, most, calls::topology_intersection)
+        self.combine(other, calls::topology_intersection)
     }
 
     /// The columns that either holds. More than 16,777,216 words are `SizeOverflow`.
     pub fn union(&self, other: &Self) -> Result<Self, HybitError> {
-        self.combine(other, self.words_of_both(other), calls::topology_union)
+        self.combine(other, calls::topology_union)
     }
 
     /// The columns that this one holds and the other does not.
     pub fn and_not(&self, other: &Self) -> Result<Self, HybitError> {
-        self.combine(other, self.masks.len(), calls::topology_and_not)
+        self.combine(other, calls::topology_and_not)
     }
 
     /// The columns that one of them holds and the other does not. More than 16,777,216 words are `SizeOverflow`.
     pub fn xor(&self, other: &Self) -> Result<Self, HybitError> {
-        self.combine(other, self.words_of_both(other), calls::topology_xor)
+        self.combine(other, calls::topology_xor)
     }
 
+    /// Lends lists for the words of both: with shorter ones the library would count the result's words by a walk of its own.
     /// A result with more words than the limit is refused before the lists' lengths are looked at.
-    fn words_of_both(&self, other: &Self) -> usize {
-        (self.masks.len() + other.masks.len()).min(WORD_LIMIT)
-    }
-
     fn combine(
         &self,
         other: &Self,
-        most: usize,
         operation: fn(Words<'_>, Words<'_>, Room<'_>) -> Result<Used, Refusal>,
     ) -> Result<Self, HybitError> {
+        let most = (self.masks.len() + other.masks.len()).min(WORD_LIMIT);
         Self::built(self.nrows, self.ncols, most, |room| {
             operation(self.view(), other.view(), room)
         })
@@ -288,6 +284,8 @@ impl AbtmTopology {
         })?;
         topology.word_indices.truncate(used.words);
         topology.masks.truncate(used.words);
+        topology.word_indices.shrink_to_fit();
+        topology.masks.shrink_to_fit();
         topology.structural_nnz = used.structural_nnz;
         Ok(topology)
     }

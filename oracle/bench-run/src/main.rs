@@ -25,6 +25,7 @@ fn main() {
     let mut random = Random(1);
     for kind in &KINDS {
         let pair = [kind.matrix(&mut random), kind.matrix(&mut random)].map(Both::new);
+        checks(&table, kind, &pair[0]);
         products(&table, kind, &pair[0], &mut random);
         builds(&table, kind, &pair[0]);
         operations(&table, kind, &pair);
@@ -107,6 +108,34 @@ fn same_words(lists: &Lists, topology: &rust::AbtmTopology) {
     assert_eq!(lists.word_indices[..lists.words], indices);
     assert_eq!(lists.masks[..lists.words], masks);
     assert_eq!(lists.structural_nnz, topology.structural_nnz());
+}
+
+/// What every call of the library does first, beside the Rust's `validate`.
+fn checks(table: &Table, kind: &Kind, m: &Both) {
+    let mut store = m.room();
+    ours::packing(&m.csr, &mut store);
+    let rust = rust::AbtmMetadataFirstMatrix::from_csr32(&m.rust).unwrap();
+    let accepted = [
+        ours::check(&m.csr),
+        ours::check_words(kind.ncols, &store),
+        ours::check_store(kind.ncols, &store),
+    ];
+    assert_eq!(accepted, [0, 0, 0]);
+    table.line(
+        ("csr_check", kind.name, "-"),
+        || timed(|| ours::check(&m.csr)),
+        || timed(|| m.rust.validate()),
+    );
+    table.line(
+        ("topology_check", kind.name, "-"),
+        || timed(|| ours::check_words(kind.ncols, &store)),
+        || timed(|| rust.topology().validate()),
+    );
+    table.line(
+        ("store_check", kind.name, "-"),
+        || timed(|| ours::check_store(kind.ncols, &store)),
+        || timed(|| rust.validate()),
+    );
 }
 
 fn products(table: &Table, kind: &Kind, m: &Both, random: &mut Random) {

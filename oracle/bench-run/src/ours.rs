@@ -55,6 +55,23 @@ pub fn apply(m: &Csr, x: &[f64], y: &mut [f64]) {
     assert_eq!(answer.number, 0);
 }
 
+pub fn check(m: &Csr) -> u32 {
+    // SAFETY: every pointer and length is a list's.
+    let answer = unsafe {
+        sys::denimrasp_csr32_check(
+            m.nrows,
+            m.ncols,
+            m.row_ptr.as_ptr(),
+            m.row_ptr.len(),
+            m.col_idx.as_ptr(),
+            m.col_idx.len(),
+            m.values.as_ptr(),
+            m.values.len(),
+        )
+    };
+    answer.number
+}
+
 pub fn topology(m: &Csr, out: &mut Lists) {
     // SAFETY: every pointer and length is a list's, and `out` is borrowed alone.
     let answer = unsafe {
@@ -103,6 +120,46 @@ pub fn packing(m: &Csr, out: &mut Lists) {
         )
     };
     out.note(answer);
+}
+
+pub fn check_words(ncols: usize, w: &Lists) -> u32 {
+    // SAFETY: every pointer and length is a list's.
+    let answer = unsafe {
+        sys::denimrasp_topology_check(
+            w.row_word_ptr.len() - 1,
+            ncols,
+            w.row_word_ptr.as_ptr(),
+            w.row_word_ptr.len(),
+            w.word_indices.as_ptr(),
+            w.words,
+            w.masks.as_ptr(),
+            w.words,
+            w.structural_nnz,
+        )
+    };
+    answer.number
+}
+
+pub fn check_store(ncols: usize, s: &Lists) -> u32 {
+    // SAFETY: every pointer and length is a list's.
+    let answer = unsafe {
+        sys::denimrasp_metadata_first_check(
+            s.row_word_ptr.len() - 1,
+            ncols,
+            s.row_word_ptr.as_ptr(),
+            s.row_word_ptr.len(),
+            s.word_indices.as_ptr(),
+            s.words,
+            s.masks.as_ptr(),
+            s.words,
+            s.structural_nnz,
+            s.row_value_ptr.as_ptr(),
+            s.row_value_ptr.len(),
+            s.packed.as_ptr(),
+            s.structural_nnz,
+        )
+    };
+    answer.number
 }
 
 #[derive(Clone, Copy, Debug)]

@@ -105,6 +105,7 @@ impl AbtmMetadataFirstMatrix {
         })
         .map_err(|refusal| refusal.named(MERGED_NOT_FINITE))?;
         values.truncate(topology.structural_nnz());
+        values.shrink_to_fit();
         Ok(Self {
             topology,
             row_value_ptr,

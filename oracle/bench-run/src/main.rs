@@ -9,18 +9,19 @@ use hybit_matrix as rust;
 use matrices::{Csr, KINDS, Kind, Random};
 use ours::{Lists, Operation};
 use std::fs;
-use timing::{Table, timed};
+use timing::{Table, load, timed};
 
 fn main() {
     let quick = std::env::args().any(|word| word == "--quick");
     let table = Table {
-        runs: if quick { 7 } else { 21 },
+        runs: if quick { 7 } else { 31 },
     };
     machine();
     KINDS
         .iter()
         .for_each(|kind| println!("# {}", kind.describe()));
     notes();
+    load();
     table.head();
     let mut random = Random(1);
     for kind in &KINDS {
@@ -29,8 +30,9 @@ fn main() {
         products(&table, kind, &pair[0], &mut random);
         builds(&table, kind, &pair[0]);
         operations(&table, kind, &pair);
-        dots(&table, kind, &pair[0], quick, &mut random);
+        dots(&table, kind, &pair[0], &mut random);
     }
+    load();
 }
 
 /// The machine, as far as the system tells.
@@ -243,66 +245,89 @@ fn on_owned(
     .unwrap()
 }
 
-fn dots(table: &Table, kind: &Kind, m: &Both, quick: bool, random: &mut Random) {
+/// Each row's total and executed count.
+struct Rows {
+    sums: Vec<f64>,
+    executed: Vec<u32>,
+}
+
+impl Rows {
+    fn new(nrows: usize) -> Self {
+        Self {
+            sums: vec![0.0; nrows],
+            executed: vec![0; nrows],
+        }
+    }
+
+    fn same(&self, other: &Self) {
+        assert_eq!(bits(&self.sums), bits(&other.sums));
+        assert_eq!(self.executed, other.executed);
+    }
+
+    fn by_rust(
+        &mut self,
+        store: &rust::AbtmMetadataFirstMatrix,
+        active: &rust::DofMask,
+        x: &[f64],
+    ) {
+        for row in 0..self.sums.len() {
+            let (sum, counts) = store.sparse_dot_row(row, active, x).unwrap();
+            self.sums[row] = sum;
+            self.executed[row] = counts.executed_products as u32;
+        }
+    }
+
+    fn by_crate(
+        &mut self,
+        store: &denimrasp::AbtmMetadataFirstMatrix,
+        active: &denimrasp::DofMask,
+        x: &[f64],
+    ) {
+        for row in 0..self.sums.len() {
+            let (sum, counts) = store.sparse_dot_row(row, active, x).unwrap();
+            self.sums[row] = sum;
+            self.executed[row] = counts.executed_products as u32;
+        }
+    }
+
+    fn by_library(&mut self, store: &Lists, active: &rust::DofMask, x: &[f64]) {
+        ours::dots(
+            x.len(),
+            store,
+            active.words(),
+            x,
+            &mut self.sums,
+            &mut self.executed,
+        );
+    }
+}
+
+fn dots(table: &Table, kind: &Kind, m: &Both, random: &mut Random) {
     let mut store = m.room();
     ours::packing(&m.csr, &mut store);
     let owned = denimrasp::AbtmMetadataFirstMatrix::from_csr32(&m.owned).unwrap();
     let rust = rust::AbtmMetadataFirstMatrix::from_csr32(&m.rust).unwrap();
     let x: Vec<f64> = (0..kind.ncols).map(|_| random.value()).collect();
-    let (mut sums, mut executed) = (vec![0.0; kind.nrows], vec![0; kind.nrows]);
-    let (mut own_sums, mut own_executed) = (sums.clone(), executed.clone());
-    let (mut rust_sums, mut rust_executed) = (sums.clone(), executed.clone());
     for percent in [1, 10, 50] {
         let columns = kind.active(percent, random);
         let active = rust::DofMask::from_indices(kind.ncols, &columns).unwrap();
         let own_active = denimrasp::DofMask::from_indices(kind.ncols, &columns).unwrap();
-        let mut by_rust = || {
-            for row in 0..kind.nrows {
-                let (sum, counts) = rust.sparse_dot_row(row, &active, &x).unwrap();
-                (rust_sums[row], rust_executed[row]) = (sum, counts.executed_products as u32);
-            }
-        };
-        by_rust();
-        ours::dots(
-            kind.ncols,
-            &store,
-            active.words(),
-            &x,
-            &mut sums,
-            &mut executed,
-        );
+        let [mut a, mut b, mut c] = [0; 3].map(|_| Rows::new(kind.nrows));
+        a.by_library(&store, &active, &x);
+        b.by_crate(&owned, &own_active, &x);
+        c.by_rust(&rust, &active, &x);
+        a.same(&c);
+        b.same(&c);
         let shown = percent.to_string();
         table.line(
             ("dot", kind.name, &shown),
-            || {
-                timed(|| {
-                    ours::dots(
-                        kind.ncols,
-                        &store,
-                        active.words(),
-                        &x,
-                        &mut sums,
-                        &mut executed,
-                    )
-                })
-            },
-            || timed(&mut by_rust),
+            || timed(|| a.by_library(&store, &active, &x)),
+            || timed(|| c.by_rust(&rust, &active, &x)),
         );
-        if !quick {
-            table.line(
-                ("dot_by_row", kind.name, &shown),
-                || {
-                    timed(|| {
-                        for row in 0..kind.nrows {
-                            let (sum, counts) = owned.sparse_dot_row(row, &own_active, &x).unwrap();
-                            (own_sums[row], own_executed[row]) =
-                                (sum, counts.executed_products as u32);
-                        }
-                    })
-                },
-                || timed(&mut by_rust),
-            );
-        }
-        assert_eq!((bits(&sums), &executed), (bits(&rust_sums), &rust_executed));
+        table.line(
+            ("dot_by_row", kind.name, &shown),
+            || timed(|| b.by_crate(&owned, &own_active, &x)),
+            || timed(|| c.by_rust(&rust, &active, &x)),
+        );
     }
 }

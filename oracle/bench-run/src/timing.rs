@@ -1,15 +1,31 @@
 //! Medians of interleaved runs, one line for each figure.
 
+use std::fs;
 use std::hint::black_box;
 use std::time::Instant;
 
-/// How long the call takes, in ns. Dropping the result is not counted.
+/// How long the call takes, in ns. Dropping the result is not counted, nor is waiting for a core that another process has.
 pub fn timed<T>(call: impl FnOnce() -> T) -> u128 {
+    let waited = waited();
     let start = Instant::now();
     let value = black_box(call());
     let took = start.elapsed().as_nanos();
     drop(value);
-    took
+    took.saturating_sub(self::waited() - waited)
+}
+
+/// How long this thread has been ready to run without a core, in ns; 0 where the system does not tell.
+fn waited() -> u128 {
+    let text = fs::read_to_string("/proc/thread-self/schedstat").unwrap_or_default();
+    let second = text.split_whitespace().nth(1);
+    second.and_then(|word| word.parse().ok()).unwrap_or(0)
+}
+
+/// The system's load, so that figures of a busy machine can be told.
+pub fn load() {
+    let text = fs::read_to_string("/proc/loadavg").unwrap_or_default();
+    let first = text.split_whitespace().next();
+    println!("# load: {}", first.unwrap_or("unknown"));
 }
 
 pub struct Table {
@@ -35,7 +51,8 @@ impl Table {
         mut ours: impl FnMut() -> u128,
         mut rust: impl FnMut() -> u128,
     ) {
-        (ours(), rust());
+        ours();
+        rust();
         let (mut a, mut b) = (Vec::new(), Vec::new());
         for run in 0..self.runs {
             if run % 2 == 0 {

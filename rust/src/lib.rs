@@ -9,8 +9,11 @@
 //!
 //! [`HybitError`] is here too: in place of `use hybit_core::HybitError;` write `use hybit_matrix::HybitError;`.
 //!
-//! Every result comes from the C interface ([`sys`]). A value of a type here has been checked or built by the library, and its
-//! fields are private, so the library does not refuse it later.
+//! Every computed result comes from the C interface ([`sys`]); the crate keeps the lists, lends them, and hands out parts of
+//! them. A value of a type here has been checked or built by the library, and its fields are private, so the library does not
+//! refuse it later; if it did, the method would panic rather than return the zeros of a refusal.
+//!
+//! Building words takes up to 136 KiB of stack, packing up to 456 KiB: a thread that does it needs a stack of that size.
 //!
 //! What differs from hybit-matrix:
 //! - Sizes above document 01's domain are [`HybitError::SizeOverflow`]: rows, columns and mask lengths above 1,048,576, stored

@@ -17,7 +17,8 @@
 //!
 //! What differs from hybit-matrix:
 //! - Sizes above document 01's domain are [`HybitError::SizeOverflow`]: rows, columns and mask lengths above 1,048,576, stored
-//!   entries and words above 16,777,216. [`DofMask::new`] can't return an error and panics there; [`DofMask::try_new`] returns it.
+//!   entries and words above 16,777,216. [`DofMask::new`] can't return an error and panics there; [`DofMask::try_new`] returns
+//!   it.
 //! - Three and more copies of a column in a row are merged in stored order; hybit's order is that of an unstable sort.
 //! - [`AbtmProductPruningStats::accumulate`] leaves the counts unchanged where it fails.
 //! - [`AbtmProductPruningStats::empty_word_ratio`] is 0.0 where more words are active than there are; hybit subtracts below zero.
@@ -25,8 +26,8 @@
 //! - [`AbtmMetadataFirstMatrix::sparse_dot_rows`], [`DofMask::try_new`], [`HybitError::number`] are not in hybit;
 //!   [`DofMask::and_not_assign`] and [`DofMask::or_word`] are private there.
 //!
-//! Left out, as in document 01: `diagonal`, the parallel forms of `apply`, the trait `LinearOperator` (`apply` is a method of
-//! [`Csr32Matrix`] itself), tiles, blocks, restricted lists, solvers and the error variants that only these give.
+//! Left out: `diagonal`, solvers and the error variants that only these give, as in document 01; the parallel forms of `apply`;
+//! the trait `LinearOperator` (`apply` is a method of [`Csr32Matrix`] itself). Tiles, restricted lists and blocks are not here yet.
 #![warn(missing_docs)]
 
 mod calls;

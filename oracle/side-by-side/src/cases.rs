@@ -58,10 +58,10 @@ impl Case {
     pub fn new(seed: u64) -> Self {
         let mut random = Random(seed);
         let r = &mut random;
-        let (nrows, ncols) = (r.below(6), r.pick(&WIDTHS));
+        let (nrows, ncols) = (r.below(6), width(r));
         let a = damaged(r, nrows, ncols, 10);
         let (nrows, ncols) = if r.one_in(10) {
-            (r.below(6), r.pick(&WIDTHS))
+            (r.below(6), width(r))
         } else {
             (nrows, ncols)
         };
@@ -81,6 +81,14 @@ impl Case {
             mask_len,
             other_len,
         }
+    }
+}
+
+/// Mostly few columns, around the ends of words.
+fn width(r: &mut Random) -> usize {
+    match r.one_in(40) {
+        true => r.pick(&[5000, 70_000]) + r.below(64),
+        false => r.pick(&WIDTHS),
     }
 }
 

@@ -1,0 +1,70 @@
+//! `compare --seed N --seconds S [--break CALL]`: the tiny inputs whole, the edge of the domain, then random calls until the
+//! seconds are over.
+
+use compare_run::run::{Run, Tally, summary};
+use compare_run::{edge, exhaustive, random, rng::Rng};
+use judges::ours;
+use std::process::ExitCode;
+use std::time::{Duration, Instant};
+
+const THREADS: usize = 2;
+static TALLIES: [Tally; THREADS] = [const { Tally::new() }; THREADS];
+
+struct Options {
+    seed: u64,
+    seconds: u64,
+    fault: Option<String>,
+}
+
+fn options() -> Result<Options, String> {
+    let mut options = Options {
+        seed: 1,
+        seconds: 60,
+        fault: None,
+    };
+    let mut args = std::env::args().skip(1);
+    while let Some(name) = args.next() {
+        let value = args.next().ok_or(format!("{name} needs a value"))?;
+        let number = || value.parse().map_err(|_| format!("{value} is no number"));
+        match name.as_str() {
+            "--seed" => options.seed = number()?,
+            "--seconds" => options.seconds = number()?,
+            "--break" => options.fault = Some(value),
+            _ => return Err(format!("no option {name}")),
+        }
+    }
+    Ok(options)
+}
+
+fn work(thread: usize, options: &Options, end: Instant) {
+    let mut run = Run {
+        tallies: &TALLIES,
+        thread,
+        fault: options.fault.as_deref(),
+        end,
+    };
+    let mut share = exhaustive::Share::new(thread, THREADS);
+    exhaustive::all(&mut run, ours::judge, &mut share);
+    edge::all(&mut run, ours::judge, thread);
+    let seed = options.seed.wrapping_mul(THREADS as u64) + thread as u64;
+    random::forever(&mut run, ours::judge, &mut Rng::new(seed));
+}
+
+fn main() -> ExitCode {
+    let options = match options() {
+        Ok(options) => options,
+        Err(message) => {
+            eprintln!("{message}");
+            return ExitCode::from(2);
+        }
+    };
+    let end = Instant::now() + Duration::from_secs(options.seconds);
+    std::thread::scope(|scope| {
+        for thread in 0..THREADS {
+            let options = &options;
+            scope.spawn(move || work(thread, options, end));
+        }
+    });
+    print!("{}", summary(&TALLIES, 0));
+    ExitCode::SUCCESS
+}

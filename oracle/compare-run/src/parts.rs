@@ -1,0 +1,206 @@
+//! The numbers and lists that a call is made of, in the order of its fields. Damage, shrinking and the text form go by them, so
+//! a new call needs its lines here and in `kind` alone.
+
+use calls::{Call, Csr, Mask, Store, StoreRoom, Words, WordsRoom};
+
+pub enum Part<'a> {
+    Size(&'a mut usize),
+    Num32(&'a mut u32),
+    Num64(&'a mut u64),
+    Flag(&'a mut bool),
+    Sizes(&'a mut Vec<usize>),
+    Nums32(&'a mut Vec<u32>),
+    Nums64(&'a mut Vec<u64>),
+    Floats(&'a mut Vec<f64>),
+}
+
+use Part::*;
+
+/// How many kinds of call there are.
+pub const KINDS: usize = 49;
+
+macro_rules! kinds {
+    ($($number:literal $variant:ident)*) => {
+        /// The place of the call's kind in the enum.
+        pub fn kind(call: &Call) -> usize {
+            match call {
+                $(Call::$variant(..) => $number,)*
+            }
+        }
+    };
+}
+
+kinds! {
+    0 MaskCheck
+    1 MaskContains
+    2 MaskCountOnes
+    3 MaskIsEmpty
+    4 MaskNew
+    5 MaskFromIndices
+    6 MaskSet
+    7 MaskOrWord
+    8 MaskIndices
+    9 MaskUnionAssign
+    10 MaskIntersectAssign
+    11 MaskAndNotAssign
+    12 MaskIntersects
+    13 Csr32Check
+    14 Csr32Apply
+    15 Csr32MetadataBytes
+    16 Csr32StorageBytes
+    17 TopologyCheck
+    18 TopologyFromCsr32
+    19 TopologyRowWords
+    20 TopologyRowNonemptyWords
+    21 TopologyRowPopcount
+    22 TopologyRowContains
+    23 TopologyRowRank
+    24 TopologyRowSelect
+    25 TopologyStats
+    26 TopologyUnion
+    27 TopologyIntersection
+    28 TopologyAndNot
+    29 TopologyXor
+    30 MetadataFirstCheck
+    31 MetadataFirstCheckMerge
+    32 MetadataFirstFromCsr32
+    33 MetadataFirstRowValues
+    34 MetadataFirstStats
+    35 MetadataFirstSparseDotRow
+    36 MetadataFirstSparseDotRows
+    37 WordBaseCol
+    38 WordPopcount
+    39 WordContainsOffset
+    40 WordRank
+    41 WordSelect
+    42 TopologyAverageWordNnz
+    43 TopologyWordFillRatio
+    44 TopologyMetadataBytesPerNnz
+    45 MetadataFirstPruningRatio
+    46 MetadataFirstEmptyWordRatio
+    47 MetadataFirstTotalEstimatedBytes
+    48 MetadataFirstAccumulate
+}
+
+fn mask(m: &mut Mask) -> Vec<Part<'_>> {
+    vec![Size(&mut m.len), Nums64(&mut m.words)]
+}
+
+fn csr(c: &mut Csr) -> Vec<Part<'_>> {
+    vec![
+        Size(&mut c.nrows),
+        Size(&mut c.ncols),
+        Nums32(&mut c.row_ptr),
+        Nums32(&mut c.col_idx),
+        Floats(&mut c.values),
+    ]
+}
+
+fn words(w: &mut Words) -> Vec<Part<'_>> {
+    vec![
+        Size(&mut w.nrows),
+        Size(&mut w.ncols),
+        Nums32(&mut w.row_word_ptr),
+        Nums32(&mut w.word_indices),
+        Nums64(&mut w.masks),
+        Size(&mut w.structural_nnz),
+    ]
+}
+
+fn store(s: &mut Store) -> Vec<Part<'_>> {
+    let rest = vec![Nums32(&mut s.row_value_ptr), Floats(&mut s.values)];
+    join(words(&mut s.words), rest)
+}
+
+fn words_room(room: &mut WordsRoom) -> Vec<Part<'_>> {
+    vec![
+        Nums32(&mut room.row_word_ptr),
+        Nums32(&mut room.word_indices),
+        Nums64(&mut room.masks),
+    ]
+}
+
+fn store_room(room: &mut StoreRoom) -> Vec<Part<'_>> {
+    let rest = vec![Nums32(&mut room.row_value_ptr), Floats(&mut room.values)];
+    join(words_room(&mut room.words), rest)
+}
+
+fn join<'a>(mut first: Vec<Part<'a>>, rest: Vec<Part<'a>>) -> Vec<Part<'a>> {
+    first.extend(rest);
+    first
+}
+
+/// All parts of the call.
+pub fn parts(call: &mut Call) -> Vec<Part<'_>> {
+    use Call::*;
+    match call {
+        MaskCheck(m) | MaskCountOnes(m) | MaskIsEmpty(m) => mask(m),
+        MaskContains(m, i) => join(mask(m), vec![Size(i)]),
+        MaskNew(len, room) => vec![Size(len), Nums64(room)],
+        MaskFromIndices(len, list, room) => vec![Size(len), Sizes(list), Nums64(room)],
+        MaskSet(m, i, value) => join(mask(m), vec![Size(i), Flag(value)]),
+        MaskOrWord(m, word, bits) => join(mask(m), vec![Size(word), Num64(bits)]),
+        MaskIndices(m, room) => join(mask(m), vec![Sizes(room)]),
+        MaskUnionAssign(a, b)
+        | MaskIntersectAssign(a, b)
+        | MaskAndNotAssign(a, b)
+        | MaskIntersects(a, b) => join(mask(a), mask(b)),
+        Csr32Check(c)
+        | Csr32MetadataBytes(c)
+        | Csr32StorageBytes(c)
+        | MetadataFirstCheckMerge(c) => csr(c),
+        Csr32Apply(c, x, y) => join(csr(c), vec![Floats(x), Floats(y)]),
+        TopologyFromCsr32(c, room) => join(csr(c), words_room(room)),
+        MetadataFirstFromCsr32(c, room) => join(csr(c), store_room(room)),
+        _ => parts_above(call),
+    }
+}
+
+/// The parts of a call to words or to a store.
+fn parts_above(call: &mut Call) -> Vec<Part<'_>> {
+    use Call::*;
+    match call {
+        TopologyCheck(w) | TopologyStats(w) => words(w),
+        TopologyRowWords(w, r) | TopologyRowNonemptyWords(w, r) | TopologyRowPopcount(w, r) => {
+            join(words(w), vec![Size(r)])
+        }
+        TopologyRowContains(w, r, c) | TopologyRowRank(w, r, c) | TopologyRowSelect(w, r, c) => {
+            join(words(w), vec![Size(r), Size(c)])
+        }
+        TopologyUnion(a, b, room)
+        | TopologyIntersection(a, b, room)
+        | TopologyAndNot(a, b, room)
+        | TopologyXor(a, b, room) => join(join(words(a), words(b)), words_room(room)),
+        MetadataFirstCheck(s) | MetadataFirstStats(s) => store(s),
+        MetadataFirstRowValues(s, r) => join(store(s), vec![Size(r)]),
+        MetadataFirstSparseDotRow(s, r, m, x) => join(
+            store(s),
+            join(vec![Size(r)], join(mask(m), vec![Floats(x)])),
+        ),
+        MetadataFirstSparseDotRows(s, m, x, sums, executed) => {
+            let lists = vec![Floats(x), Floats(sums), Nums32(executed)];
+            join(store(s), join(mask(m), lists))
+        }
+        _ => numbers(call),
+    }
+}
+
+/// The parts of a call with numbers alone.
+fn numbers(call: &mut Call) -> Vec<Part<'_>> {
+    use Call::*;
+    match call {
+        WordBaseCol(word) => vec![Num32(word)],
+        WordPopcount(mask) => vec![Num64(mask)],
+        WordContainsOffset(mask, n) | WordRank(mask, n) | WordSelect(mask, n) => {
+            vec![Num64(mask), Size(n)]
+        }
+        TopologyAverageWordNnz(a, b)
+        | TopologyWordFillRatio(a, b)
+        | TopologyMetadataBytesPerNnz(a, b)
+        | MetadataFirstPruningRatio(a, b)
+        | MetadataFirstEmptyWordRatio(a, b) => vec![Size(a), Size(b)],
+        MetadataFirstTotalEstimatedBytes(a, b, c) => vec![Size(a), Size(b), Size(c)],
+        MetadataFirstAccumulate(a, b) => a.iter_mut().chain(b).map(Size).collect(),
+        _ => unreachable!("every other call has its line above"),
+    }
+}

@@ -1,0 +1,422 @@
+//! Makes a call that shows a difference smaller for as long as the difference stays.
+
+use crate::parts::{Part, parts};
+use calls::{Call, Csr, Mask, Store, Words};
+
+/// The smallest call that still fails, as far as greedy steps lead.
+pub fn smallest(call: &Call, fails: &dyn Fn(&Call) -> bool) -> Call {
+    let mut best = call.clone();
+    let mut best_cost = cost(&best);
+    loop {
+        let smaller = candidates(&best).find(|c| cost(c) < best_cost && fails(c));
+        match smaller {
+            Some(call) => {
+                best_cost = cost(&call);
+                best = call;
+            }
+            None => return best,
+        }
+    }
+}
+
+/// How large a call is: its places, and its numbers by their length in bits.
+fn cost(call: &Call) -> u64 {
+    let bits = |n: u64| u64::from(64 - n.leading_zeros());
+    let of_part = |part: &Part<'_>| match part {
+        Part::Size(n) => bits(**n as u64),
+        Part::Num32(n) => bits((**n).into()),
+        Part::Num64(n) => bits(**n) + u64::from(n.count_ones()),
+        Part::Flag(n) => u64::from(**n),
+        Part::Sizes(list) => list.iter().map(|&n| 8 + bits(n as u64)).sum(),
+        Part::Nums32(list) => list.iter().map(|&n| 8 + bits(n.into())).sum(),
+        Part::Nums64(list) => list
+            .iter()
+            .map(|&n| 8 + bits(n) + u64::from(n.count_ones()))
+            .sum(),
+        Part::Floats(list) => list.iter().map(|&x| 8 + float_cost(x)).sum(),
+    };
+    parts(&mut call.clone()).iter().map(of_part).sum()
+}
+
+fn float_cost(x: f64) -> u64 {
+    if x.to_bits() == 0 {
+        0
+    } else if x == 1.0 {
+        1
+    } else {
+        2 + u64::from(x.to_bits().count_ones())
+    }
+}
+
+/// Smaller calls, each made when it is tried: whole records made smaller first, then each part on its own.
+fn candidates(call: &Call) -> impl Iterator<Item = Call> {
+    let count = parts(&mut call.clone()).len();
+    let by_part = (0..count).flat_map(move |place| {
+        let tries = (0..).map(move |change| {
+            let mut copy = call.clone();
+            let step = apply(&mut parts(&mut copy)[place], change);
+            (step, copy)
+        });
+        let tries = tries.take_while(|(step, _)| *step != Step::Over);
+        tries.filter_map(|(step, copy)| (step == Step::Changed).then_some(copy))
+    });
+    structured(call).chain(by_part)
+}
+
+#[derive(PartialEq)]
+enum Step {
+    Changed,
+    None,
+    Over,
+}
+
+/// The change with this number to one part.
+fn apply(part: &mut Part<'_>, change: usize) -> Step {
+    match part {
+        Part::Size(n) => number(change, **n as u64, |v| **n = v as usize),
+        Part::Num32(n) => number(change, (**n).into(), |v| **n = v as u32),
+        Part::Num64(n) => number(change, **n, |v| **n = v),
+        Part::Flag(n) => number(change, (**n).into(), |v| **n = v != 0),
+        Part::Sizes(list) => in_list(change, list, |n| *n as u64, |v| v as usize),
+        Part::Nums32(list) => in_list(change, list, |n| (*n).into(), |v| v as u32),
+        Part::Nums64(list) => in_list(change, list, |n| *n, |v| v),
+        Part::Floats(list) => in_list(change, list, |x| x.to_bits(), simple_float),
+    }
+}
+
+/// 0.0 for 0, and simple numbers for what a step leaves of the bits of another.
+fn simple_float(step: u64) -> f64 {
+    if step == 0 { 0.0 } else { 1.0 }
+}
+
+/// The smaller numbers that are tried in place of a number.
+fn smaller(n: u64) -> [u64; 5] {
+    [0, 1, n / 2, n.saturating_sub(1), n & n.wrapping_sub(1)]
+}
+
+fn number(change: usize, n: u64, set: impl FnOnce(u64)) -> Step {
+    let Some(&other) = smaller(n).get(change) else {
+        return Step::Over;
+    };
+    if other == n {
+        return Step::None;
+    }
+    set(other);
+    Step::Changed
+}
+
+const CUTS: usize = 4;
+
+/// Cuts of the list first, then each place taken out, then each number made smaller. In a long list only the cuts.
+fn in_list<T: Copy>(
+    change: usize,
+    list: &mut Vec<T>,
+    get: impl Fn(&T) -> u64,
+    make: impl Fn(u64) -> T,
+) -> Step {
+    let n = list.len();
+    if change < CUTS {
+        return cut(change, list);
+    }
+    let each = n.min(128);
+    let step = change - CUTS;
+    if step < each {
+        list.remove(step);
+        return Step::Changed;
+    }
+    let (place, option) = ((step - each) / 5, (step - each) % 5);
+    if place >= each {
+        return Step::Over;
+    }
+    let old = get(&list[place]);
+    let other = smaller(old)[option];
+    list[place] = make(other);
+    if other == old {
+        Step::None
+    } else {
+        Step::Changed
+    }
+}
+
+fn cut<T>(change: usize, list: &mut Vec<T>) -> Step {
+    let n = list.len();
+    if n == 0 {
+        return Step::None;
+    }
+    match change {
+        0 => list.clear(),
+        1 => list.truncate(n / 2),
+        2 => drop(list.drain(..n / 2)),
+        _ => list.truncate(n - 1),
+    }
+    Step::Changed
+}
+
+/// Steps that keep a record good: a row, an entry or a word dropped, or the columns cut.
+fn structured(call: &Call) -> impl Iterator<Item = Call> {
+    let (nrows, ncols, stored) = extent(call);
+    let rows = (0..nrows.min(64)).map(Drop::Row);
+    let entries = (0..stored.min(256)).map(Drop::Entry);
+    let columns = [
+        0,
+        ncols / 2,
+        ncols.saturating_sub(64),
+        ncols.saturating_sub(1),
+    ];
+    let columns = columns
+        .into_iter()
+        .filter(move |&n| n < ncols)
+        .map(Drop::ColumnsFrom);
+    let drops = rows.chain(columns).chain(entries);
+    drops.map(|drop| dropped(call, drop))
+}
+
+fn dropped(call: &Call, drop: Drop) -> Call {
+    use Call::*;
+    let mut copy = call.clone();
+    match &mut copy {
+        Csr32Apply(c, x, y) => {
+            drop_csr(c, drop);
+            drop_numbers(drop, x, &mut [y]);
+        }
+        Csr32Check(c)
+        | Csr32MetadataBytes(c)
+        | Csr32StorageBytes(c)
+        | MetadataFirstCheckMerge(c)
+        | TopologyFromCsr32(c, _)
+        | MetadataFirstFromCsr32(c, _) => drop_csr(c, drop),
+        other => drop_above(other, drop),
+    }
+    copy
+}
+
+#[derive(Clone, Copy)]
+enum Drop {
+    Row(usize),
+    /// A stored entry, or a word.
+    Entry(usize),
+    ColumnsFrom(usize),
+}
+
+/// Rows, columns, and stored entries or words of the call's first record; 0 where it has none or a bad frame.
+fn extent(call: &Call) -> (usize, usize, usize) {
+    use Call::*;
+    match call {
+        Csr32Apply(c, ..)
+        | Csr32Check(c)
+        | Csr32MetadataBytes(c)
+        | Csr32StorageBytes(c)
+        | MetadataFirstCheckMerge(c)
+        | TopologyFromCsr32(c, _)
+        | MetadataFirstFromCsr32(c, _) => {
+            let n = c.col_idx.len().min(c.values.len());
+            let good = framed(&c.row_ptr, c.nrows, n);
+            if good {
+                (c.nrows, c.ncols, n)
+            } else {
+                (0, 0, 0)
+            }
+        }
+        TopologyCheck(w)
+        | TopologyStats(w)
+        | TopologyRowWords(w, _)
+        | TopologyRowNonemptyWords(w, _)
+        | TopologyRowPopcount(w, _)
+        | TopologyRowContains(w, ..)
+        | TopologyRowRank(w, ..)
+        | TopologyRowSelect(w, ..)
+        | TopologyUnion(w, ..)
+        | TopologyIntersection(w, ..)
+        | TopologyAndNot(w, ..)
+        | TopologyXor(w, ..) => words_extent(w),
+        MetadataFirstCheck(s)
+        | MetadataFirstStats(s)
+        | MetadataFirstRowValues(s, _)
+        | MetadataFirstSparseDotRow(s, ..)
+        | MetadataFirstSparseDotRows(s, ..) => words_extent(&s.words),
+        _ => (0, 0, 0),
+    }
+}
+
+fn drop_above(call: &mut Call, drop: Drop) {
+    use Call::*;
+    match call {
+        TopologyCheck(w)
+        | TopologyStats(w)
+        | TopologyRowWords(w, _)
+        | TopologyRowNonemptyWords(w, _)
+        | TopologyRowPopcount(w, _)
+        | TopologyRowContains(w, ..)
+        | TopologyRowRank(w, ..)
+        | TopologyRowSelect(w, ..) => drop_words(w, drop, None),
+        TopologyUnion(a, b, _)
+        | TopologyIntersection(a, b, _)
+        | TopologyAndNot(a, b, _)
+        | TopologyXor(a, b, _) => {
+            drop_words(a, drop, None);
+            if !matches!(drop, Drop::Entry(_)) && words_extent(b) != (0, 0, 0) {
+                drop_words(b, drop, None);
+            }
+        }
+        MetadataFirstCheck(s) | MetadataFirstStats(s) | MetadataFirstRowValues(s, _) => {
+            drop_store(s, drop);
+        }
+        MetadataFirstSparseDotRow(s, _, m, x) => {
+            drop_store(s, drop);
+            drop_mask(m, drop);
+            drop_numbers(drop, x, &mut []);
+        }
+        MetadataFirstSparseDotRows(s, m, x, sums, executed) => {
+            drop_store(s, drop);
+            drop_mask(m, drop);
+            drop_numbers(drop, x, &mut [sums]);
+            if matches!(drop, Drop::Row(_)) {
+                executed.pop();
+            }
+        }
+        _ => {}
+    }
+}
+
+/// Whether the pointers lead through a list of n places, row by row.
+fn framed(ptr: &[u32], nrows: usize, n: usize) -> bool {
+    let inside = ptr.iter().all(|&p| p as usize <= n);
+    ptr.len() == nrows.saturating_add(1) && ptr.is_sorted() && inside
+}
+
+fn words_extent(w: &Words) -> (usize, usize, usize) {
+    let n = w.masks.len().min(w.word_indices.len());
+    let good = framed(&w.row_word_ptr, w.nrows, n);
+    if good {
+        (w.nrows, w.ncols, n)
+    } else {
+        (0, 0, 0)
+    }
+}
+
+/// x loses the columns, a list with a place for each row loses one.
+fn drop_numbers(drop: Drop, x: &mut Vec<f64>, by_row: &mut [&mut Vec<f64>]) {
+    match drop {
+        Drop::ColumnsFrom(n) => x.truncate(n),
+        Drop::Row(_) => by_row.iter_mut().for_each(|list| {
+            list.pop();
+        }),
+        Drop::Entry(_) => {}
+    }
+}
+
+fn drop_mask(m: &mut Mask, drop: Drop) {
+    let Drop::ColumnsFrom(n) = drop else { return };
+    m.len = n;
+    m.words.truncate(n.div_ceil(64));
+    if let Some(last) = m.words.last_mut()
+        && !n.is_multiple_of(64)
+    {
+        *last &= (1 << (n % 64)) - 1;
+    }
+}
+
+/// Takes the places out that `keep` refuses, and moves the pointers.
+fn keep_places(ptr: &mut Vec<u32>, dropped_row: Option<usize>, keep: &dyn Fn(usize) -> bool) {
+    let old = ptr.clone();
+    let before = |end: u32| (0..end as usize).filter(|&p| keep(p)).count() as u32;
+    *ptr = old.iter().map(|&p| before(p)).collect();
+    if let Some(row) = dropped_row {
+        ptr.remove(row + 1);
+    }
+}
+
+fn retain<T: Copy>(list: &mut Vec<T>, keep: &dyn Fn(usize) -> bool) {
+    let kept = list.iter().enumerate().filter(|(place, _)| keep(*place));
+    *list = kept.map(|(_, value)| *value).collect();
+}
+
+fn drop_csr(c: &mut Csr, drop: Drop) {
+    let (old_ptr, cols) = (c.row_ptr.clone(), c.col_idx.clone());
+    let keep = move |place: usize| match drop {
+        Drop::Row(row) => !(old_ptr[row] as usize..old_ptr[row + 1] as usize).contains(&place),
+        Drop::Entry(entry) => place != entry,
+        Drop::ColumnsFrom(n) => cols.get(place).is_none_or(|&col| (col as usize) < n),
+    };
+    let row = if let Drop::Row(row) = drop {
+        Some(row)
+    } else {
+        None
+    };
+    keep_places(&mut c.row_ptr, row, &keep);
+    retain(&mut c.col_idx, &keep);
+    retain(&mut c.values, &keep);
+    c.nrows -= usize::from(row.is_some());
+    if let Drop::ColumnsFrom(n) = drop {
+        c.ncols = n;
+    }
+}
+
+/// Drops from words and, where given, from the values that belong to their ones.
+fn drop_words(w: &mut Words, drop: Drop, values: Option<(&mut Vec<u32>, &mut Vec<f64>)>) {
+    let old = w.clone();
+    let part = |row: usize| old.row_word_ptr[row] as usize..old.row_word_ptr[row + 1] as usize;
+    let left = |place: usize| match drop {
+        Drop::Row(row) if row < old.nrows && part(row).contains(&place) => 0,
+        Drop::Entry(word) if place == word => 0,
+        Drop::ColumnsFrom(n) => below(old.word_indices[place], old.masks[place], n),
+        _ => old.masks[place],
+    };
+    let n = old.masks.len().min(old.word_indices.len());
+    let keep = |place: usize| place >= n || left(place) != 0;
+    let row = if let Drop::Row(row) = drop {
+        Some(row).filter(|&r| r < old.nrows)
+    } else {
+        None
+    };
+    keep_places(&mut w.row_word_ptr, row, &keep);
+    retain(&mut w.word_indices, &keep);
+    w.masks = (0..n).filter(|&p| keep(p)).map(left).collect();
+    w.structural_nnz = w.masks.iter().map(|m| m.count_ones() as usize).sum();
+    w.nrows -= usize::from(row.is_some());
+    if let Drop::ColumnsFrom(n) = drop {
+        w.ncols = n;
+    }
+    if let Some((ptr, list)) = values {
+        drop_values(&old, n, &left, row, ptr, list);
+    }
+}
+
+/// The bits of the word below column n.
+fn below(word: u32, mask: u64, n: usize) -> u64 {
+    let base = word as usize * 64;
+    match n.saturating_sub(base) {
+        0 => 0,
+        64.. => mask,
+        some => mask & ((1 << some) - 1),
+    }
+}
+
+fn drop_values(
+    old: &Words,
+    words: usize,
+    left: &dyn Fn(usize) -> u64,
+    row: Option<usize>,
+    ptr: &mut Vec<u32>,
+    list: &mut Vec<f64>,
+) {
+    let bits = |place: usize| (0..64).filter(move |b| old.masks[place] >> b & 1 == 1);
+    let kept: Vec<bool> = (0..words)
+        .flat_map(|place| bits(place).map(move |b| left(place) >> b & 1 == 1))
+        .collect();
+    let keep = |place: usize| kept.get(place).copied().unwrap_or(true);
+    let row = row.filter(|&r| r + 1 < ptr.len());
+    keep_places(ptr, row, &keep);
+    retain(list, &keep);
+}
+
+fn drop_store(s: &mut Store, drop: Drop) {
+    let Store {
+        words,
+        row_value_ptr,
+        values,
+    } = s;
+    let good = row_value_ptr.iter().all(|&p| p as usize <= values.len());
+    let lists = good.then_some((row_value_ptr, values));
+    drop_words(words, drop, lists);
+}

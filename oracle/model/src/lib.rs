@@ -11,6 +11,9 @@ mod metadata_first;
 mod topology;
 mod words;
 
+#[cfg(test)]
+mod tests;
+
 use calls::{Call, Outcome};
 use topology::Operation;
 

@@ -34,8 +34,9 @@ pub fn rules(words: &Words) -> Checked {
 /// The rules of one row's words: the numbers strictly increase, each mask has a bit, and none is at or past the column count.
 fn row_holds(words: &Words, mut places: Range<usize>) -> bool {
     let inside = |place: usize| {
-        let highest = offsets(words.masks[place]).last();
-        highest.is_some_and(|o| base_col(words.word_indices[place]) + o < words.ncols)
+        let highest = words.masks[place].checked_ilog2();
+        highest
+            .is_some_and(|bit| base_col(words.word_indices[place]) + (bit as usize) < words.ncols)
     };
     let numbers = &words.word_indices[places.clone()];
     numbers.is_sorted_by(|a, b| a < b) && places.all(inside)

@@ -8,7 +8,9 @@ pub const WIDTH: usize = 64;
 
 /// The set bits, ascending.
 pub fn offsets(bits: u64) -> impl Iterator<Item = usize> {
-    (0..WIDTH).filter(move |&offset| bits >> offset & 1 == 1)
+    let lowest = bits.trailing_zeros() as usize;
+    let past_highest = WIDTH - bits.leading_zeros() as usize;
+    (lowest..past_highest).filter(move |&offset| bits >> offset & 1 == 1)
 }
 
 /// The first column of a word.

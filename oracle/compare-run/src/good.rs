@@ -72,10 +72,10 @@ pub fn vector(rng: &mut Rng, n: usize) -> Vec<f64> {
 /// A column count: mostly small, often at a boundary, seldom up to 65,536.
 pub fn column_count(rng: &mut Rng) -> usize {
     match rng.below(1000) {
-        0..600 => rng.below(9),
-        600..940 => BOUNDARIES[2 + rng.below(6)],
-        940..980 => rng.below(300),
-        980..999 => BOUNDARIES[8 + rng.below(3)],
+        0..500 => rng.below(9),
+        500..900 => BOUNDARIES[2 + rng.below(6)],
+        900..970 => rng.below(300),
+        970..998 => BOUNDARIES[8 + rng.below(3)],
         _ => rng.below(65_537),
     }
 }
@@ -120,6 +120,7 @@ fn row_columns(rng: &mut Rng, ncols: usize) -> Vec<u32> {
     let mut cols: Vec<u32> = match rng.below(12) {
         0 => Vec::new(),
         1 if ncols <= 130 => (0..ncols as u32).collect(),
+        2 if rng.once_in(20) => (0..rng.below(600)).map(|_| column(rng, ncols)).collect(),
         _ => (0..rng.below(7)).map(|_| column(rng, ncols)).collect(),
     };
     let copies = rng.pick(&[0, 0, 0, 0, 0, 1, 1, 1, 1, 2, 3, 6]);

@@ -10,14 +10,19 @@ use calls::{Call, Csr, Store, Words};
 /// Calls until the sink has enough.
 pub fn forever(sink: &mut impl Sink, judge: Judge, rng: &mut Rng) {
     while !sink.done() {
-        match rng.below(9) {
-            0 | 1 => plot_list(sink, judge, rng),
-            2 => mask(sink, rng),
-            3 | 4 => words(sink, judge, rng),
-            5 => set_operations(sink, judge, rng),
-            6 | 7 => store(sink, judge, rng),
-            _ => by_value(sink, rng),
-        }
+        round(sink, judge, rng);
+    }
+}
+
+/// Some calls to one record.
+pub fn round(sink: &mut impl Sink, judge: Judge, rng: &mut Rng) {
+    match rng.below(18) {
+        0..5 => plot_list(sink, judge, rng),
+        5 | 6 => mask(sink, rng),
+        7..10 => words(sink, judge, rng),
+        10..13 => set_operations(sink, judge, rng),
+        13..17 => store(sink, judge, rng),
+        _ => by_value(sink, rng),
     }
 }
 

@@ -19,24 +19,27 @@ pub fn smallest(call: &Call, fails: &dyn Fn(&Call) -> bool) -> Call {
     }
 }
 
-/// How large a call is: its places, and its numbers by their length in bits.
+/// How large a call is: its places, and its numbers by their length in bits, small ones by their value too.
 fn cost(call: &Call) -> u64 {
-    let bits = |n: u64| u64::from(64 - n.leading_zeros());
+    let bits = |n: u64| u64::from(64 - n.leading_zeros()) * 4096 + n.min(4095);
     let of_part = |part: &Part<'_>| match part {
         Part::Size(n) => bits(**n as u64),
         Part::Num32(n) => bits((**n).into()),
         Part::Num64(n) => bits(**n) + u64::from(n.count_ones()),
         Part::Flag(n) => u64::from(**n),
-        Part::Sizes(list) => list.iter().map(|&n| 8 + bits(n as u64)).sum(),
-        Part::Nums32(list) => list.iter().map(|&n| 8 + bits(n.into())).sum(),
+        Part::Sizes(list) => list.iter().map(|&n| PLACE + bits(n as u64)).sum(),
+        Part::Nums32(list) => list.iter().map(|&n| PLACE + bits(n.into())).sum(),
         Part::Nums64(list) => list
             .iter()
-            .map(|&n| 8 + bits(n) + u64::from(n.count_ones()))
+            .map(|&n| PLACE + bits(n) + u64::from(n.count_ones()))
             .sum(),
-        Part::Floats(list) => list.iter().map(|&x| 8 + float_cost(x)).sum(),
+        Part::Floats(list) => list.iter().map(|&x| PLACE + float_cost(x)).sum(),
     };
     parts(&mut call.clone()).iter().map(of_part).sum()
 }
+
+/// What a place of a list costs, whatever it holds.
+const PLACE: u64 = 8192;
 
 fn float_cost(x: f64) -> u64 {
     if x.to_bits() == 0 {
@@ -105,9 +108,9 @@ fn number(change: usize, n: u64, set: impl FnOnce(u64)) -> Step {
     Step::Changed
 }
 
-const CUTS: usize = 4;
+const CUTS: usize = 5;
 
-/// Cuts of the list first, then each place taken out, then each number made smaller. In a long list only the cuts.
+/// All zero and cuts of the list first, then each place taken out, then each number made smaller. In a long list only the cuts.
 fn in_list<T: Copy>(
     change: usize,
     list: &mut Vec<T>,
@@ -115,6 +118,11 @@ fn in_list<T: Copy>(
     make: impl Fn(u64) -> T,
 ) -> Step {
     let n = list.len();
+    if change == 0 {
+        let all_zero = list.iter().all(|n| get(n) == 0);
+        list.iter_mut().for_each(|n| *n = make(0));
+        return if all_zero { Step::None } else { Step::Changed };
+    }
     if change < CUTS {
         return cut(change, list);
     }
@@ -144,9 +152,9 @@ fn cut<T>(change: usize, list: &mut Vec<T>) -> Step {
         return Step::None;
     }
     match change {
-        0 => list.clear(),
-        1 => list.truncate(n / 2),
-        2 => drop(list.drain(..n / 2)),
+        1 => list.clear(),
+        2 => list.truncate(n / 2),
+        3 => drop(list.drain(..n / 2)),
         _ => list.truncate(n - 1),
     }
     Step::Changed
@@ -234,6 +242,17 @@ fn extent(call: &Call) -> (usize, usize, usize) {
         | MetadataFirstRowValues(s, _)
         | MetadataFirstSparseDotRow(s, ..)
         | MetadataFirstSparseDotRows(s, ..) => words_extent(&s.words),
+        MaskCheck(m)
+        | MaskCountOnes(m)
+        | MaskIsEmpty(m)
+        | MaskContains(m, _)
+        | MaskSet(m, ..)
+        | MaskOrWord(m, ..)
+        | MaskIndices(m, _)
+        | MaskUnionAssign(m, _)
+        | MaskIntersectAssign(m, _)
+        | MaskAndNotAssign(m, _)
+        | MaskIntersects(m, _) => (0, m.len, 0),
         _ => (0, 0, 0),
     }
 }
@@ -274,6 +293,27 @@ fn drop_above(call: &mut Call, drop: Drop) {
                 executed.pop();
             }
         }
+        other => drop_masks(other, drop),
+    }
+}
+
+fn drop_masks(call: &mut Call, drop: Drop) {
+    use Call::*;
+    match call {
+        MaskCheck(m)
+        | MaskCountOnes(m)
+        | MaskIsEmpty(m)
+        | MaskContains(m, _)
+        | MaskSet(m, ..)
+        | MaskOrWord(m, ..)
+        | MaskIndices(m, _) => drop_mask(m, drop),
+        MaskUnionAssign(a, b)
+        | MaskIntersectAssign(a, b)
+        | MaskAndNotAssign(a, b)
+        | MaskIntersects(a, b) => {
+            drop_mask(a, drop);
+            drop_mask(b, drop);
+        }
         _ => {}
     }
 }
@@ -307,7 +347,8 @@ fn drop_numbers(drop: Drop, x: &mut Vec<f64>, by_row: &mut [&mut Vec<f64>]) {
 
 fn drop_mask(m: &mut Mask, drop: Drop) {
     let Drop::ColumnsFrom(n) = drop else { return };
-    m.len = n;
+    m.len = n.min(m.len);
+    let n = m.len;
     m.words.truncate(n.div_ceil(64));
     if let Some(last) = m.words.last_mut()
         && !n.is_multiple_of(64)

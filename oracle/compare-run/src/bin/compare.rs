@@ -1,5 +1,5 @@
-//! `compare --seed N --seconds S [--break CALL]`: the tiny inputs whole, the edge of the domain, then random calls until the
-//! seconds are over.
+//! `compare --seed N --seconds S [--break CALL]`: the tiny inputs whole, some random ones, the edge of the domain, then
+//! random calls until the seconds are over.
 
 use compare_run::run::{Run, Tally, summary};
 use compare_run::{edge, exhaustive, random, rng::Rng};
@@ -8,6 +8,8 @@ use std::process::ExitCode;
 use std::time::{Duration, Instant};
 
 const THREADS: usize = 2;
+/// Random rounds before the large calls at the edge of the domain: most faults show in small calls, which shrink fast.
+const FIRST_ROUNDS: usize = 10_000;
 static TALLIES: [Tally; THREADS] = [const { Tally::new() }; THREADS];
 
 struct Options {
@@ -45,9 +47,13 @@ fn work(thread: usize, options: &Options, end: Instant) {
     };
     let mut share = exhaustive::Share::new(thread, THREADS);
     exhaustive::all(&mut run, ours::judge, &mut share);
-    edge::all(&mut run, ours::judge, thread);
     let seed = options.seed.wrapping_mul(THREADS as u64) + thread as u64;
-    random::forever(&mut run, ours::judge, &mut Rng::new(seed));
+    let mut rng = Rng::new(seed);
+    for _ in 0..FIRST_ROUNDS {
+        random::round(&mut run, ours::judge, &mut rng);
+    }
+    edge::all(&mut run, ours::judge, thread);
+    random::forever(&mut run, ours::judge, &mut rng);
 }
 
 fn main() -> ExitCode {

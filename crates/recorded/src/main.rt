@@ -17,46 +17,6 @@ use denimrasp_answers::DenimraspVerdict;
 // The places that a recorded list has at most.
 const ROOM: usize = 64;
 
-// A number of the input, and where the next one starts.
-struct Parsed {
-    value: u64,
-    next: usize,
-}
-
-// How many places a list of the input has, and where what follows it starts.
-struct Span {
-    used: usize,
-    next: usize,
-}
-
-// A plot list: its rows and columns, and the lengths of its lists.
-struct CsrIn {
-    nrows: usize,
-    ncols: usize,
-    ptr: usize,
-    col: usize,
-    val: usize,
-    next: usize,
-}
-
-struct WordsIn {
-    nrows: usize,
-    ncols: usize,
-    ptr: usize,
-    idx: usize,
-    masks: usize,
-    total: usize,
-    next: usize,
-}
-
-// The lists that a build of words is lent.
-struct RoomIn {
-    ptr: usize,
-    idx: usize,
-    masks: usize,
-    next: usize,
-}
-
 // Ten times v and one digit more, the low 64 bits.
 fn ten_times(v: u64, digit: u8) -> u64 {
     let two = std::num::wrapping_add_u64(v, v);
@@ -66,19 +26,21 @@ fn ten_times(v: u64, digit: u8) -> u64 {
     std::num::wrapping_add_u64(ten, digit as u64)
 }
 
-// The number at a place; the next one starts behind the space or line feed after it.
-fn numeral(text: &[u8], at: usize) -> Parsed {
+// The next number of the input; the one after it starts behind the space or line feed.
+fn numeral(text: &[u8], at: &mut usize) -> u64 {
     let mut value: u64 = 0;
-    let mut i = at;
+    let mut i = *at;
     while i < text.len() {
         let b = text[i];
         i += 1;
         if b < 48 {
-            return Parsed { value, next: i };
+            *at = i;
+            return value;
         }
         value = ten_times(value, b - 48);
     }
-    Parsed { value, next: i }
+    *at = i;
+    value
 }
 
 // The float of a pattern; a NaN's patterns are all one NaN.
@@ -93,149 +55,58 @@ fn float_of(bits: u64) -> f64 {
 }
 
 // A list's length, at most the places that there are.
-fn places(n: u64) -> usize
-    ensures { λ r. ⌜ r ≤ 64 ⌝ }
+fn places(n: u64, room: usize) -> usize
+    ensures { λ r. ⌜ r ≤ room ⌝ }
 {
-    if n < 64 {
+    if n < room as u64 {
         return n as usize;
     }
-    ROOM
+    room
 }
 
-// A list of the input.
-fn read_u32(text: &[u8], at: usize, out: &mut [u32; 64]) -> Span
-    ensures { λ r. ⌜ r .used ≤ 64 ⌝ }
-{
-    let length = numeral(text, at);
-    let used = places(length.value);
-    let mut next = length.next;
+fn index(text: &[u8], at: &mut usize) -> usize {
+    numeral(text, at) as usize
+}
+
+// The next list of the input, in the first places of the room for it.
+fn read_u32<'a>(text: &[u8], at: &mut usize, room: &'a mut [u32]) -> &'a mut [u32] {
+    let used = places(numeral(text, at), room.len());
     let mut k: usize = 0;
     while k < used {
-        let n = numeral(text, next);
-        next = n.next;
-        out[k] = hybit_core::narrow(n.value as usize);
+        room[k] = hybit_core::narrow(index(text, at));
         k += 1;
     }
-    Span { used, next }
+    &mut room[..used]
 }
 
-// The same at u64, usize and f64.
-fn read_u64(text: &[u8], at: usize, out: &mut [u64; 64]) -> Span
-    ensures { λ r. ⌜ r .used ≤ 64 ⌝ }
-{
-    let length = numeral(text, at);
-    let used = places(length.value);
-    let mut next = length.next;
+fn read_u64<'a>(text: &[u8], at: &mut usize, room: &'a mut [u64]) -> &'a mut [u64] {
+    let used = places(numeral(text, at), room.len());
     let mut k: usize = 0;
     while k < used {
-        let n = numeral(text, next);
-        next = n.next;
-        out[k] = n.value;
+        room[k] = numeral(text, at);
         k += 1;
     }
-    Span { used, next }
+    &mut room[..used]
 }
 
-fn read_usize(text: &[u8], at: usize, out: &mut [usize; 64]) -> Span
-    ensures { λ r. ⌜ r .used ≤ 64 ⌝ }
-{
-    let length = numeral(text, at);
-    let used = places(length.value);
-    let mut next = length.next;
+fn read_usize<'a>(text: &[u8], at: &mut usize, room: &'a mut [usize]) -> &'a mut [usize] {
+    let used = places(numeral(text, at), room.len());
     let mut k: usize = 0;
     while k < used {
-        let n = numeral(text, next);
-        next = n.next;
-        out[k] = n.value as usize;
+        room[k] = index(text, at);
         k += 1;
     }
-    Span { used, next }
+    &mut room[..used]
 }
 
-fn read_f64(text: &[u8], at: usize, out: &mut [f64; 64]) -> Span
-    ensures { λ r. ⌜ r .used ≤ 64 ⌝ }
-{
-    let length = numeral(text, at);
-    let used = places(length.value);
-    let mut next = length.next;
+fn read_f64<'a>(text: &[u8], at: &mut usize, room: &'a mut [f64]) -> &'a mut [f64] {
+    let used = places(numeral(text, at), room.len());
     let mut k: usize = 0;
     while k < used {
-        let n = numeral(text, next);
-        next = n.next;
-        out[k] = float_of(n.value);
+        room[k] = float_of(numeral(text, at));
         k += 1;
     }
-    Span { used, next }
-}
-
-fn read_csr(
-    text: &[u8],
-    at: usize,
-    ptr: &mut [u32; 64],
-    col: &mut [u32; 64],
-    val: &mut [f64; 64],
-) -> CsrIn
-    ensures { λ r. ⌜ (r .ptr ≤ 64) × (r .col ≤ 64) × (r .val ≤ 64) ⌝ }
-{
-    let nrows = numeral(text, at);
-    let ncols = numeral(text, nrows.next);
-    let p = read_u32(text, ncols.next, ptr);
-    let c = read_u32(text, p.next, col);
-    let v = read_f64(text, c.next, val);
-    CsrIn {
-        nrows: nrows.value as usize,
-        ncols: ncols.value as usize,
-        ptr: p.used,
-        col: c.used,
-        val: v.used,
-        next: v.next,
-    }
-}
-
-fn read_words(
-    text: &[u8],
-    at: usize,
-    ptr: &mut [u32; 64],
-    idx: &mut [u32; 64],
-    masks: &mut [u64; 64],
-) -> WordsIn
-    ensures { λ r. ⌜ (r .ptr ≤ 64) × (r .idx ≤ 64) × (r .masks ≤ 64) ⌝ }
-{
-    let nrows = numeral(text, at);
-    let ncols = numeral(text, nrows.next);
-    let p = read_u32(text, ncols.next, ptr);
-    let i = read_u32(text, p.next, idx);
-    let m = read_u64(text, i.next, masks);
-    let total = numeral(text, m.next);
-    WordsIn {
-        nrows: nrows.value as usize,
-        ncols: ncols.value as usize,
-        ptr: p.used,
-        idx: i.used,
-        masks: m.used,
-        total: total.value as usize,
-        next: total.next,
-    }
-}
-
-fn read_room(
-    text: &[u8],
-    at: usize,
-    ptr: &mut [u32; 64],
-    idx: &mut [u32; 64],
-    masks: &mut [u64; 64],
-) -> RoomIn
-    ensures { λ r. ⌜ (r .ptr ≤ 64) × (r .idx ≤ 64) × (r .masks ≤ 64) ⌝ }
-{
-    let p = read_u32(text, at, ptr);
-    let i = read_u32(text, p.next, idx);
-    let m = read_u64(text, i.next, masks);
-    RoomIn {
-        ptr: p.used,
-        idx: i.used,
-        masks: m.used,
-        next: m.next,
-    }
+    &mut room[..used]
 }
 
 fn number(n: u64) {
@@ -382,1106 +253,936 @@ fn show_f64(s: &[f64]) {
     }
 }
 
-fn mask_check(text: &[u8], at: usize) -> usize {
-    let mut words = [0u64; ROOM];
-    let len = numeral(text, at);
-    let words_in = read_u64(text, len.next, &mut words);
-    let words_used = words_in.used;
-    let r = denimrasp::denimrasp_mask_check(len.value as usize, &words[..words_used]);
+fn mask_check(text: &[u8], at: &mut usize) {
+    let mut words_room = [0u64; ROOM];
+    let len = index(text, at);
+    let words = read_u64(text, at, &mut words_room);
+    let r = denimrasp::denimrasp_mask_check(len, words);
     verdict(r);
-    words_in.next
 }
 
-fn mask_contains(text: &[u8], at: usize) -> usize {
-    let mut words = [0u64; ROOM];
-    let len = numeral(text, at);
-    let words_in = read_u64(text, len.next, &mut words);
-    let words_used = words_in.used;
-    let index = numeral(text, words_in.next);
-    let r = denimrasp::denimrasp_mask_contains(
-        len.value as usize,
-        &words[..words_used],
-        index.value as usize,
-    );
+fn mask_contains(text: &[u8], at: &mut usize) {
+    let mut words_room = [0u64; ROOM];
+    let len = index(text, at);
+    let words = read_u64(text, at, &mut words_room);
+    let index = index(text, at);
+    let r = denimrasp::denimrasp_mask_contains(len, words, index);
     answer(r);
-    index.next
 }
 
-fn mask_count_ones(text: &[u8], at: usize) -> usize {
-    let mut words = [0u64; ROOM];
-    let len = numeral(text, at);
-    let words_in = read_u64(text, len.next, &mut words);
-    let words_used = words_in.used;
-    let r = denimrasp::denimrasp_mask_count_ones(len.value as usize, &words[..words_used]);
+fn mask_count_ones(text: &[u8], at: &mut usize) {
+    let mut words_room = [0u64; ROOM];
+    let len = index(text, at);
+    let words = read_u64(text, at, &mut words_room);
+    let r = denimrasp::denimrasp_mask_count_ones(len, words);
     count(r);
-    words_in.next
 }
 
-fn mask_is_empty(text: &[u8], at: usize) -> usize {
-    let mut words = [0u64; ROOM];
-    let len = numeral(text, at);
-    let words_in = read_u64(text, len.next, &mut words);
-    let words_used = words_in.used;
-    let r = denimrasp::denimrasp_mask_is_empty(len.value as usize, &words[..words_used]);
+fn mask_is_empty(text: &[u8], at: &mut usize) {
+    let mut words_room = [0u64; ROOM];
+    let len = index(text, at);
+    let words = read_u64(text, at, &mut words_room);
+    let r = denimrasp::denimrasp_mask_is_empty(len, words);
     answer(r);
-    words_in.next
 }
 
-fn mask_new(text: &[u8], at: usize) -> usize {
-    let mut words = [0u64; ROOM];
-    let len = numeral(text, at);
-    let words_in = read_u64(text, len.next, &mut words);
-    let words_used = words_in.used;
-    let r = denimrasp::denimrasp_mask_new(len.value as usize, &mut words[..words_used]);
+fn mask_new(text: &[u8], at: &mut usize) {
+    let mut words_room = [0u64; ROOM];
+    let len = index(text, at);
+    let words = read_u64(text, at, &mut words_room);
+    let r = denimrasp::denimrasp_mask_new(len, words);
     verdict(r);
-    show_u64(&words[..words_used]);
-    words_in.next
+    show_u64(words);
 }
 
-fn mask_from_indices(text: &[u8], at: usize) -> usize {
-    let mut indices = [0usize; ROOM];
-    let mut words = [0u64; ROOM];
-    let len = numeral(text, at);
-    let indices_in = read_usize(text, len.next, &mut indices);
-    let indices_used = indices_in.used;
-    let words_in = read_u64(text, indices_in.next, &mut words);
-    let words_used = words_in.used;
-    let r = denimrasp::denimrasp_mask_from_indices(
-        len.value as usize,
-        &indices[..indices_used],
-        &mut words[..words_used],
-    );
+fn mask_from_indices(text: &[u8], at: &mut usize) {
+    let mut indices_room = [0usize; ROOM];
+    let mut words_room = [0u64; ROOM];
+    let len = index(text, at);
+    let indices = read_usize(text, at, &mut indices_room);
+    let words = read_u64(text, at, &mut words_room);
+    let r = denimrasp::denimrasp_mask_from_indices(len, indices, words);
     verdict(r);
-    show_u64(&words[..words_used]);
-    words_in.next
+    show_u64(words);
 }
 
-fn mask_set(text: &[u8], at: usize) -> usize {
-    let mut words = [0u64; ROOM];
-    let len = numeral(text, at);
-    let words_in = read_u64(text, len.next, &mut words);
-    let words_used = words_in.used;
-    let index = numeral(text, words_in.next);
-    let value = numeral(text, index.next);
-    let r = denimrasp::denimrasp_mask_set(
-        len.value as usize,
-        &mut words[..words_used],
-        index.value as usize,
-        value.value != 0,
-    );
+fn mask_set(text: &[u8], at: &mut usize) {
+    let mut words_room = [0u64; ROOM];
+    let len = index(text, at);
+    let words = read_u64(text, at, &mut words_room);
+    let index = index(text, at);
+    let value = numeral(text, at) != 0;
+    let r = denimrasp::denimrasp_mask_set(len, words, index, value);
     verdict(r);
-    show_u64(&words[..words_used]);
-    value.next
+    show_u64(words);
 }
 
-fn mask_or_word(text: &[u8], at: usize) -> usize {
-    let mut words = [0u64; ROOM];
-    let len = numeral(text, at);
-    let words_in = read_u64(text, len.next, &mut words);
-    let words_used = words_in.used;
-    let word_index = numeral(text, words_in.next);
-    let bits = numeral(text, word_index.next);
-    let r = denimrasp::denimrasp_mask_or_word(
-        len.value as usize,
-        &mut words[..words_used],
-        word_index.value as usize,
-        bits.value,
-    );
+fn mask_or_word(text: &[u8], at: &mut usize) {
+    let mut words_room = [0u64; ROOM];
+    let len = index(text, at);
+    let words = read_u64(text, at, &mut words_room);
+    let word_index = index(text, at);
+    let bits = numeral(text, at);
+    let r = denimrasp::denimrasp_mask_or_word(len, words, word_index, bits);
     verdict(r);
-    show_u64(&words[..words_used]);
-    bits.next
+    show_u64(words);
 }
 
-fn mask_indices(text: &[u8], at: usize) -> usize {
-    let mut words = [0u64; ROOM];
-    let mut out = [0usize; ROOM];
-    let len = numeral(text, at);
-    let words_in = read_u64(text, len.next, &mut words);
-    let words_used = words_in.used;
-    let out_in = read_usize(text, words_in.next, &mut out);
-    let out_used = out_in.used;
-    let r = denimrasp::denimrasp_mask_indices(
-        len.value as usize,
-        &words[..words_used],
-        &mut out[..out_used],
-    );
+fn mask_indices(text: &[u8], at: &mut usize) {
+    let mut words_room = [0u64; ROOM];
+    let mut out_room = [0usize; ROOM];
+    let len = index(text, at);
+    let words = read_u64(text, at, &mut words_room);
+    let out = read_usize(text, at, &mut out_room);
+    let r = denimrasp::denimrasp_mask_indices(len, words, out);
     count(r);
-    show_usize(&out[..out_used]);
-    out_in.next
+    show_usize(out);
 }
 
-fn mask_union_assign(text: &[u8], at: usize) -> usize {
-    let mut words = [0u64; ROOM];
-    let mut other = [0u64; ROOM];
-    let len = numeral(text, at);
-    let words_in = read_u64(text, len.next, &mut words);
-    let words_used = words_in.used;
-    let other_len = numeral(text, words_in.next);
-    let other_in = read_u64(text, other_len.next, &mut other);
-    let other_used = other_in.used;
-    let r = denimrasp::denimrasp_mask_union_assign(
-        len.value as usize,
-        &mut words[..words_used],
-        other_len.value as usize,
-        &other[..other_used],
-    );
+fn mask_union_assign(text: &[u8], at: &mut usize) {
+    let mut words_room = [0u64; ROOM];
+    let mut other_room = [0u64; ROOM];
+    let len = index(text, at);
+    let words = read_u64(text, at, &mut words_room);
+    let other_len = index(text, at);
+    let other = read_u64(text, at, &mut other_room);
+    let r = denimrasp::denimrasp_mask_union_assign(len, words, other_len, other);
     verdict(r);
-    show_u64(&words[..words_used]);
-    other_in.next
+    show_u64(words);
 }
 
-fn mask_intersect_assign(text: &[u8], at: usize) -> usize {
-    let mut words = [0u64; ROOM];
-    let mut other = [0u64; ROOM];
-    let len = numeral(text, at);
-    let words_in = read_u64(text, len.next, &mut words);
-    let words_used = words_in.used;
-    let other_len = numeral(text, words_in.next);
-    let other_in = read_u64(text, other_len.next, &mut other);
-    let other_used = other_in.used;
-    let r = denimrasp::denimrasp_mask_intersect_assign(
-        len.value as usize,
-        &mut words[..words_used],
-        other_len.value as usize,
-        &other[..other_used],
-    );
+fn mask_intersect_assign(text: &[u8], at: &mut usize) {
+    let mut words_room = [0u64; ROOM];
+    let mut other_room = [0u64; ROOM];
+    let len = index(text, at);
+    let words = read_u64(text, at, &mut words_room);
+    let other_len = index(text, at);
+    let other = read_u64(text, at, &mut other_room);
+    let r = denimrasp::denimrasp_mask_intersect_assign(len, words, other_len, other);
     verdict(r);
-    show_u64(&words[..words_used]);
-    other_in.next
+    show_u64(words);
 }
 
-fn mask_and_not_assign(text: &[u8], at: usize) -> usize {
-    let mut words = [0u64; ROOM];
-    let mut other = [0u64; ROOM];
-    let len = numeral(text, at);
-    let words_in = read_u64(text, len.next, &mut words);
-    let words_used = words_in.used;
-    let other_len = numeral(text, words_in.next);
-    let other_in = read_u64(text, other_len.next, &mut other);
-    let other_used = other_in.used;
-    let r = denimrasp::denimrasp_mask_and_not_assign(
-        len.value as usize,
-        &mut words[..words_used],
-        other_len.value as usize,
-        &other[..other_used],
-    );
+fn mask_and_not_assign(text: &[u8], at: &mut usize) {
+    let mut words_room = [0u64; ROOM];
+    let mut other_room = [0u64; ROOM];
+    let len = index(text, at);
+    let words = read_u64(text, at, &mut words_room);
+    let other_len = index(text, at);
+    let other = read_u64(text, at, &mut other_room);
+    let r = denimrasp::denimrasp_mask_and_not_assign(len, words, other_len, other);
     verdict(r);
-    show_u64(&words[..words_used]);
-    other_in.next
+    show_u64(words);
 }
 
-fn mask_intersects(text: &[u8], at: usize) -> usize {
-    let mut words = [0u64; ROOM];
-    let mut other = [0u64; ROOM];
-    let len = numeral(text, at);
-    let words_in = read_u64(text, len.next, &mut words);
-    let words_used = words_in.used;
-    let other_len = numeral(text, words_in.next);
-    let other_in = read_u64(text, other_len.next, &mut other);
-    let other_used = other_in.used;
-    let r = denimrasp::denimrasp_mask_intersects(
-        len.value as usize,
-        &words[..words_used],
-        other_len.value as usize,
-        &other[..other_used],
-    );
+fn mask_intersects(text: &[u8], at: &mut usize) {
+    let mut words_room = [0u64; ROOM];
+    let mut other_room = [0u64; ROOM];
+    let len = index(text, at);
+    let words = read_u64(text, at, &mut words_room);
+    let other_len = index(text, at);
+    let other = read_u64(text, at, &mut other_room);
+    let r = denimrasp::denimrasp_mask_intersects(len, words, other_len, other);
     answer(r);
-    other_in.next
 }
 
-fn csr32_check(text: &[u8], at: usize) -> usize {
-    let mut row_ptr = [0u32; ROOM];
-    let mut col_idx = [0u32; ROOM];
-    let mut values = [0.0f64; ROOM];
-    let m = read_csr(text, at, &mut row_ptr, &mut col_idx, &mut values);
-    let ptr_used = m.ptr;
-    let col_used = m.col;
-    let val_used = m.val;
-    let r = denimrasp::denimrasp_csr32_check(
-        m.nrows,
-        m.ncols,
-        &row_ptr[..ptr_used],
-        &col_idx[..col_used],
-        &values[..val_used],
-    );
+fn csr32_check(text: &[u8], at: &mut usize) {
+    let mut row_ptr_room = [0u32; ROOM];
+    let mut col_idx_room = [0u32; ROOM];
+    let mut values_room = [0.0f64; ROOM];
+    let nrows = index(text, at);
+    let ncols = index(text, at);
+    let row_ptr = read_u32(text, at, &mut row_ptr_room);
+    let col_idx = read_u32(text, at, &mut col_idx_room);
+    let values = read_f64(text, at, &mut values_room);
+    let r = denimrasp::denimrasp_csr32_check(nrows, ncols, row_ptr, col_idx, values);
     verdict(r);
-    m.next
 }
 
-fn csr32_apply(text: &[u8], at: usize) -> usize {
-    let mut row_ptr = [0u32; ROOM];
-    let mut col_idx = [0u32; ROOM];
-    let mut values = [0.0f64; ROOM];
-    let mut x = [0.0f64; ROOM];
-    let mut y = [0.0f64; ROOM];
-    let m = read_csr(text, at, &mut row_ptr, &mut col_idx, &mut values);
-    let ptr_used = m.ptr;
-    let col_used = m.col;
-    let val_used = m.val;
-    let x_in = read_f64(text, m.next, &mut x);
-    let x_used = x_in.used;
-    let y_in = read_f64(text, x_in.next, &mut y);
-    let y_used = y_in.used;
-    let r = denimrasp::denimrasp_csr32_apply(
-        m.nrows,
-        m.ncols,
-        &row_ptr[..ptr_used],
-        &col_idx[..col_used],
-        &values[..val_used],
-        &x[..x_used],
-        &mut y[..y_used],
-    );
+fn csr32_apply(text: &[u8], at: &mut usize) {
+    let mut row_ptr_room = [0u32; ROOM];
+    let mut col_idx_room = [0u32; ROOM];
+    let mut values_room = [0.0f64; ROOM];
+    let mut x_room = [0.0f64; ROOM];
+    let mut y_room = [0.0f64; ROOM];
+    let nrows = index(text, at);
+    let ncols = index(text, at);
+    let row_ptr = read_u32(text, at, &mut row_ptr_room);
+    let col_idx = read_u32(text, at, &mut col_idx_room);
+    let values = read_f64(text, at, &mut values_room);
+    let x = read_f64(text, at, &mut x_room);
+    let y = read_f64(text, at, &mut y_room);
+    let r = denimrasp::denimrasp_csr32_apply(nrows, ncols, row_ptr, col_idx, values, x, y);
     verdict(r);
-    show_f64(&y[..y_used]);
-    y_in.next
+    show_f64(y);
 }
 
-fn csr32_metadata_bytes(text: &[u8], at: usize) -> usize {
-    let mut row_ptr = [0u32; ROOM];
-    let mut col_idx = [0u32; ROOM];
-    let mut values = [0.0f64; ROOM];
-    let m = read_csr(text, at, &mut row_ptr, &mut col_idx, &mut values);
-    let ptr_used = m.ptr;
-    let col_used = m.col;
-    let val_used = m.val;
-    let r = denimrasp::denimrasp_csr32_metadata_bytes(
-        m.nrows,
-        m.ncols,
-        &row_ptr[..ptr_used],
-        &col_idx[..col_used],
-        &values[..val_used],
-    );
+fn csr32_metadata_bytes(text: &[u8], at: &mut usize) {
+    let mut row_ptr_room = [0u32; ROOM];
+    let mut col_idx_room = [0u32; ROOM];
+    let mut values_room = [0.0f64; ROOM];
+    let nrows = index(text, at);
+    let ncols = index(text, at);
+    let row_ptr = read_u32(text, at, &mut row_ptr_room);
+    let col_idx = read_u32(text, at, &mut col_idx_room);
+    let values = read_f64(text, at, &mut values_room);
+    let r = denimrasp::denimrasp_csr32_metadata_bytes(nrows, ncols, row_ptr, col_idx, values);
     count(r);
-    m.next
 }
 
-fn csr32_storage_bytes(text: &[u8], at: usize) -> usize {
-    let mut row_ptr = [0u32; ROOM];
-    let mut col_idx = [0u32; ROOM];
-    let mut values = [0.0f64; ROOM];
-    let m = read_csr(text, at, &mut row_ptr, &mut col_idx, &mut values);
-    let ptr_used = m.ptr;
-    let col_used = m.col;
-    let val_used = m.val;
-    let r = denimrasp::denimrasp_csr32_storage_bytes(
-        m.nrows,
-        m.ncols,
-        &row_ptr[..ptr_used],
-        &col_idx[..col_used],
-        &values[..val_used],
-    );
+fn csr32_storage_bytes(text: &[u8], at: &mut usize) {
+    let mut row_ptr_room = [0u32; ROOM];
+    let mut col_idx_room = [0u32; ROOM];
+    let mut values_room = [0.0f64; ROOM];
+    let nrows = index(text, at);
+    let ncols = index(text, at);
+    let row_ptr = read_u32(text, at, &mut row_ptr_room);
+    let col_idx = read_u32(text, at, &mut col_idx_room);
+    let values = read_f64(text, at, &mut values_room);
+    let r = denimrasp::denimrasp_csr32_storage_bytes(nrows, ncols, row_ptr, col_idx, values);
     count(r);
-    m.next
 }
 
-fn topology_check(text: &[u8], at: usize) -> usize {
-    let mut row_word_ptr = [0u32; ROOM];
-    let mut word_indices = [0u32; ROOM];
-    let mut masks = [0u64; ROOM];
-    let t = read_words(text, at, &mut row_word_ptr, &mut word_indices, &mut masks);
-    let t_ptr = t.ptr;
-    let t_idx = t.idx;
-    let t_masks = t.masks;
+fn topology_check(text: &[u8], at: &mut usize) {
+    let mut row_word_ptr_room = [0u32; ROOM];
+    let mut word_indices_room = [0u32; ROOM];
+    let mut masks_room = [0u64; ROOM];
+    let nrows = index(text, at);
+    let ncols = index(text, at);
+    let row_word_ptr = read_u32(text, at, &mut row_word_ptr_room);
+    let word_indices = read_u32(text, at, &mut word_indices_room);
+    let masks = read_u64(text, at, &mut masks_room);
+    let structural_nnz = index(text, at);
     let r = denimrasp::denimrasp_topology_check(
-        t.nrows,
-        t.ncols,
-        &row_word_ptr[..t_ptr],
-        &word_indices[..t_idx],
-        &masks[..t_masks],
-        t.total,
+        nrows,
+        ncols,
+        row_word_ptr,
+        word_indices,
+        masks,
+        structural_nnz,
     );
     verdict(r);
-    t.next
 }
 
-fn topology_from_csr32(text: &[u8], at: usize) -> usize {
-    let mut row_ptr = [0u32; ROOM];
-    let mut col_idx = [0u32; ROOM];
-    let mut values = [0.0f64; ROOM];
-    let mut row_word_ptr = [0u32; ROOM];
-    let mut word_indices = [0u32; ROOM];
-    let mut masks = [0u64; ROOM];
-    let m = read_csr(text, at, &mut row_ptr, &mut col_idx, &mut values);
-    let ptr_used = m.ptr;
-    let col_used = m.col;
-    let val_used = m.val;
-    let room = read_room(
-        text,
-        m.next,
-        &mut row_word_ptr,
-        &mut word_indices,
-        &mut masks,
-    );
-    let room_ptr = room.ptr;
-    let room_idx = room.idx;
-    let room_masks = room.masks;
+fn topology_from_csr32(text: &[u8], at: &mut usize) {
+    let mut row_ptr_room = [0u32; ROOM];
+    let mut col_idx_room = [0u32; ROOM];
+    let mut values_room = [0.0f64; ROOM];
+    let mut row_word_ptr_room = [0u32; ROOM];
+    let mut word_indices_room = [0u32; ROOM];
+    let mut masks_room = [0u64; ROOM];
+    let nrows = index(text, at);
+    let ncols = index(text, at);
+    let row_ptr = read_u32(text, at, &mut row_ptr_room);
+    let col_idx = read_u32(text, at, &mut col_idx_room);
+    let values = read_f64(text, at, &mut values_room);
+    let row_word_ptr = read_u32(text, at, &mut row_word_ptr_room);
+    let word_indices = read_u32(text, at, &mut word_indices_room);
+    let masks = read_u64(text, at, &mut masks_room);
     let r = denimrasp::denimrasp_topology_from_csr32(
-        m.nrows,
-        m.ncols,
-        &row_ptr[..ptr_used],
-        &col_idx[..col_used],
-        &values[..val_used],
-        &mut row_word_ptr[..room_ptr],
-        &mut word_indices[..room_idx],
-        &mut masks[..room_masks],
+        nrows,
+        ncols,
+        row_ptr,
+        col_idx,
+        values,
+        row_word_ptr,
+        word_indices,
+        masks,
     );
     built(r);
-    show_u32(&row_word_ptr[..room_ptr]);
-    show_u32(&word_indices[..room_idx]);
-    show_u64(&masks[..room_masks]);
-    room.next
+    show_u32(row_word_ptr);
+    show_u32(word_indices);
+    show_u64(masks);
 }
 
-fn topology_row_words(text: &[u8], at: usize) -> usize {
-    let mut row_word_ptr = [0u32; ROOM];
-    let mut word_indices = [0u32; ROOM];
-    let mut masks = [0u64; ROOM];
-    let t = read_words(text, at, &mut row_word_ptr, &mut word_indices, &mut masks);
-    let t_ptr = t.ptr;
-    let t_idx = t.idx;
-    let t_masks = t.masks;
-    let row = numeral(text, t.next);
+fn topology_row_words(text: &[u8], at: &mut usize) {
+    let mut row_word_ptr_room = [0u32; ROOM];
+    let mut word_indices_room = [0u32; ROOM];
+    let mut masks_room = [0u64; ROOM];
+    let nrows = index(text, at);
+    let ncols = index(text, at);
+    let row_word_ptr = read_u32(text, at, &mut row_word_ptr_room);
+    let word_indices = read_u32(text, at, &mut word_indices_room);
+    let masks = read_u64(text, at, &mut masks_room);
+    let structural_nnz = index(text, at);
+    let row = index(text, at);
     let r = denimrasp::denimrasp_topology_row_words(
-        t.nrows,
-        t.ncols,
-        &row_word_ptr[..t_ptr],
-        &word_indices[..t_idx],
-        &masks[..t_masks],
-        t.total,
-        row.value as usize,
+        nrows,
+        ncols,
+        row_word_ptr,
+        word_indices,
+        masks,
+        structural_nnz,
+        row,
     );
     part(r);
-    row.next
 }
 
-fn topology_row_nonempty_words(text: &[u8], at: usize) -> usize {
-    let mut row_word_ptr = [0u32; ROOM];
-    let mut word_indices = [0u32; ROOM];
-    let mut masks = [0u64; ROOM];
-    let t = read_words(text, at, &mut row_word_ptr, &mut word_indices, &mut masks);
-    let t_ptr = t.ptr;
-    let t_idx = t.idx;
-    let t_masks = t.masks;
-    let row = numeral(text, t.next);
+fn topology_row_nonempty_words(text: &[u8], at: &mut usize) {
+    let mut row_word_ptr_room = [0u32; ROOM];
+    let mut word_indices_room = [0u32; ROOM];
+    let mut masks_room = [0u64; ROOM];
+    let nrows = index(text, at);
+    let ncols = index(text, at);
+    let row_word_ptr = read_u32(text, at, &mut row_word_ptr_room);
+    let word_indices = read_u32(text, at, &mut word_indices_room);
+    let masks = read_u64(text, at, &mut masks_room);
+    let structural_nnz = index(text, at);
+    let row = index(text, at);
     let r = denimrasp::denimrasp_topology_row_nonempty_words(
-        t.nrows,
-        t.ncols,
-        &row_word_ptr[..t_ptr],
-        &word_indices[..t_idx],
-        &masks[..t_masks],
-        t.total,
-        row.value as usize,
+        nrows,
+        ncols,
+        row_word_ptr,
+        word_indices,
+        masks,
+        structural_nnz,
+        row,
     );
     count(r);
-    row.next
 }
 
-fn topology_row_popcount(text: &[u8], at: usize) -> usize {
-    let mut row_word_ptr = [0u32; ROOM];
-    let mut word_indices = [0u32; ROOM];
-    let mut masks = [0u64; ROOM];
-    let t = read_words(text, at, &mut row_word_ptr, &mut word_indices, &mut masks);
-    let t_ptr = t.ptr;
-    let t_idx = t.idx;
-    let t_masks = t.masks;
-    let row = numeral(text, t.next);
+fn topology_row_popcount(text: &[u8], at: &mut usize) {
+    let mut row_word_ptr_room = [0u32; ROOM];
+    let mut word_indices_room = [0u32; ROOM];
+    let mut masks_room = [0u64; ROOM];
+    let nrows = index(text, at);
+    let ncols = index(text, at);
+    let row_word_ptr = read_u32(text, at, &mut row_word_ptr_room);
+    let word_indices = read_u32(text, at, &mut word_indices_room);
+    let masks = read_u64(text, at, &mut masks_room);
+    let structural_nnz = index(text, at);
+    let row = index(text, at);
     let r = denimrasp::denimrasp_topology_row_popcount(
-        t.nrows,
-        t.ncols,
-        &row_word_ptr[..t_ptr],
-        &word_indices[..t_idx],
-        &masks[..t_masks],
-        t.total,
-        row.value as usize,
+        nrows,
+        ncols,
+        row_word_ptr,
+        word_indices,
+        masks,
+        structural_nnz,
+        row,
     );
     count(r);
-    row.next
 }
 
-fn topology_row_contains(text: &[u8], at: usize) -> usize {
-    let mut row_word_ptr = [0u32; ROOM];
-    let mut word_indices = [0u32; ROOM];
-    let mut masks = [0u64; ROOM];
-    let t = read_words(text, at, &mut row_word_ptr, &mut word_indices, &mut masks);
-    let t_ptr = t.ptr;
-    let t_idx = t.idx;
-    let t_masks = t.masks;
-    let row = numeral(text, t.next);
-    let col = numeral(text, row.next);
+fn topology_row_contains(text: &[u8], at: &mut usize) {
+    let mut row_word_ptr_room = [0u32; ROOM];
+    let mut word_indices_room = [0u32; ROOM];
+    let mut masks_room = [0u64; ROOM];
+    let nrows = index(text, at);
+    let ncols = index(text, at);
+    let row_word_ptr = read_u32(text, at, &mut row_word_ptr_room);
+    let word_indices = read_u32(text, at, &mut word_indices_room);
+    let masks = read_u64(text, at, &mut masks_room);
+    let structural_nnz = index(text, at);
+    let row = index(text, at);
+    let col = index(text, at);
     let r = denimrasp::denimrasp_topology_row_contains(
-        t.nrows,
-        t.ncols,
-        &row_word_ptr[..t_ptr],
-        &word_indices[..t_idx],
-        &masks[..t_masks],
-        t.total,
-        row.value as usize,
-        col.value as usize,
+        nrows,
+        ncols,
+        row_word_ptr,
+        word_indices,
+        masks,
+        structural_nnz,
+        row,
+        col,
     );
     answer(r);
-    col.next
 }
 
-fn topology_row_rank(text: &[u8], at: usize) -> usize {
-    let mut row_word_ptr = [0u32; ROOM];
-    let mut word_indices = [0u32; ROOM];
-    let mut masks = [0u64; ROOM];
-    let t = read_words(text, at, &mut row_word_ptr, &mut word_indices, &mut masks);
-    let t_ptr = t.ptr;
-    let t_idx = t.idx;
-    let t_masks = t.masks;
-    let row = numeral(text, t.next);
-    let col = numeral(text, row.next);
+fn topology_row_rank(text: &[u8], at: &mut usize) {
+    let mut row_word_ptr_room = [0u32; ROOM];
+    let mut word_indices_room = [0u32; ROOM];
+    let mut masks_room = [0u64; ROOM];
+    let nrows = index(text, at);
+    let ncols = index(text, at);
+    let row_word_ptr = read_u32(text, at, &mut row_word_ptr_room);
+    let word_indices = read_u32(text, at, &mut word_indices_room);
+    let masks = read_u64(text, at, &mut masks_room);
+    let structural_nnz = index(text, at);
+    let row = index(text, at);
+    let col = index(text, at);
     let r = denimrasp::denimrasp_topology_row_rank(
-        t.nrows,
-        t.ncols,
-        &row_word_ptr[..t_ptr],
-        &word_indices[..t_idx],
-        &masks[..t_masks],
-        t.total,
-        row.value as usize,
-        col.value as usize,
+        nrows,
+        ncols,
+        row_word_ptr,
+        word_indices,
+        masks,
+        structural_nnz,
+        row,
+        col,
     );
     count(r);
-    col.next
 }
 
-fn topology_row_select(text: &[u8], at: usize) -> usize {
-    let mut row_word_ptr = [0u32; ROOM];
-    let mut word_indices = [0u32; ROOM];
-    let mut masks = [0u64; ROOM];
-    let t = read_words(text, at, &mut row_word_ptr, &mut word_indices, &mut masks);
-    let t_ptr = t.ptr;
-    let t_idx = t.idx;
-    let t_masks = t.masks;
-    let row = numeral(text, t.next);
-    let ordinal = numeral(text, row.next);
+fn topology_row_select(text: &[u8], at: &mut usize) {
+    let mut row_word_ptr_room = [0u32; ROOM];
+    let mut word_indices_room = [0u32; ROOM];
+    let mut masks_room = [0u64; ROOM];
+    let nrows = index(text, at);
+    let ncols = index(text, at);
+    let row_word_ptr = read_u32(text, at, &mut row_word_ptr_room);
+    let word_indices = read_u32(text, at, &mut word_indices_room);
+    let masks = read_u64(text, at, &mut masks_room);
+    let structural_nnz = index(text, at);
+    let row = index(text, at);
+    let ordinal = index(text, at);
     let r = denimrasp::denimrasp_topology_row_select(
-        t.nrows,
-        t.ncols,
-        &row_word_ptr[..t_ptr],
-        &word_indices[..t_idx],
-        &masks[..t_masks],
-        t.total,
-        row.value as usize,
-        ordinal.value as usize,
+        nrows,
+        ncols,
+        row_word_ptr,
+        word_indices,
+        masks,
+        structural_nnz,
+        row,
+        ordinal,
     );
     selection(r);
-    ordinal.next
 }
 
-fn topology_stats(text: &[u8], at: usize) -> usize {
-    let mut row_word_ptr = [0u32; ROOM];
-    let mut word_indices = [0u32; ROOM];
-    let mut masks = [0u64; ROOM];
-    let t = read_words(text, at, &mut row_word_ptr, &mut word_indices, &mut masks);
-    let t_ptr = t.ptr;
-    let t_idx = t.idx;
-    let t_masks = t.masks;
+fn topology_stats(text: &[u8], at: &mut usize) {
+    let mut row_word_ptr_room = [0u32; ROOM];
+    let mut word_indices_room = [0u32; ROOM];
+    let mut masks_room = [0u64; ROOM];
+    let nrows = index(text, at);
+    let ncols = index(text, at);
+    let row_word_ptr = read_u32(text, at, &mut row_word_ptr_room);
+    let word_indices = read_u32(text, at, &mut word_indices_room);
+    let masks = read_u64(text, at, &mut masks_room);
+    let structural_nnz = index(text, at);
     let r = denimrasp::denimrasp_topology_stats(
-        t.nrows,
-        t.ncols,
-        &row_word_ptr[..t_ptr],
-        &word_indices[..t_idx],
-        &masks[..t_masks],
-        t.total,
+        nrows,
+        ncols,
+        row_word_ptr,
+        word_indices,
+        masks,
+        structural_nnz,
     );
     word_figures(r);
-    t.next
 }
 
-fn topology_union(text: &[u8], at: usize) -> usize {
-    let mut row_word_ptr = [0u32; ROOM];
-    let mut word_indices = [0u32; ROOM];
-    let mut masks = [0u64; ROOM];
-    let mut other_row_word_ptr = [0u32; ROOM];
-    let mut other_word_indices = [0u32; ROOM];
-    let mut other_masks = [0u64; ROOM];
-    let mut out_ptr = [0u32; ROOM];
-    let mut out_words = [0u32; ROOM];
-    let mut out_masks = [0u64; ROOM];
-    let t = read_words(text, at, &mut row_word_ptr, &mut word_indices, &mut masks);
-    let t_ptr = t.ptr;
-    let t_idx = t.idx;
-    let t_masks = t.masks;
-    let o = read_words(
-        text,
-        t.next,
-        &mut other_row_word_ptr,
-        &mut other_word_indices,
-        &mut other_masks,
-    );
-    let o_ptr = o.ptr;
-    let o_idx = o.idx;
-    let o_masks = o.masks;
-    let room = read_room(text, o.next, &mut out_ptr, &mut out_words, &mut out_masks);
-    let room_ptr = room.ptr;
-    let room_idx = room.idx;
-    let room_masks = room.masks;
+fn topology_union(text: &[u8], at: &mut usize) {
+    let mut row_word_ptr_room = [0u32; ROOM];
+    let mut word_indices_room = [0u32; ROOM];
+    let mut masks_room = [0u64; ROOM];
+    let mut other_row_word_ptr_room = [0u32; ROOM];
+    let mut other_word_indices_room = [0u32; ROOM];
+    let mut other_masks_room = [0u64; ROOM];
+    let mut out_ptr_room = [0u32; ROOM];
+    let mut out_words_room = [0u32; ROOM];
+    let mut out_masks_room = [0u64; ROOM];
+    let nrows = index(text, at);
+    let ncols = index(text, at);
+    let row_word_ptr = read_u32(text, at, &mut row_word_ptr_room);
+    let word_indices = read_u32(text, at, &mut word_indices_room);
+    let masks = read_u64(text, at, &mut masks_room);
+    let structural_nnz = index(text, at);
+    let other_nrows = index(text, at);
+    let other_ncols = index(text, at);
+    let other_row_word_ptr = read_u32(text, at, &mut other_row_word_ptr_room);
+    let other_word_indices = read_u32(text, at, &mut other_word_indices_room);
+    let other_masks = read_u64(text, at, &mut other_masks_room);
+    let other_structural_nnz = index(text, at);
+    let out_ptr = read_u32(text, at, &mut out_ptr_room);
+    let out_words = read_u32(text, at, &mut out_words_room);
+    let out_masks = read_u64(text, at, &mut out_masks_room);
     let r = denimrasp::denimrasp_topology_union(
-        t.nrows,
-        t.ncols,
-        &row_word_ptr[..t_ptr],
-        &word_indices[..t_idx],
-        &masks[..t_masks],
-        t.total,
-        o.nrows,
-        o.ncols,
-        &other_row_word_ptr[..o_ptr],
-        &other_word_indices[..o_idx],
-        &other_masks[..o_masks],
-        o.total,
-        &mut out_ptr[..room_ptr],
-        &mut out_words[..room_idx],
-        &mut out_masks[..room_masks],
+        nrows,
+        ncols,
+        row_word_ptr,
+        word_indices,
+        masks,
+        structural_nnz,
+        other_nrows,
+        other_ncols,
+        other_row_word_ptr,
+        other_word_indices,
+        other_masks,
+        other_structural_nnz,
+        out_ptr,
+        out_words,
+        out_masks,
     );
     built(r);
-    show_u32(&out_ptr[..room_ptr]);
-    show_u32(&out_words[..room_idx]);
-    show_u64(&out_masks[..room_masks]);
-    room.next
+    show_u32(out_ptr);
+    show_u32(out_words);
+    show_u64(out_masks);
 }
 
-fn topology_intersection(text: &[u8], at: usize) -> usize {
-    let mut row_word_ptr = [0u32; ROOM];
-    let mut word_indices = [0u32; ROOM];
-    let mut masks = [0u64; ROOM];
-    let mut other_row_word_ptr = [0u32; ROOM];
-    let mut other_word_indices = [0u32; ROOM];
-    let mut other_masks = [0u64; ROOM];
-    let mut out_ptr = [0u32; ROOM];
-    let mut out_words = [0u32; ROOM];
-    let mut out_masks = [0u64; ROOM];
-    let t = read_words(text, at, &mut row_word_ptr, &mut word_indices, &mut masks);
-    let t_ptr = t.ptr;
-    let t_idx = t.idx;
-    let t_masks = t.masks;
-    let o = read_words(
-        text,
-        t.next,
-        &mut other_row_word_ptr,
-        &mut other_word_indices,
-        &mut other_masks,
-    );
-    let o_ptr = o.ptr;
-    let o_idx = o.idx;
-    let o_masks = o.masks;
-    let room = read_room(text, o.next, &mut out_ptr, &mut out_words, &mut out_masks);
-    let room_ptr = room.ptr;
-    let room_idx = room.idx;
-    let room_masks = room.masks;
+fn topology_intersection(text: &[u8], at: &mut usize) {
+    let mut row_word_ptr_room = [0u32; ROOM];
+    let mut word_indices_room = [0u32; ROOM];
+    let mut masks_room = [0u64; ROOM];
+    let mut other_row_word_ptr_room = [0u32; ROOM];
+    let mut other_word_indices_room = [0u32; ROOM];
+    let mut other_masks_room = [0u64; ROOM];
+    let mut out_ptr_room = [0u32; ROOM];
+    let mut out_words_room = [0u32; ROOM];
+    let mut out_masks_room = [0u64; ROOM];
+    let nrows = index(text, at);
+    let ncols = index(text, at);
+    let row_word_ptr = read_u32(text, at, &mut row_word_ptr_room);
+    let word_indices = read_u32(text, at, &mut word_indices_room);
+    let masks = read_u64(text, at, &mut masks_room);
+    let structural_nnz = index(text, at);
+    let other_nrows = index(text, at);
+    let other_ncols = index(text, at);
+    let other_row_word_ptr = read_u32(text, at, &mut other_row_word_ptr_room);
+    let other_word_indices = read_u32(text, at, &mut other_word_indices_room);
+    let other_masks = read_u64(text, at, &mut other_masks_room);
+    let other_structural_nnz = index(text, at);
+    let out_ptr = read_u32(text, at, &mut out_ptr_room);
+    let out_words = read_u32(text, at, &mut out_words_room);
+    let out_masks = read_u64(text, at, &mut out_masks_room);
     let r = denimrasp::denimrasp_topology_intersection(
-        t.nrows,
-        t.ncols,
-        &row_word_ptr[..t_ptr],
-        &word_indices[..t_idx],
-        &masks[..t_masks],
-        t.total,
-        o.nrows,
-        o.ncols,
-        &other_row_word_ptr[..o_ptr],
-        &other_word_indices[..o_idx],
-        &other_masks[..o_masks],
-        o.total,
-        &mut out_ptr[..room_ptr],
-        &mut out_words[..room_idx],
-        &mut out_masks[..room_masks],
+        nrows,
+        ncols,
+        row_word_ptr,
+        word_indices,
+        masks,
+        structural_nnz,
+        other_nrows,
+        other_ncols,
+        other_row_word_ptr,
+        other_word_indices,
+        other_masks,
+        other_structural_nnz,
+        out_ptr,
+        out_words,
+        out_masks,
     );
     built(r);
-    show_u32(&out_ptr[..room_ptr]);
-    show_u32(&out_words[..room_idx]);
-    show_u64(&out_masks[..room_masks]);
-    room.next
+    show_u32(out_ptr);
+    show_u32(out_words);
+    show_u64(out_masks);
 }
 
-fn topology_and_not(text: &[u8], at: usize) -> usize {
-    let mut row_word_ptr = [0u32; ROOM];
-    let mut word_indices = [0u32; ROOM];
-    let mut masks = [0u64; ROOM];
-    let mut other_row_word_ptr = [0u32; ROOM];
-    let mut other_word_indices = [0u32; ROOM];
-    let mut other_masks = [0u64; ROOM];
-    let mut out_ptr = [0u32; ROOM];
-    let mut out_words = [0u32; ROOM];
-    let mut out_masks = [0u64; ROOM];
-    let t = read_words(text, at, &mut row_word_ptr, &mut word_indices, &mut masks);
-    let t_ptr = t.ptr;
-    let t_idx = t.idx;
-    let t_masks = t.masks;
-    let o = read_words(
-        text,
-        t.next,
-        &mut other_row_word_ptr,
-        &mut other_word_indices,
-        &mut other_masks,
-    );
-    let o_ptr = o.ptr;
-    let o_idx = o.idx;
-    let o_masks = o.masks;
-    let room = read_room(text, o.next, &mut out_ptr, &mut out_words, &mut out_masks);
-    let room_ptr = room.ptr;
-    let room_idx = room.idx;
-    let room_masks = room.masks;
+fn topology_and_not(text: &[u8], at: &mut usize) {
+    let mut row_word_ptr_room = [0u32; ROOM];
+    let mut word_indices_room = [0u32; ROOM];
+    let mut masks_room = [0u64; ROOM];
+    let mut other_row_word_ptr_room = [0u32; ROOM];
+    let mut other_word_indices_room = [0u32; ROOM];
+    let mut other_masks_room = [0u64; ROOM];
+    let mut out_ptr_room = [0u32; ROOM];
+    let mut out_words_room = [0u32; ROOM];
+    let mut out_masks_room = [0u64; ROOM];
+    let nrows = index(text, at);
+    let ncols = index(text, at);
+    let row_word_ptr = read_u32(text, at, &mut row_word_ptr_room);
+    let word_indices = read_u32(text, at, &mut word_indices_room);
+    let masks = read_u64(text, at, &mut masks_room);
+    let structural_nnz = index(text, at);
+    let other_nrows = index(text, at);
+    let other_ncols = index(text, at);
+    let other_row_word_ptr = read_u32(text, at, &mut other_row_word_ptr_room);
+    let other_word_indices = read_u32(text, at, &mut other_word_indices_room);
+    let other_masks = read_u64(text, at, &mut other_masks_room);
+    let other_structural_nnz = index(text, at);
+    let out_ptr = read_u32(text, at, &mut out_ptr_room);
+    let out_words = read_u32(text, at, &mut out_words_room);
+    let out_masks = read_u64(text, at, &mut out_masks_room);
     let r = denimrasp::denimrasp_topology_and_not(
-        t.nrows,
-        t.ncols,
-        &row_word_ptr[..t_ptr],
-        &word_indices[..t_idx],
-        &masks[..t_masks],
-        t.total,
-        o.nrows,
-        o.ncols,
-        &other_row_word_ptr[..o_ptr],
-        &other_word_indices[..o_idx],
-        &other_masks[..o_masks],
-        o.total,
-        &mut out_ptr[..room_ptr],
-        &mut out_words[..room_idx],
-        &mut out_masks[..room_masks],
+        nrows,
+        ncols,
+        row_word_ptr,
+        word_indices,
+        masks,
+        structural_nnz,
+        other_nrows,
+        other_ncols,
+        other_row_word_ptr,
+        other_word_indices,
+        other_masks,
+        other_structural_nnz,
+        out_ptr,
+        out_words,
+        out_masks,
     );
     built(r);
-    show_u32(&out_ptr[..room_ptr]);
-    show_u32(&out_words[..room_idx]);
-    show_u64(&out_masks[..room_masks]);
-    room.next
+    show_u32(out_ptr);
+    show_u32(out_words);
+    show_u64(out_masks);
 }
 
-fn topology_xor(text: &[u8], at: usize) -> usize {
-    let mut row_word_ptr = [0u32; ROOM];
-    let mut word_indices = [0u32; ROOM];
-    let mut masks = [0u64; ROOM];
-    let mut other_row_word_ptr = [0u32; ROOM];
-    let mut other_word_indices = [0u32; ROOM];
-    let mut other_masks = [0u64; ROOM];
-    let mut out_ptr = [0u32; ROOM];
-    let mut out_words = [0u32; ROOM];
-    let mut out_masks = [0u64; ROOM];
-    let t = read_words(text, at, &mut row_word_ptr, &mut word_indices, &mut masks);
-    let t_ptr = t.ptr;
-    let t_idx = t.idx;
-    let t_masks = t.masks;
-    let o = read_words(
-        text,
-        t.next,
-        &mut other_row_word_ptr,
-        &mut other_word_indices,
-        &mut other_masks,
-    );
-    let o_ptr = o.ptr;
-    let o_idx = o.idx;
-    let o_masks = o.masks;
-    let room = read_room(text, o.next, &mut out_ptr, &mut out_words, &mut out_masks);
-    let room_ptr = room.ptr;
-    let room_idx = room.idx;
-    let room_masks = room.masks;
+fn topology_xor(text: &[u8], at: &mut usize) {
+    let mut row_word_ptr_room = [0u32; ROOM];
+    let mut word_indices_room = [0u32; ROOM];
+    let mut masks_room = [0u64; ROOM];
+    let mut other_row_word_ptr_room = [0u32; ROOM];
+    let mut other_word_indices_room = [0u32; ROOM];
+    let mut other_masks_room = [0u64; ROOM];
+    let mut out_ptr_room = [0u32; ROOM];
+    let mut out_words_room = [0u32; ROOM];
+    let mut out_masks_room = [0u64; ROOM];
+    let nrows = index(text, at);
+    let ncols = index(text, at);
+    let row_word_ptr = read_u32(text, at, &mut row_word_ptr_room);
+    let word_indices = read_u32(text, at, &mut word_indices_room);
+    let masks = read_u64(text, at, &mut masks_room);
+    let structural_nnz = index(text, at);
+    let other_nrows = index(text, at);
+    let other_ncols = index(text, at);
+    let other_row_word_ptr = read_u32(text, at, &mut other_row_word_ptr_room);
+    let other_word_indices = read_u32(text, at, &mut other_word_indices_room);
+    let other_masks = read_u64(text, at, &mut other_masks_room);
+    let other_structural_nnz = index(text, at);
+    let out_ptr = read_u32(text, at, &mut out_ptr_room);
+    let out_words = read_u32(text, at, &mut out_words_room);
+    let out_masks = read_u64(text, at, &mut out_masks_room);
     let r = denimrasp::denimrasp_topology_xor(
-        t.nrows,
-        t.ncols,
-        &row_word_ptr[..t_ptr],
-        &word_indices[..t_idx],
-        &masks[..t_masks],
-        t.total,
-        o.nrows,
-        o.ncols,
-        &other_row_word_ptr[..o_ptr],
-        &other_word_indices[..o_idx],
-        &other_masks[..o_masks],
-        o.total,
-        &mut out_ptr[..room_ptr],
-        &mut out_words[..room_idx],
-        &mut out_masks[..room_masks],
+        nrows,
+        ncols,
+        row_word_ptr,
+        word_indices,
+        masks,
+        structural_nnz,
+        other_nrows,
+        other_ncols,
+        other_row_word_ptr,
+        other_word_indices,
+        other_masks,
+        other_structural_nnz,
+        out_ptr,
+        out_words,
+        out_masks,
     );
     built(r);
-    show_u32(&out_ptr[..room_ptr]);
-    show_u32(&out_words[..room_idx]);
-    show_u64(&out_masks[..room_masks]);
-    room.next
+    show_u32(out_ptr);
+    show_u32(out_words);
+    show_u64(out_masks);
 }
 
-fn metadata_first_check(text: &[u8], at: usize) -> usize {
-    let mut row_word_ptr = [0u32; ROOM];
-    let mut word_indices = [0u32; ROOM];
-    let mut masks = [0u64; ROOM];
-    let mut row_value_ptr = [0u32; ROOM];
-    let mut values = [0.0f64; ROOM];
-    let t = read_words(text, at, &mut row_word_ptr, &mut word_indices, &mut masks);
-    let t_ptr = t.ptr;
-    let t_idx = t.idx;
-    let t_masks = t.masks;
-    let row_value_ptr_in = read_u32(text, t.next, &mut row_value_ptr);
-    let row_value_ptr_used = row_value_ptr_in.used;
-    let values_in = read_f64(text, row_value_ptr_in.next, &mut values);
-    let values_used = values_in.used;
+fn metadata_first_check(text: &[u8], at: &mut usize) {
+    let mut row_word_ptr_room = [0u32; ROOM];
+    let mut word_indices_room = [0u32; ROOM];
+    let mut masks_room = [0u64; ROOM];
+    let mut row_value_ptr_room = [0u32; ROOM];
+    let mut values_room = [0.0f64; ROOM];
+    let nrows = index(text, at);
+    let ncols = index(text, at);
+    let row_word_ptr = read_u32(text, at, &mut row_word_ptr_room);
+    let word_indices = read_u32(text, at, &mut word_indices_room);
+    let masks = read_u64(text, at, &mut masks_room);
+    let structural_nnz = index(text, at);
+    let row_value_ptr = read_u32(text, at, &mut row_value_ptr_room);
+    let values = read_f64(text, at, &mut values_room);
     let r = denimrasp::denimrasp_metadata_first_check(
-        t.nrows,
-        t.ncols,
-        &row_word_ptr[..t_ptr],
-        &word_indices[..t_idx],
-        &masks[..t_masks],
-        t.total,
-        &row_value_ptr[..row_value_ptr_used],
-        &values[..values_used],
+        nrows,
+        ncols,
+        row_word_ptr,
+        word_indices,
+        masks,
+        structural_nnz,
+        row_value_ptr,
+        values,
     );
     verdict(r);
-    values_in.next
 }
 
-fn metadata_first_check_merge(text: &[u8], at: usize) -> usize {
-    let mut row_ptr = [0u32; ROOM];
-    let mut col_idx = [0u32; ROOM];
-    let mut values = [0.0f64; ROOM];
-    let m = read_csr(text, at, &mut row_ptr, &mut col_idx, &mut values);
-    let ptr_used = m.ptr;
-    let col_used = m.col;
-    let val_used = m.val;
-    let r = denimrasp::denimrasp_metadata_first_check_merge(
-        m.nrows,
-        m.ncols,
-        &row_ptr[..ptr_used],
-        &col_idx[..col_used],
-        &values[..val_used],
-    );
+fn metadata_first_check_merge(text: &[u8], at: &mut usize) {
+    let mut row_ptr_room = [0u32; ROOM];
+    let mut col_idx_room = [0u32; ROOM];
+    let mut values_room = [0.0f64; ROOM];
+    let nrows = index(text, at);
+    let ncols = index(text, at);
+    let row_ptr = read_u32(text, at, &mut row_ptr_room);
+    let col_idx = read_u32(text, at, &mut col_idx_room);
+    let values = read_f64(text, at, &mut values_room);
+    let r = denimrasp::denimrasp_metadata_first_check_merge(nrows, ncols, row_ptr, col_idx, values);
     verdict(r);
-    m.next
 }
 
-fn metadata_first_from_csr32(text: &[u8], at: usize) -> usize {
-    let mut row_ptr = [0u32; ROOM];
-    let mut col_idx = [0u32; ROOM];
-    let mut values = [0.0f64; ROOM];
-    let mut row_word_ptr = [0u32; ROOM];
-    let mut word_indices = [0u32; ROOM];
-    let mut masks = [0u64; ROOM];
-    let mut row_value_ptr = [0u32; ROOM];
-    let mut packed = [0.0f64; ROOM];
-    let m = read_csr(text, at, &mut row_ptr, &mut col_idx, &mut values);
-    let ptr_used = m.ptr;
-    let col_used = m.col;
-    let val_used = m.val;
-    let room = read_room(
-        text,
-        m.next,
-        &mut row_word_ptr,
-        &mut word_indices,
-        &mut masks,
-    );
-    let room_ptr = room.ptr;
-    let room_idx = room.idx;
-    let room_masks = room.masks;
-    let row_value_ptr_in = read_u32(text, room.next, &mut row_value_ptr);
-    let row_value_ptr_used = row_value_ptr_in.used;
-    let packed_in = read_f64(text, row_value_ptr_in.next, &mut packed);
-    let packed_used = packed_in.used;
+fn metadata_first_from_csr32(text: &[u8], at: &mut usize) {
+    let mut row_ptr_room = [0u32; ROOM];
+    let mut col_idx_room = [0u32; ROOM];
+    let mut values_room = [0.0f64; ROOM];
+    let mut row_word_ptr_room = [0u32; ROOM];
+    let mut word_indices_room = [0u32; ROOM];
+    let mut masks_room = [0u64; ROOM];
+    let mut row_value_ptr_room = [0u32; ROOM];
+    let mut packed_room = [0.0f64; ROOM];
+    let nrows = index(text, at);
+    let ncols = index(text, at);
+    let row_ptr = read_u32(text, at, &mut row_ptr_room);
+    let col_idx = read_u32(text, at, &mut col_idx_room);
+    let values = read_f64(text, at, &mut values_room);
+    let row_word_ptr = read_u32(text, at, &mut row_word_ptr_room);
+    let word_indices = read_u32(text, at, &mut word_indices_room);
+    let masks = read_u64(text, at, &mut masks_room);
+    let row_value_ptr = read_u32(text, at, &mut row_value_ptr_room);
+    let packed = read_f64(text, at, &mut packed_room);
     let r = denimrasp::denimrasp_metadata_first_from_csr32(
-        m.nrows,
-        m.ncols,
-        &row_ptr[..ptr_used],
-        &col_idx[..col_used],
-        &values[..val_used],
-        &mut row_word_ptr[..room_ptr],
-        &mut word_indices[..room_idx],
-        &mut masks[..room_masks],
-        &mut row_value_ptr[..row_value_ptr_used],
-        &mut packed[..packed_used],
+        nrows,
+        ncols,
+        row_ptr,
+        col_idx,
+        values,
+        row_word_ptr,
+        word_indices,
+        masks,
+        row_value_ptr,
+        packed,
     );
     built(r);
-    show_u32(&row_word_ptr[..room_ptr]);
-    show_u32(&word_indices[..room_idx]);
-    show_u64(&masks[..room_masks]);
-    show_u32(&row_value_ptr[..row_value_ptr_used]);
-    show_f64(&packed[..packed_used]);
-    packed_in.next
+    show_u32(row_word_ptr);
+    show_u32(word_indices);
+    show_u64(masks);
+    show_u32(row_value_ptr);
+    show_f64(packed);
 }
 
-fn metadata_first_row_values(text: &[u8], at: usize) -> usize {
-    let mut row_word_ptr = [0u32; ROOM];
-    let mut word_indices = [0u32; ROOM];
-    let mut masks = [0u64; ROOM];
-    let mut row_value_ptr = [0u32; ROOM];
-    let mut values = [0.0f64; ROOM];
-    let t = read_words(text, at, &mut row_word_ptr, &mut word_indices, &mut masks);
-    let t_ptr = t.ptr;
-    let t_idx = t.idx;
-    let t_masks = t.masks;
-    let row_value_ptr_in = read_u32(text, t.next, &mut row_value_ptr);
-    let row_value_ptr_used = row_value_ptr_in.used;
-    let values_in = read_f64(text, row_value_ptr_in.next, &mut values);
-    let values_used = values_in.used;
-    let row = numeral(text, values_in.next);
+fn metadata_first_row_values(text: &[u8], at: &mut usize) {
+    let mut row_word_ptr_room = [0u32; ROOM];
+    let mut word_indices_room = [0u32; ROOM];
+    let mut masks_room = [0u64; ROOM];
+    let mut row_value_ptr_room = [0u32; ROOM];
+    let mut values_room = [0.0f64; ROOM];
+    let nrows = index(text, at);
+    let ncols = index(text, at);
+    let row_word_ptr = read_u32(text, at, &mut row_word_ptr_room);
+    let word_indices = read_u32(text, at, &mut word_indices_room);
+    let masks = read_u64(text, at, &mut masks_room);
+    let structural_nnz = index(text, at);
+    let row_value_ptr = read_u32(text, at, &mut row_value_ptr_room);
+    let values = read_f64(text, at, &mut values_room);
+    let row = index(text, at);
     let r = denimrasp::denimrasp_metadata_first_row_values(
-        t.nrows,
-        t.ncols,
-        &row_word_ptr[..t_ptr],
-        &word_indices[..t_idx],
-        &masks[..t_masks],
-        t.total,
-        &row_value_ptr[..row_value_ptr_used],
-        &values[..values_used],
-        row.value as usize,
+        nrows,
+        ncols,
+        row_word_ptr,
+        word_indices,
+        masks,
+        structural_nnz,
+        row_value_ptr,
+        values,
+        row,
     );
     part(r);
-    row.next
 }
 
-fn metadata_first_stats(text: &[u8], at: usize) -> usize {
-    let mut row_word_ptr = [0u32; ROOM];
-    let mut word_indices = [0u32; ROOM];
-    let mut masks = [0u64; ROOM];
-    let mut row_value_ptr = [0u32; ROOM];
-    let mut values = [0.0f64; ROOM];
-    let t = read_words(text, at, &mut row_word_ptr, &mut word_indices, &mut masks);
-    let t_ptr = t.ptr;
-    let t_idx = t.idx;
-    let t_masks = t.masks;
-    let row_value_ptr_in = read_u32(text, t.next, &mut row_value_ptr);
-    let row_value_ptr_used = row_value_ptr_in.used;
-    let values_in = read_f64(text, row_value_ptr_in.next, &mut values);
-    let values_used = values_in.used;
+fn metadata_first_stats(text: &[u8], at: &mut usize) {
+    let mut row_word_ptr_room = [0u32; ROOM];
+    let mut word_indices_room = [0u32; ROOM];
+    let mut masks_room = [0u64; ROOM];
+    let mut row_value_ptr_room = [0u32; ROOM];
+    let mut values_room = [0.0f64; ROOM];
+    let nrows = index(text, at);
+    let ncols = index(text, at);
+    let row_word_ptr = read_u32(text, at, &mut row_word_ptr_room);
+    let word_indices = read_u32(text, at, &mut word_indices_room);
+    let masks = read_u64(text, at, &mut masks_room);
+    let structural_nnz = index(text, at);
+    let row_value_ptr = read_u32(text, at, &mut row_value_ptr_room);
+    let values = read_f64(text, at, &mut values_room);
     let r = denimrasp::denimrasp_metadata_first_stats(
-        t.nrows,
-        t.ncols,
-        &row_word_ptr[..t_ptr],
-        &word_indices[..t_idx],
-        &masks[..t_masks],
-        t.total,
-        &row_value_ptr[..row_value_ptr_used],
-        &values[..values_used],
+        nrows,
+        ncols,
+        row_word_ptr,
+        word_indices,
+        masks,
+        structural_nnz,
+        row_value_ptr,
+        values,
     );
     store_figures(r);
-    values_in.next
 }
 
-fn metadata_first_sparse_dot_row(text: &[u8], at: usize) -> usize {
-    let mut row_word_ptr = [0u32; ROOM];
-    let mut word_indices = [0u32; ROOM];
-    let mut masks = [0u64; ROOM];
-    let mut row_value_ptr = [0u32; ROOM];
-    let mut values = [0.0f64; ROOM];
-    let mut mask = [0u64; ROOM];
-    let mut x = [0.0f64; ROOM];
-    let t = read_words(text, at, &mut row_word_ptr, &mut word_indices, &mut masks);
-    let t_ptr = t.ptr;
-    let t_idx = t.idx;
-    let t_masks = t.masks;
-    let row_value_ptr_in = read_u32(text, t.next, &mut row_value_ptr);
-    let row_value_ptr_used = row_value_ptr_in.used;
-    let values_in = read_f64(text, row_value_ptr_in.next, &mut values);
-    let values_used = values_in.used;
-    let row = numeral(text, values_in.next);
-    let mask_len = numeral(text, row.next);
-    let mask_in = read_u64(text, mask_len.next, &mut mask);
-    let mask_used = mask_in.used;
-    let x_in = read_f64(text, mask_in.next, &mut x);
-    let x_used = x_in.used;
+fn metadata_first_sparse_dot_row(text: &[u8], at: &mut usize) {
+    let mut row_word_ptr_room = [0u32; ROOM];
+    let mut word_indices_room = [0u32; ROOM];
+    let mut masks_room = [0u64; ROOM];
+    let mut row_value_ptr_room = [0u32; ROOM];
+    let mut values_room = [0.0f64; ROOM];
+    let mut mask_room = [0u64; ROOM];
+    let mut x_room = [0.0f64; ROOM];
+    let nrows = index(text, at);
+    let ncols = index(text, at);
+    let row_word_ptr = read_u32(text, at, &mut row_word_ptr_room);
+    let word_indices = read_u32(text, at, &mut word_indices_room);
+    let masks = read_u64(text, at, &mut masks_room);
+    let structural_nnz = index(text, at);
+    let row_value_ptr = read_u32(text, at, &mut row_value_ptr_room);
+    let values = read_f64(text, at, &mut values_room);
+    let row = index(text, at);
+    let mask_len = index(text, at);
+    let mask = read_u64(text, at, &mut mask_room);
+    let x = read_f64(text, at, &mut x_room);
     let r = denimrasp::denimrasp_metadata_first_sparse_dot_row(
-        t.nrows,
-        t.ncols,
-        &row_word_ptr[..t_ptr],
-        &word_indices[..t_idx],
-        &masks[..t_masks],
-        t.total,
-        &row_value_ptr[..row_value_ptr_used],
-        &values[..values_used],
-        row.value as usize,
-        mask_len.value as usize,
-        &mask[..mask_used],
-        &x[..x_used],
+        nrows,
+        ncols,
+        row_word_ptr,
+        word_indices,
+        masks,
+        structural_nnz,
+        row_value_ptr,
+        values,
+        row,
+        mask_len,
+        mask,
+        x,
     );
     dot(r);
-    x_in.next
 }
 
-fn metadata_first_sparse_dot_rows(text: &[u8], at: usize) -> usize {
-    let mut row_word_ptr = [0u32; ROOM];
-    let mut word_indices = [0u32; ROOM];
-    let mut masks = [0u64; ROOM];
-    let mut row_value_ptr = [0u32; ROOM];
-    let mut values = [0.0f64; ROOM];
-    let mut mask = [0u64; ROOM];
-    let mut x = [0.0f64; ROOM];
-    let mut sums = [0.0f64; ROOM];
-    let mut executed = [0u32; ROOM];
-    let t = read_words(text, at, &mut row_word_ptr, &mut word_indices, &mut masks);
-    let t_ptr = t.ptr;
-    let t_idx = t.idx;
-    let t_masks = t.masks;
-    let row_value_ptr_in = read_u32(text, t.next, &mut row_value_ptr);
-    let row_value_ptr_used = row_value_ptr_in.used;
-    let values_in = read_f64(text, row_value_ptr_in.next, &mut values);
-    let values_used = values_in.used;
-    let mask_len = numeral(text, values_in.next);
-    let mask_in = read_u64(text, mask_len.next, &mut mask);
-    let mask_used = mask_in.used;
-    let x_in = read_f64(text, mask_in.next, &mut x);
-    let x_used = x_in.used;
-    let sums_in = read_f64(text, x_in.next, &mut sums);
-    let sums_used = sums_in.used;
-    let executed_in = read_u32(text, sums_in.next, &mut executed);
-    let executed_used = executed_in.used;
+fn metadata_first_sparse_dot_rows(text: &[u8], at: &mut usize) {
+    let mut row_word_ptr_room = [0u32; ROOM];
+    let mut word_indices_room = [0u32; ROOM];
+    let mut masks_room = [0u64; ROOM];
+    let mut row_value_ptr_room = [0u32; ROOM];
+    let mut values_room = [0.0f64; ROOM];
+    let mut mask_room = [0u64; ROOM];
+    let mut x_room = [0.0f64; ROOM];
+    let mut sums_room = [0.0f64; ROOM];
+    let mut executed_room = [0u32; ROOM];
+    let nrows = index(text, at);
+    let ncols = index(text, at);
+    let row_word_ptr = read_u32(text, at, &mut row_word_ptr_room);
+    let word_indices = read_u32(text, at, &mut word_indices_room);
+    let masks = read_u64(text, at, &mut masks_room);
+    let structural_nnz = index(text, at);
+    let row_value_ptr = read_u32(text, at, &mut row_value_ptr_room);
+    let values = read_f64(text, at, &mut values_room);
+    let mask_len = index(text, at);
+    let mask = read_u64(text, at, &mut mask_room);
+    let x = read_f64(text, at, &mut x_room);
+    let sums = read_f64(text, at, &mut sums_room);
+    let executed = read_u32(text, at, &mut executed_room);
     let r = denimrasp::denimrasp_metadata_first_sparse_dot_rows(
-        t.nrows,
-        t.ncols,
-        &row_word_ptr[..t_ptr],
-        &word_indices[..t_idx],
-        &masks[..t_masks],
-        t.total,
-        &row_value_ptr[..row_value_ptr_used],
-        &values[..values_used],
-        mask_len.value as usize,
-        &mask[..mask_used],
-        &x[..x_used],
-        &mut sums[..sums_used],
-        &mut executed[..executed_used],
+        nrows,
+        ncols,
+        row_word_ptr,
+        word_indices,
+        masks,
+        structural_nnz,
+        row_value_ptr,
+        values,
+        mask_len,
+        mask,
+        x,
+        sums,
+        executed,
     );
     verdict(r);
-    show_f64(&sums[..sums_used]);
-    show_u32(&executed[..executed_used]);
-    executed_in.next
+    show_f64(sums);
+    show_u32(executed);
 }
 
-fn word_base_col(text: &[u8], at: usize) -> usize {
-    let word_index = numeral(text, at);
-    let r = denimrasp::denimrasp_word_base_col(hybit_core::narrow(word_index.value as usize));
+fn word_base_col(text: &[u8], at: &mut usize) {
+    let word_index = hybit_core::narrow(index(text, at));
+    let r = denimrasp::denimrasp_word_base_col(word_index);
     refusal(0, 0, 0);
     size(r);
-    word_index.next
 }
 
-fn word_popcount(text: &[u8], at: usize) -> usize {
+fn word_popcount(text: &[u8], at: &mut usize) {
     let mask = numeral(text, at);
-    let r = denimrasp::denimrasp_word_popcount(mask.value);
+    let r = denimrasp::denimrasp_word_popcount(mask);
     refusal(0, 0, 0);
     size(r);
-    mask.next
 }
 
-fn word_contains_offset(text: &[u8], at: usize) -> usize {
+fn word_contains_offset(text: &[u8], at: &mut usize) {
     let mask = numeral(text, at);
-    let offset = numeral(text, mask.next);
-    let r = denimrasp::denimrasp_word_contains_offset(mask.value, offset.value as usize);
+    let offset = index(text, at);
+    let r = denimrasp::denimrasp_word_contains_offset(mask, offset);
     refusal(0, 0, 0);
     truth(r);
-    offset.next
 }
 
-fn word_rank(text: &[u8], at: usize) -> usize {
+fn word_rank(text: &[u8], at: &mut usize) {
     let mask = numeral(text, at);
-    let offset = numeral(text, mask.next);
-    let r = denimrasp::denimrasp_word_rank(mask.value, offset.value as usize);
+    let offset = index(text, at);
+    let r = denimrasp::denimrasp_word_rank(mask, offset);
     count(r);
-    offset.next
 }
 
-fn word_select(text: &[u8], at: usize) -> usize {
+fn word_select(text: &[u8], at: &mut usize) {
     let mask = numeral(text, at);
-    let ordinal = numeral(text, mask.next);
-    let r = denimrasp::denimrasp_word_select(mask.value, ordinal.value as usize);
+    let ordinal = index(text, at);
+    let r = denimrasp::denimrasp_word_select(mask, ordinal);
     selection(r);
-    ordinal.next
 }
 
-fn topology_average_word_nnz(text: &[u8], at: usize) -> usize {
-    let structural_nnz = numeral(text, at);
-    let nonempty_words = numeral(text, structural_nnz.next);
-    let r = denimrasp::denimrasp_topology_average_word_nnz(
-        structural_nnz.value as usize,
-        nonempty_words.value as usize,
-    );
+fn topology_average_word_nnz(text: &[u8], at: &mut usize) {
+    let structural_nnz = index(text, at);
+    let nonempty_words = index(text, at);
+    let r = denimrasp::denimrasp_topology_average_word_nnz(structural_nnz, nonempty_words);
     refusal(0, 0, 0);
     float(r);
-    nonempty_words.next
 }
 
-fn topology_word_fill_ratio(text: &[u8], at: usize) -> usize {
-    let structural_nnz = numeral(text, at);
-    let nonempty_words = numeral(text, structural_nnz.next);
-    let r = denimrasp::denimrasp_topology_word_fill_ratio(
-        structural_nnz.value as usize,
-        nonempty_words.value as usize,
-    );
+fn topology_word_fill_ratio(text: &[u8], at: &mut usize) {
+    let structural_nnz = index(text, at);
+    let nonempty_words = index(text, at);
+    let r = denimrasp::denimrasp_topology_word_fill_ratio(structural_nnz, nonempty_words);
     refusal(0, 0, 0);
     float(r);
-    nonempty_words.next
 }
 
-fn topology_metadata_bytes_per_nnz(text: &[u8], at: usize) -> usize {
-    let metadata_bytes = numeral(text, at);
-    let structural_nnz = numeral(text, metadata_bytes.next);
-    let r = denimrasp::denimrasp_topology_metadata_bytes_per_nnz(
-        metadata_bytes.value as usize,
-        structural_nnz.value as usize,
-    );
+fn topology_metadata_bytes_per_nnz(text: &[u8], at: &mut usize) {
+    let metadata_bytes = index(text, at);
+    let structural_nnz = index(text, at);
+    let r = denimrasp::denimrasp_topology_metadata_bytes_per_nnz(metadata_bytes, structural_nnz);
     refusal(0, 0, 0);
     float(r);
-    structural_nnz.next
 }
 
-fn metadata_first_pruning_ratio(text: &[u8], at: usize) -> usize {
-    let skipped_products = numeral(text, at);
-    let candidate_products = numeral(text, skipped_products.next);
-    let r = denimrasp::denimrasp_metadata_first_pruning_ratio(
-        skipped_products.value as usize,
-        candidate_products.value as usize,
-    );
+fn metadata_first_pruning_ratio(text: &[u8], at: &mut usize) {
+    let skipped_products = index(text, at);
+    let candidate_products = index(text, at);
+    let r = denimrasp::denimrasp_metadata_first_pruning_ratio(skipped_products, candidate_products);
     refusal(0, 0, 0);
     float(r);
-    candidate_products.next
 }
 
-fn metadata_first_empty_word_ratio(text: &[u8], at: usize) -> usize {
-    let topology_words = numeral(text, at);
-    let active_words = numeral(text, topology_words.next);
-    let r = denimrasp::denimrasp_metadata_first_empty_word_ratio(
-        topology_words.value as usize,
-        active_words.value as usize,
-    );
+fn metadata_first_empty_word_ratio(text: &[u8], at: &mut usize) {
+    let topology_words = index(text, at);
+    let active_words = index(text, at);
+    let r = denimrasp::denimrasp_metadata_first_empty_word_ratio(topology_words, active_words);
     refusal(0, 0, 0);
     float(r);
-    active_words.next
 }
 
-fn metadata_first_total_estimated_bytes(text: &[u8], at: usize) -> usize {
-    let topology_metadata_bytes = numeral(text, at);
-    let value_row_ptr_bytes = numeral(text, topology_metadata_bytes.next);
-    let packed_value_bytes = numeral(text, value_row_ptr_bytes.next);
+fn metadata_first_total_estimated_bytes(text: &[u8], at: &mut usize) {
+    let topology_metadata_bytes = index(text, at);
+    let value_row_ptr_bytes = index(text, at);
+    let packed_value_bytes = index(text, at);
     let r = denimrasp::denimrasp_metadata_first_total_estimated_bytes(
-        topology_metadata_bytes.value as usize,
-        value_row_ptr_bytes.value as usize,
-        packed_value_bytes.value as usize,
+        topology_metadata_bytes,
+        value_row_ptr_bytes,
+        packed_value_bytes,
     );
     refusal(0, 0, 0);
     size(r);
-    packed_value_bytes.next
 }
 
-fn metadata_first_accumulate(text: &[u8], at: usize) -> usize {
-    let candidate_products = numeral(text, at);
-    let executed_products = numeral(text, candidate_products.next);
-    let skipped_products = numeral(text, executed_products.next);
-    let topology_words = numeral(text, skipped_products.next);
-    let active_words = numeral(text, topology_words.next);
-    let other_candidate_products = numeral(text, active_words.next);
-    let other_executed_products = numeral(text, other_candidate_products.next);
-    let other_skipped_products = numeral(text, other_executed_products.next);
-    let other_topology_words = numeral(text, other_skipped_products.next);
-    let other_active_words = numeral(text, other_topology_words.next);
+fn metadata_first_accumulate(text: &[u8], at: &mut usize) {
+    let candidate_products = index(text, at);
+    let executed_products = index(text, at);
+    let skipped_products = index(text, at);
+    let topology_words = index(text, at);
+    let active_words = index(text, at);
+    let other_candidate_products = index(text, at);
+    let other_executed_products = index(text, at);
+    let other_skipped_products = index(text, at);
+    let other_topology_words = index(text, at);
+    let other_active_words = index(text, at);
     let r = denimrasp::denimrasp_metadata_first_accumulate(
-        candidate_products.value as usize,
-        executed_products.value as usize,
-        skipped_products.value as usize,
-        topology_words.value as usize,
-        active_words.value as usize,
-        other_candidate_products.value as usize,
-        other_executed_products.value as usize,
-        other_skipped_products.value as usize,
-        other_topology_words.value as usize,
-        other_active_words.value as usize,
+        candidate_products,
+        executed_products,
+        skipped_products,
+        topology_words,
+        active_words,
+        other_candidate_products,
+        other_executed_products,
+        other_skipped_products,
+        other_topology_words,
+        other_active_words,
     );
     totals(r);
-    other_active_words.next
 }
 
-fn mask_calls(call: u64, text: &[u8], at: usize) -> usize {
+fn mask_calls(call: u64, text: &[u8], at: &mut usize) {
     match call {
         0 => mask_check(text, at),
         1 => mask_contains(text, at),
@@ -1499,7 +1200,7 @@ fn mask_calls(call: u64, text: &[u8], at: usize) -> usize {
     }
 }
 
-fn csr32_calls(call: u64, text: &[u8], at: usize) -> usize {
+fn csr32_calls(call: u64, text: &[u8], at: &mut usize) {
     match call {
         13 => csr32_check(text, at),
         14 => csr32_apply(text, at),
@@ -1508,7 +1209,7 @@ fn csr32_calls(call: u64, text: &[u8], at: usize) -> usize {
     }
 }
 
-fn topology_calls(call: u64, text: &[u8], at: usize) -> usize {
+fn topology_calls(call: u64, text: &[u8], at: &mut usize) {
     match call {
         17 => topology_check(text, at),
         18 => topology_from_csr32(text, at),
@@ -1526,7 +1227,7 @@ fn topology_calls(call: u64, text: &[u8], at: usize) -> usize {
     }
 }
 
-fn metadata_first_calls(call: u64, text: &[u8], at: usize) -> usize {
+fn metadata_first_calls(call: u64, text: &[u8], at: &mut usize) {
     match call {
         30 => metadata_first_check(text, at),
         31 => metadata_first_check_merge(text, at),
@@ -1538,7 +1239,7 @@ fn metadata_first_calls(call: u64, text: &[u8], at: usize) -> usize {
     }
 }
 
-fn value_calls(call: u64, text: &[u8], at: usize) -> usize {
+fn value_calls(call: u64, text: &[u8], at: &mut usize) {
     match call {
         37 => word_base_col(text, at),
         38 => word_popcount(text, at),
@@ -1555,21 +1256,19 @@ fn value_calls(call: u64, text: &[u8], at: usize) -> usize {
     }
 }
 
-// One call, and what came of it, to a line; answers where the next call starts.
-fn replay(call: u64, text: &[u8], at: usize) -> usize {
+// One call, and what came of it.
+fn replay(call: u64, text: &[u8], at: &mut usize) {
     if call < 13 {
-        return mask_calls(call, text, at);
+        mask_calls(call, text, at);
+    } else if call < 17 {
+        csr32_calls(call, text, at);
+    } else if call < 30 {
+        topology_calls(call, text, at);
+    } else if call < 37 {
+        metadata_first_calls(call, text, at);
+    } else {
+        value_calls(call, text, at);
     }
-    if call < 17 {
-        return csr32_calls(call, text, at);
-    }
-    if call < 30 {
-        return topology_calls(call, text, at);
-    }
-    if call < 37 {
-        return metadata_first_calls(call, text, at);
-    }
-    value_calls(call, text, at)
 }
 
 // The call numbered 49 ends the input.
@@ -1577,11 +1276,11 @@ fn replay_all(text: &[u8]) {
     let mut at: usize = 0;
     let mut turn: usize = 0;
     while turn < 100000 {
-        let call = numeral(text, at);
-        if call.value >= 49 {
+        let call = numeral(text, &mut at);
+        if call >= 49 {
             return;
         }
-        at = replay(call.value, text, call.next);
+        replay(call, text, &mut at);
         end();
         turn += 1;
     }

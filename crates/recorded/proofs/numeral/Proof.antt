@@ -6,10 +6,10 @@ use Rattle.recorded.proofs.numeral.Statement.{statement}
 use Rattle.recorded.proofs.numeral.Tie as tie
 
 abbrev Inv-loop : tie.InvT-loop
-Inv-loop text at value₀ i₀ value i = 0 ≤ i
+Inv-loop text at₀ value₀ i₀ at value i = 0 ≤ i
 
 abbrev μ-loop : tie.MeasureT-loop
-μ-loop text at value₀ i₀ value i = length text - i
+μ-loop text at₀ value₀ i₀ at value i = length text - i
 
 loop-holds : tie.Need-loop-holds Inv-loop μ-loop
 loop-holds c = search needs

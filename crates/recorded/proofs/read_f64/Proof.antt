@@ -1,14 +1,16 @@
 -- `recorded::read_f64` meets its contract. Assumes nothing.
 use borrow.Author.Needs.{needs}
 use Prim.Native.Nat.{_≤_, _-_}
+use lib.ListN.{length}
+use lib.Seq.{length-take-le}
 use Rattle.recorded.proofs.read_f64.Statement.{statement}
 use Rattle.recorded.proofs.read_f64.Tie as tie
 
 abbrev Inv-loop : tie.InvT-loop
-Inv-loop text at out₀ used next₀ k₀ out next k = (k ≤ used) × (used ≤ 64)
+Inv-loop text at₀ room₀ used k₀ at room k = (k ≤ used) × (used ≤ length room)
 
 abbrev μ-loop : tie.MeasureT-loop
-μ-loop text at out₀ used next₀ k₀ out next k = used - k
+μ-loop text at₀ room₀ used k₀ at room k = used - k
 
 numeral-requires : tie.Need-numeral-requires Inv-loop μ-loop
 numeral-requires c κs = search needs
@@ -25,11 +27,11 @@ numeral-requires-2 c κs = search needs
 float-of-requires : tie.Need-float-of-requires Inv-loop μ-loop
 float-of-requires c κs = search needs
 
-mul-out : tie.Need-mul-out Inv-loop μ-loop
-mul-out c = search needs
+mul-room : tie.Need-mul-room Inv-loop μ-loop
+mul-room c = search needs
 
-element-write-out : tie.Need-element-write-out Inv-loop μ-loop
-element-write-out c = search needs
+slice-write-room : tie.Need-slice-write-room Inv-loop μ-loop
+slice-write-room c = search needs
 
 add-k : tie.Need-add-k Inv-loop μ-loop
 add-k c = search needs
@@ -39,6 +41,9 @@ loop-less c = search needs
 
 loop-again : tie.Need-loop-again Inv-loop μ-loop
 loop-again c = search needs
+
+slice-aggregate-result : tie.Need-slice-aggregate-result Inv-loop μ-loop
+slice-aggregate-result c = search (length-take-le, needs)
 
 returns : tie.Need-returns Inv-loop μ-loop
 returns c = search needs
@@ -54,9 +59,10 @@ read-f64-spec =
     loop-holds
     numeral-requires-2
     float-of-requires
-    mul-out
-    element-write-out
+    mul-room
+    slice-write-room
     add-k
     loop-less
     loop-again
+    slice-aggregate-result
     returns)

@@ -1,14 +1,16 @@
 -- `recorded::read_u32` meets its contract. Assumes nothing.
 use borrow.Author.Needs.{needs}
 use Prim.Native.Nat.{_≤_, _-_}
+use lib.ListN.{length}
+use lib.Seq.{length-take-le}
 use Rattle.recorded.proofs.read_u32.Statement.{statement}
 use Rattle.recorded.proofs.read_u32.Tie as tie
 
 abbrev Inv-loop : tie.InvT-loop
-Inv-loop text at out₀ used next₀ k₀ out next k = (k ≤ used) × (used ≤ 64)
+Inv-loop text at₀ room₀ used k₀ at room k = (k ≤ used) × (used ≤ length room)
 
 abbrev μ-loop : tie.MeasureT-loop
-μ-loop text at out₀ used next₀ k₀ out next k = used - k
+μ-loop text at₀ room₀ used k₀ at room k = used - k
 
 numeral-requires : tie.Need-numeral-requires Inv-loop μ-loop
 numeral-requires c κs = search needs
@@ -19,17 +21,17 @@ places-requires c κs = search needs
 loop-holds : tie.Need-loop-holds Inv-loop μ-loop
 loop-holds c = search needs
 
-numeral-requires-2 : tie.Need-numeral-requires-2 Inv-loop μ-loop
-numeral-requires-2 c κs = search needs
+index-requires : tie.Need-index-requires Inv-loop μ-loop
+index-requires c κs = search needs
 
 narrow-requires : tie.Need-narrow-requires Inv-loop μ-loop
 narrow-requires c κs = search needs
 
-mul-out : tie.Need-mul-out Inv-loop μ-loop
-mul-out c = search needs
+mul-room : tie.Need-mul-room Inv-loop μ-loop
+mul-room c = search needs
 
-element-write-out : tie.Need-element-write-out Inv-loop μ-loop
-element-write-out c = search needs
+slice-write-room : tie.Need-slice-write-room Inv-loop μ-loop
+slice-write-room c = search needs
 
 add-k : tie.Need-add-k Inv-loop μ-loop
 add-k c = search needs
@@ -39,6 +41,9 @@ loop-less c = search needs
 
 loop-again : tie.Need-loop-again Inv-loop μ-loop
 loop-again c = search needs
+
+slice-aggregate-result : tie.Need-slice-aggregate-result Inv-loop μ-loop
+slice-aggregate-result c = search (length-take-le, needs)
 
 returns : tie.Need-returns Inv-loop μ-loop
 returns c = search needs
@@ -52,11 +57,12 @@ read-u32-spec =
     numeral-requires
     places-requires
     loop-holds
-    numeral-requires-2
+    index-requires
     narrow-requires
-    mul-out
-    element-write-out
+    mul-room
+    slice-write-room
     add-k
     loop-less
     loop-again
+    slice-aggregate-result
     returns)

@@ -1,0 +1,140 @@
+//! The matrices, masks and vectors that are measured. No row holds a column twice.
+
+/// Splitmix64: the same numbers in every run.
+pub struct Random(pub u64);
+
+impl Random {
+    pub fn next(&mut self) -> u64 {
+        self.0 = self.0.wrapping_add(0x9e37_79b9_7f4a_7c15);
+        let a = (self.0 ^ (self.0 >> 30)).wrapping_mul(0xbf58_476d_1ce4_e5b9);
+        let b = (a ^ (a >> 27)).wrapping_mul(0x94d0_49bb_1331_11eb);
+        b ^ (b >> 31)
+    }
+
+    /// A number below `end`; `end` is small, so the remainder's bias does not matter here.
+    pub fn below(&mut self, end: usize) -> usize {
+        (self.next() % end as u64) as usize
+    }
+
+    /// A number from -1.0 to 1.0.
+    pub fn value(&mut self) -> f64 {
+        (self.next() >> 11) as f64 / (1u64 << 52) as f64 - 1.0
+    }
+}
+
+pub struct Kind {
+    pub name: &'static str,
+    pub nrows: usize,
+    pub ncols: usize,
+    pub per_row: usize,
+    /// How many adjacent columns each draw gives.
+    pub run: usize,
+    pub sorted: bool,
+}
+
+pub const KINDS: [Kind; 4] = [
+    Kind {
+        name: "narrow",
+        nrows: 4096,
+        ncols: 4096,
+        per_row: 256,
+        run: 1,
+        sorted: false,
+    },
+    Kind {
+        name: "wide",
+        nrows: 4096,
+        ncols: 65536,
+        per_row: 256,
+        run: 1,
+        sorted: true,
+    },
+    Kind {
+        name: "clustered",
+        nrows: 4096,
+        ncols: 65536,
+        per_row: 256,
+        run: 32,
+        sorted: true,
+    },
+    Kind {
+        name: "short",
+        nrows: 65536,
+        ncols: 4096,
+        per_row: 16,
+        run: 1,
+        sorted: false,
+    },
+];
+
+pub struct Csr {
+    pub nrows: usize,
+    pub ncols: usize,
+    pub row_ptr: Vec<u32>,
+    pub col_idx: Vec<u32>,
+    pub values: Vec<f64>,
+}
+
+impl Kind {
+    pub fn describe(&self) -> String {
+        let order = if self.sorted { "sorted" } else { "unsorted" };
+        let runs = match self.run {
+            1 => String::from("random columns"),
+            run => format!("random runs of {run} adjacent columns"),
+        };
+        format!(
+            "{}: {} x {}, {} entries a row, {runs}, {order}",
+            self.name, self.nrows, self.ncols, self.per_row
+        )
+    }
+
+    pub fn matrix(&self, random: &mut Random) -> Csr {
+        let entries = self.nrows * self.per_row;
+        let mut col_idx = Vec::with_capacity(entries);
+        let mut taken = vec![false; self.ncols];
+        for _ in 0..self.nrows {
+            let mut row = self.row(random, &mut taken);
+            if self.sorted {
+                row.sort_unstable();
+            }
+            col_idx.append(&mut row);
+        }
+        Csr {
+            nrows: self.nrows,
+            ncols: self.ncols,
+            row_ptr: (0..=self.nrows)
+                .map(|row| (row * self.per_row) as u32)
+                .collect(),
+            col_idx,
+            values: (0..entries).map(|_| random.value()).collect(),
+        }
+    }
+
+    /// Columns of a row, each once, in the order in which they are drawn. `taken` is all false before and after.
+    fn row(&self, random: &mut Random, taken: &mut [bool]) -> Vec<u32> {
+        let mut row = Vec::with_capacity(self.per_row);
+        while row.len() < self.per_row {
+            let start = random.below(self.ncols - self.run + 1);
+            let places = start..start + self.run;
+            if taken[places.clone()].contains(&true) {
+                continue;
+            }
+            taken[places.clone()].fill(true);
+            row.extend(places.map(|col| col as u32));
+        }
+        row.iter().for_each(|&col| taken[col as usize] = false);
+        row
+    }
+
+    /// Distinct columns, `percent` of all.
+    pub fn active(&self, percent: usize, random: &mut Random) -> Vec<usize> {
+        let mut columns: Vec<usize> = (0..self.ncols).collect();
+        let count = self.ncols * percent / 100;
+        for place in 0..count {
+            let other = place + random.below(self.ncols - place);
+            columns.swap(place, other);
+        }
+        columns.truncate(count);
+        columns
+    }
+}

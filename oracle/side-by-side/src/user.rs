@@ -1,0 +1,218 @@
+// A user's program, included twice: with `m` as denimrasp and with `m` as hybit-matrix. It asks every public method and notes
+// each answer as it is printed.
+
+pub struct Notes(pub Vec<(String, String)>);
+
+impl Notes {
+    fn note(&mut self, what: &str, answer: impl std::fmt::Debug) {
+        self.0.push((what.to_string(), format!("{answer:?}")));
+    }
+
+    /// Notes a result, an error by its variant and by its text, and hands the value on.
+    fn result<T: std::fmt::Debug>(
+        &mut self,
+        what: &str,
+        answer: Result<T, HybitError>,
+    ) -> Option<T> {
+        let printed = match &answer {
+            Ok(value) => format!("{value:?}"),
+            Err(error) => format!("{error:?}: {error}"),
+        };
+        self.0.push((what.to_string(), printed));
+        answer.ok()
+    }
+}
+
+pub fn run(case: &Case) -> Vec<(String, String)> {
+    let mut notes = Notes(Vec::new());
+    masks(&mut notes, case);
+    reports(&mut notes, case);
+    if let Some(a) = matrix(&mut notes, case, &case.a) {
+        products(&mut notes, case, &a);
+        let topology = m::AbtmTopology::from_csr32(&a);
+        if let Some(topology) = notes.result("topology", topology) {
+            words(&mut notes, case, &topology);
+            operations(&mut notes, case, &topology);
+        }
+        let store = m::AbtmMetadataFirstMatrix::from_csr32(&a);
+        if let Some(store) = notes.result("store", store) {
+            packed(&mut notes, case, &store);
+        }
+    }
+    notes.0
+}
+
+fn matrix(notes: &mut Notes, _: &Case, csr: &Csr) -> Option<m::Csr32Matrix> {
+    let made = m::Csr32Matrix::new(
+        csr.nrows,
+        csr.ncols,
+        csr.row_ptr.clone(),
+        csr.col_idx.clone(),
+        csr.values.clone(),
+    );
+    notes.result("csr new", made)
+}
+
+fn masks(notes: &mut Notes, case: &Case) {
+    notes.note("mask new", m::DofMask::new(case.mask_len));
+    let made = m::DofMask::from_indices(case.mask_len, &case.members);
+    let Some(mut mask) = notes.result("mask from_indices", made) else {
+        return;
+    };
+    notes.note("mask len", (mask.len(), mask.is_empty(), mask.count_ones()));
+    notes.note("mask words", mask.words());
+    notes.note("mask indices", mask.indices());
+    for &place in &case.places {
+        notes.note("mask contains", mask.contains(place));
+        let set = mask.set(place, place % 2 == 0);
+        notes.result("mask set", set);
+        or_word(&mut mask, place, case.bits);
+        notes.note("mask after", &mask);
+    }
+    let made = m::DofMask::from_indices(case.other_len, &case.other_members);
+    if let Some(other) = notes.result("other mask", made) {
+        two_masks(notes, &mask, &other);
+    }
+}
+
+fn two_masks(notes: &mut Notes, mask: &m::DofMask, other: &m::DofMask) {
+    notes.result("mask intersects", mask.intersects(other));
+    notes.note("mask equal", mask == other);
+    let mut joined = mask.clone();
+    notes.result("mask union_assign", joined.union_assign(other));
+    notes.note("mask union", &joined);
+    let mut common = mask.clone();
+    notes.result("mask intersect_assign", common.intersect_assign(other));
+    notes.note("mask intersection", &common);
+    let mut rest = mask.clone();
+    notes.result("mask and_not_assign", and_not_assign(&mut rest, other));
+    notes.note("mask and_not", (&rest, rest.is_empty()));
+}
+
+fn reports(notes: &mut Notes, case: &Case) {
+    let [mut totals, more] = case.counts.map(|c| m::AbtmProductPruningStats {
+        candidate_products: c[0],
+        executed_products: c[1],
+        skipped_products: c[2],
+        topology_words: c[3],
+        active_words: c[4],
+    });
+    notes.note("pruning_ratio", totals.pruning_ratio());
+    notes.note("empty_word_ratio", totals.empty_word_ratio());
+    // Where it fails hybit has by then changed some counts; the crate has not.
+    let added = totals.accumulate(more);
+    if notes.result("accumulate", added).is_some() {
+        notes.note("totals", totals);
+    }
+    let [a, b] = case.counts;
+    let stats = m::AbtmTopologyStats {
+        structural_nnz: a[0],
+        nonempty_words: a[1],
+        metadata_bytes: a[2],
+        ..Default::default()
+    };
+    notes.note("topology ratios", ratios(stats));
+    let stats = m::AbtmMetadataFirstStats {
+        topology_metadata_bytes: a[3],
+        value_row_ptr_bytes: b[3],
+        packed_value_bytes: b[0],
+        ..Default::default()
+    };
+    notes.note("total_estimated_bytes", stats.total_estimated_bytes());
+}
+
+fn ratios(stats: m::AbtmTopologyStats) -> [f64; 3] {
+    [
+        stats.average_word_nnz(),
+        stats.word_fill_ratio(),
+        stats.metadata_bytes_per_nnz(),
+    ]
+}
+
+fn products(notes: &mut Notes, case: &Case, a: &m::Csr32Matrix) {
+    notes.result("csr validate", a.clone().validate());
+    notes.note("csr sizes", (a.nrows(), a.ncols(), a.nnz()));
+    notes.note("csr lists", (a.row_ptr(), a.col_idx(), a.values()));
+    notes.note("csr bytes", (a.storage_bytes(), a.metadata_bytes()));
+    notes.result("spmv", a.spmv(&case.x));
+    let mut y = case.y.clone();
+    notes.result("apply", a.apply(&case.x, &mut y));
+    notes.note("y", y);
+}
+
+fn words(notes: &mut Notes, case: &Case, topology: &m::AbtmTopology) {
+    notes.note("topology rows", (topology.nrows(), topology.ncols()));
+    let sizes = (topology.structural_nnz(), topology.nonempty_words());
+    notes.note("topology sizes", sizes);
+    let stats = topology.stats();
+    notes.note("topology stats", (stats, ratios(stats)));
+    notes.result("topology validate", topology.validate());
+    for row in 0..topology.nrows() {
+        if let Some(row) = notes.result("row", topology.row(row)) {
+            one_row(notes, case, row);
+        }
+    }
+    for &place in &case.places {
+        notes.result("any row", topology.row(place));
+    }
+}
+
+fn one_row(notes: &mut Notes, case: &Case, row: m::AbtmTopologyRow<'_>) {
+    notes.note("row counts", (row.nonempty_words(), row.popcount()));
+    for &place in &case.places {
+        notes.note("row contains", row.contains(place));
+        notes.result("row rank", row.rank(place));
+        notes.note("row select", row.select(place));
+    }
+    for word in row.words() {
+        notes.note("word", (word, word.word_index(), word.mask()));
+        notes.note("word counts", (word.base_col(), word.popcount()));
+        for &place in &case.places {
+            notes.note("word contains_offset", word.contains_offset(place));
+            notes.result("word rank", word.rank(place));
+            notes.note("word select", word.select(place));
+        }
+    }
+}
+
+fn operations(notes: &mut Notes, case: &Case, a: &m::AbtmTopology) {
+    let Some(b) = matrix(notes, case, &case.b) else {
+        return;
+    };
+    let Some(b) = notes.result("other topology", m::AbtmTopology::from_csr32(&b)) else {
+        return;
+    };
+    notes.note("topology equal", *a == b);
+    notes.result("union", a.union(&b));
+    notes.result("intersection", a.intersection(&b));
+    notes.result("and_not", a.and_not(&b));
+    let differing = notes.result("xor", a.xor(&b));
+    if let Some(differing) = differing {
+        notes.result("xor validate", differing.validate());
+        // What differs, exchanged, gives the other record again.
+        notes.note("xor twice", a.xor(&differing) == Ok(b));
+    }
+}
+
+fn packed(notes: &mut Notes, case: &Case, store: &m::AbtmMetadataFirstMatrix) {
+    notes.note("store topology", store.topology());
+    notes.note("store values", store.packed_values());
+    let stats = store.stats();
+    notes.note("store stats", (stats, stats.total_estimated_bytes()));
+    notes.result("store validate", store.clone().validate());
+    let made = m::DofMask::from_indices(case.mask_len, &case.members);
+    let active = made.unwrap_or(m::DofMask::new(case.mask_len));
+    let mut totals = m::AbtmProductPruningStats::default();
+    for row in (0..store.topology().nrows()).chain(case.places.iter().copied()) {
+        notes.result("row_values", store.row_values(row));
+        let dot = store.sparse_dot_row(row, &active, &case.x);
+        if let Some((_, counts)) = notes.result("sparse_dot_row", dot) {
+            notes.result("accumulate dots", totals.accumulate(counts));
+            notes.note(
+                "dot ratios",
+                (totals.pruning_ratio(), totals.empty_word_ratio()),
+            );
+        }
+    }
+    notes.note("dot totals", totals);
+}

@@ -81,10 +81,10 @@ pub fn column_count(rng: &mut Rng) -> usize {
 }
 
 pub fn row_count(rng: &mut Rng) -> usize {
-    if rng.once_in(200) {
-        rng.below(70)
-    } else {
-        rng.below(5)
+    match rng.below(100) {
+        0..5 => 0,
+        5..98 => 1 + rng.below(4),
+        _ => rng.below(70),
     }
 }
 
@@ -123,20 +123,34 @@ fn row_columns(rng: &mut Rng, ncols: usize) -> Vec<u32> {
         2 if rng.once_in(20) => (0..rng.below(600)).map(|_| column(rng, ncols)).collect(),
         _ => (0..rng.below(7)).map(|_| column(rng, ncols)).collect(),
     };
-    let copies = rng.pick(&[0, 0, 0, 0, 0, 1, 1, 1, 1, 2, 3, 6]);
-    if copies < 2 {
-        cols.sort_unstable();
-        cols.dedup();
-    }
-    if let Some(&col) = cols.first() {
-        cols.extend((0..copies).map(|_| col));
-    }
+    add_copies(rng, &mut cols);
     if rng.once_in(2) {
         rng.shuffle(&mut cols);
     } else {
         cols.sort_unstable();
     }
     cols
+}
+
+/// Half of the rows hold each column once, most others some columns twice, and a few hold one more often.
+fn add_copies(rng: &mut Rng, cols: &mut Vec<u32>) {
+    let style = rng.below(16);
+    if style < 14 {
+        cols.sort_unstable();
+        cols.dedup();
+    }
+    match style {
+        0..8 => {}
+        8..14 => {
+            let twice: Vec<u32> = cols.iter().copied().filter(|_| rng.once_in(2)).collect();
+            cols.extend(twice);
+        }
+        _ => {
+            if let Some(&col) = cols.first() {
+                cols.extend(vec![col; 1 + rng.below(6)]);
+            }
+        }
+    }
 }
 
 /// A good plot list of this shape.
@@ -154,16 +168,12 @@ pub fn csr_of_shape(rng: &mut Rng, nrows: usize, ncols: usize) -> Csr {
         c.row_ptr.push(c.col_idx.len() as u32);
     }
     for place in 0..c.col_idx.len() {
-        let value = match c.values.last() {
-            Some(last) if rng.once_in(8) => -last,
-            _ => float(rng, style),
-        };
         let copied = place > 0 && c.col_idx[place] == c.col_idx[place - 1];
-        // Copies of the largest value overflow when merged: keep most of them from it.
-        let value = if copied && rng.below(8) != 0 {
-            value / 4.0
-        } else {
-            value
+        let value = match (copied, rng.below(8)) {
+            // Copies of the largest value overflow when merged: keep most of them from it.
+            (true, 0..4) => float(rng, style) / 4.0,
+            (true, 4..7) => -c.values[place - 1],
+            _ => float(rng, style),
         };
         c.values.push(value);
     }
@@ -196,10 +206,10 @@ pub fn mask(rng: &mut Rng, len: usize) -> Mask {
 
 /// How long a lent list is made that must have `need` places: exact, longer, one short, or anything.
 fn room_length(rng: &mut Rng, need: usize) -> usize {
-    match rng.below(20) {
-        0..12 => need,
-        12..17 => need + 1 + rng.below(3),
-        17..19 => need.saturating_sub(1),
+    match rng.below(40) {
+        0..26 => need,
+        26..38 => need + 1 + rng.below(3),
+        38 => need.saturating_sub(1),
         _ => rng.below(need + 2),
     }
 }

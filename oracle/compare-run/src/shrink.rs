@@ -166,10 +166,12 @@ enum Drop {
     Row(usize),
     /// A stored entry, or a word; those of a second record follow those of the first.
     Entry(usize),
+    /// A present column of words, with its value in a store; counted as the entries are.
+    One(usize),
     ColumnsFrom(usize),
 }
 
-/// Smaller records: a row, an entry or a word dropped, or the columns cut.
+/// Smaller records: a row, an entry, a word or a present column dropped, or the columns cut.
 fn structured(call: &Call) -> impl Iterator<Item = Call> {
     let (nrows, ncols, stored) = extent(&mut call.clone());
     let rows = (0..nrows.min(64)).map(Drop::Row);
@@ -184,7 +186,8 @@ fn structured(call: &Call) -> impl Iterator<Item = Call> {
         .into_iter()
         .filter(move |&n| n < ncols)
         .map(Drop::ColumnsFrom);
-    let drops = rows.chain(columns).chain(entries);
+    let ones = (0..ones_in(&mut call.clone()).min(256)).map(Drop::One);
+    let drops = rows.chain(columns).chain(entries).chain(ones);
     drops.map(|drop| dropped(call, drop))
 }
 
@@ -264,6 +267,34 @@ fn stored_words(w: &Words) -> usize {
     w.masks.len().min(w.word_indices.len())
 }
 
+fn count_ones(w: &Words) -> usize {
+    w.masks.iter().map(|m| m.count_ones() as usize).sum()
+}
+
+/// The ones of all words of the call, where their pointers are good.
+fn ones_in(call: &mut Call) -> usize {
+    let all: Vec<&Words> = match store_in(call) {
+        Some(s) => vec![&s.words],
+        None => words_in(call).into_iter().map(|w| &*w).collect(),
+    };
+    let good = all.iter().all(|w| framed_words(w));
+    if good {
+        all.iter().map(|w| count_ones(w)).sum()
+    } else {
+        0
+    }
+}
+
+/// The place and the bit of the n-th one.
+fn nth_one(masks: &[u64], n: usize) -> Option<(usize, u64)> {
+    let places = masks.iter().enumerate();
+    let mut ones = places.flat_map(|(place, &mask)| {
+        let bits = (0..64).filter(move |b| mask >> b & 1 == 1);
+        bits.map(move |b| (place, 1 << b))
+    });
+    ones.nth(n)
+}
+
 fn framed_words(w: &Words) -> bool {
     framed(&w.row_word_ptr, w.nrows, stored_words(w))
 }
@@ -303,21 +334,46 @@ fn dropped(call: &Call, drop: Drop) -> Call {
     if let Some(s) = store_in(&mut copy) {
         drop_store(s, drop);
     }
-    let mut before = 0;
+    let (mut words_before, mut ones_before) = (0, 0);
     for w in words_in(&mut copy) {
-        let stored = stored_words(w);
-        match drop {
-            Drop::Entry(n) if n < before => {}
-            Drop::Entry(n) => drop_words(w, Drop::Entry(n - before), None),
-            _ => drop_words(w, drop, None),
+        let (stored, ones) = (stored_words(w), count_ones(w));
+        let its_own = match drop {
+            Drop::Entry(n) => n.checked_sub(words_before).map(Drop::Entry),
+            Drop::One(n) => n.checked_sub(ones_before).map(Drop::One),
+            _ => Some(drop),
+        };
+        if let Some(drop) = its_own {
+            drop_words(w, drop, None);
         }
-        before += stored;
+        words_before += stored;
+        ones_before += ones;
     }
     for m in masks_in(&mut copy) {
         drop_mask(m, drop);
     }
+    if let (Some(asked), Drop::Row(row)) = (row_in(&mut copy), drop)
+        && row < *asked
+    {
+        *asked -= 1;
+    }
     drop_numbers(&mut copy, drop);
     copy
+}
+
+/// The row that is asked.
+fn row_in(call: &mut Call) -> Option<&mut usize> {
+    use Call::*;
+    match call {
+        TopologyRowWords(_, row)
+        | TopologyRowNonemptyWords(_, row)
+        | TopologyRowPopcount(_, row)
+        | TopologyRowContains(_, row, _)
+        | TopologyRowRank(_, row, _)
+        | TopologyRowSelect(_, row, _)
+        | MetadataFirstRowValues(_, row)
+        | MetadataFirstSparseDotRow(_, row, ..) => Some(row),
+        _ => None,
+    }
 }
 
 /// x loses the columns, a list with a place for each row loses one.
@@ -372,6 +428,7 @@ fn drop_csr(c: &mut Csr, drop: Drop) {
     let keep = move |place: usize| match drop {
         Drop::Row(row) => !(old_ptr[row] as usize..old_ptr[row + 1] as usize).contains(&place),
         Drop::Entry(entry) => place != entry,
+        Drop::One(_) => true,
         Drop::ColumnsFrom(n) => cols.get(place).is_none_or(|&col| (col as usize) < n),
     };
     let row = if let Drop::Row(row) = drop {
@@ -392,9 +449,17 @@ fn drop_csr(c: &mut Csr, drop: Drop) {
 fn drop_words(w: &mut Words, drop: Drop, values: Option<(&mut Vec<u32>, &mut Vec<f64>)>) {
     let old = w.clone();
     let part = |row: usize| old.row_word_ptr[row] as usize..old.row_word_ptr[row + 1] as usize;
+    let one = match drop {
+        Drop::One(n) => nth_one(&old.masks, n),
+        _ => None,
+    };
     let left = |place: usize| match drop {
         Drop::Row(row) if row < old.nrows && part(row).contains(&place) => 0,
         Drop::Entry(word) if place == word => 0,
+        Drop::One(_) => match one {
+            Some((at, bit)) if at == place => old.masks[place] & !bit,
+            _ => old.masks[place],
+        },
         Drop::ColumnsFrom(n) => below(old.word_indices[place], old.masks[place], n),
         _ => old.masks[place],
     };
@@ -408,7 +473,7 @@ fn drop_words(w: &mut Words, drop: Drop, values: Option<(&mut Vec<u32>, &mut Vec
     keep_places(&mut w.row_word_ptr, row, &keep);
     retain(&mut w.word_indices, &keep);
     w.masks = (0..n).filter(|&p| keep(p)).map(left).collect();
-    w.structural_nnz = w.masks.iter().map(|m| m.count_ones() as usize).sum();
+    w.structural_nnz = count_ones(w);
     w.nrows -= usize::from(row.is_some());
     if let Drop::ColumnsFrom(n) = drop {
         w.ncols = n;

@@ -1,7 +1,7 @@
 // Replays recorded calls of the C interface. Its input has a call to a line: the call's number and then what it is lent, in
-// decimal, a list as its length and its places, a float as its bits. Its output has for each call what came of it: the
-// refusal's number, expected and actual, the result, and every list that was lent to be written. The expected output is what
-// the Rust or the model of document 01 answered (oracle/record).
+// decimal, a list as its length and its places, a float as its bits; in blocks of 65,536 bytes, none of whose lines goes on in
+// the next. Its output has for each call what came of it: the refusal's number, expected and actual, the result, and every list
+// that was lent to be written. The expected output is what the Rust or the model of document 01 answered (oracle/record).
 ghost use Prim.Native.Nat.{_≤_};
 use denimrasp_answers::DenimraspBool;
 use denimrasp_answers::DenimraspCount;
@@ -1271,11 +1271,11 @@ fn replay(call: u64, text: &[u8], at: &mut usize) {
     }
 }
 
-// The call numbered 49 ends the input.
-fn replay_all(text: &[u8]) {
+// The calls of one block of the input; the number 49 ends them.
+fn replay_block(text: &[u8]) {
     let mut at: usize = 0;
     let mut turn: usize = 0;
-    while turn < 100000 {
+    while turn < 65536 {
         let call = numeral(text, &mut at);
         if call >= 49 {
             return;
@@ -1287,7 +1287,13 @@ fn replay_all(text: &[u8]) {
 }
 
 fn main() {
-    let mut text = [0u8; 2097152];
-    let n = io::read_full(0, &mut text);
-    replay_all(&text[..n]);
+    let mut block = io::large_buffer();
+    let mut turn: usize = 0;
+    while turn < 64 {
+        if io::read_full(0, &mut block) == 0 {
+            return;
+        }
+        replay_block(&block);
+        turn += 1;
+    }
 }

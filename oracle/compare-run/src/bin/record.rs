@@ -10,6 +10,7 @@ use std::collections::{BTreeMap, BTreeSet};
 use std::process::ExitCode;
 
 const SEED: u64 = 20_261_116;
+const BLOCK: usize = 65_536;
 const LONGEST_LIST: usize = 40;
 /// How many calls are looked at, and how many of each sort are kept.
 const LOOKED_AT: usize = 1_500_000;
@@ -108,6 +109,25 @@ impl Sink for Record {
     }
 }
 
+/// The calls in blocks of `BLOCK` bytes, which the program reads one at a time: as many lines as fit, a line with the number past
+/// the last kind to end them, and line feeds to fill the block.
+fn blocks<'a>(lines: impl Iterator<Item = &'a str>) -> String {
+    let end = format!("{KINDS}\n");
+    let mut text = String::new();
+    let mut room = BLOCK;
+    for line in lines {
+        if room < line.len() + 1 + end.len() {
+            text += &end;
+            text += &"\n".repeat(room - end.len());
+            room = BLOCK;
+        }
+        text += line;
+        text.push('\n');
+        room -= line.len() + 1;
+    }
+    text + &end
+}
+
 fn main() -> ExitCode {
     let Some(folder) = std::env::args().nth(1) else {
         eprintln!("record FOLDER");
@@ -119,12 +139,8 @@ fn main() -> ExitCode {
     }
     random::forever(&mut record, model::judge, &mut Rng::new(SEED));
     record.lines.sort_by_key(|line| line.0);
-    let (mut calls, mut outcomes) = (String::new(), String::new());
-    for (_, call, outcome) in &record.lines {
-        calls += &format!("{call}\n");
-        outcomes += &format!("{outcome}\n");
-    }
-    calls += &format!("{KINDS}\n");
+    let outcomes: String = record.lines.iter().map(|l| format!("{}\n", l.2)).collect();
+    let calls = blocks(record.lines.iter().map(|l| l.1.as_str()));
     std::fs::write(format!("{folder}/stdin"), calls).expect("a folder to write to");
     std::fs::write(format!("{folder}/stdout"), outcomes).expect("a folder to write to");
     println!(

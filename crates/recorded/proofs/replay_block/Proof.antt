@@ -1,14 +1,14 @@
--- `recorded::replay_all` meets its contract. Assumes nothing.
+-- `recorded::replay_block` meets its contract. Assumes nothing.
 use borrow.Author.Needs.{needs}
 use Prim.Native.Nat.{_≤_, _-_}
-use Rattle.recorded.proofs.replay_all.Statement.{statement}
-use Rattle.recorded.proofs.replay_all.Tie as tie
+use Rattle.recorded.proofs.replay_block.Statement.{statement}
+use Rattle.recorded.proofs.replay_block.Tie as tie
 
 abbrev Inv-loop : tie.InvT-loop
-Inv-loop text at₀ turn₀ at turn = turn ≤ 100000
+Inv-loop text at₀ turn₀ at turn = turn ≤ 65536
 
 abbrev μ-loop : tie.MeasureT-loop
-μ-loop text at₀ turn₀ at turn = 100000 - turn
+μ-loop text at₀ turn₀ at turn = 65536 - turn
 
 loop-holds : tie.Need-loop-holds Inv-loop μ-loop
 loop-holds c = search needs
@@ -37,8 +37,8 @@ loop-again c = search needs
 returns-2 : tie.Need-returns-2 Inv-loop μ-loop
 returns-2 c = search needs
 
-pub replay-all-spec : {M : Type 1} → statement M
-replay-all-spec =
+pub replay-block-spec : {M : Type 1} → statement M
+replay-block-spec =
     tie.close
     (tie.spec
     Inv-loop

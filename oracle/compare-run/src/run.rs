@@ -61,7 +61,8 @@ pub fn summary(tallies: &[Tally], differences: u64) -> String {
     }
     for reason in Reason::ALL {
         let count = sum(&|t| t.reasons[reason as usize].load(Relaxed));
-        text += &format!("the Rust was no judge: {}: {count}\n", reason.text());
+        let why = reason.text();
+        text += &format!("the Rust was no judge: {reason:?} ({why}): {count}\n");
     }
     text + &format!("{total} comparisons, {differences} unlisted differences\n")
 }
@@ -117,7 +118,7 @@ impl Run<'_> {
         println!("ours:  {:?}", judged.ours);
         match &judged.hybit {
             Ok(outcome) => println!("hybit: {outcome:?}"),
-            Err(reason) => println!("hybit: no judge: {}", reason.text()),
+            Err(reason) => println!("hybit: no judge: {reason:?} ({})", reason.text()),
         }
         println!("model: {:?}", judged.model);
         print!("{}", summary(self.tallies, 1));

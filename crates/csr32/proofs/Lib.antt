@@ -1,3 +1,4 @@
 pub mod FrameLaws
+pub mod ScanLaws
 pub mod CsrLaws
 pub mod MergedLaws

@@ -1,11 +1,12 @@
 // csr32.rs: `Csr32Matrix`, the plot list. Its lists are lent by the caller, and every call checks them.
 ghost use mathlib.Core.Path.{_≡_};
-ghost use mathlib.Core.Bool.{true};
+ghost use mathlib.Core.Bool.{true, _&&_};
 ghost use mathlib.Core.List.{zip};
 ghost use Prim.Native.Nat.{_+_, _<_};
 ghost use lib.Dec.{ltb};
 ghost use lib.ListN.{length};
 ghost use Rattle.hybit_core.specs.Answer.{accepted, answers};
+ghost use Rattle.hybit_core.specs.Domain.{few};
 ghost use Rattle.hybit_core.specs.Floats.{finite};
 ghost use Rattle.hybit_core.specs.Table.{told, toldCount};
 ghost use Rattle.lent.specs.Lists.{every, rises};
@@ -15,21 +16,27 @@ use hybit_core::CountAnswer;
 use hybit_core::HybitError;
 use hybit_core::Verdict;
 
+// The scans below keep a flag and never leave early: so they compile to vector code, and a good list is read whole anyway.
+fn both(a: bool, b: bool) -> bool
+    ensures { λ r. ⌜ r ≡ (a && b) ⌝ }
+{
+    if a { b } else { false }
+}
+
 // Whether no pointer is below the one before it.
 fn no_fall(row_ptr: &[u32]) -> bool
     ensures { λ r. ⌜ r ≡ rises 0 (now («row_ptr» .entry)) ⌝ }
 {
+    let mut good = true;
     let mut last: u32 = 0;
     let mut i: usize = 0;
     while i < row_ptr.len() {
         let next = row_ptr[i];
-        if next < last {
-            return false;
-        }
+        good = both(good, last <= next);
         last = next;
         i += 1;
     }
-    true
+    good
 }
 
 // Whether these are pointers of `nrows` rows into `places` places, for any lists: the rule that every store shares.
@@ -61,31 +68,37 @@ pub fn lists_hold(nrows: usize, row_ptr: &[u32], left: usize, right: usize) -> b
     pointers_hold(nrows, row_ptr, right)
 }
 
-fn columns_inside(col_idx: &[u32], ncols: usize) -> bool
-    ensures { λ r. ⌜ r ≡ every (λ c. ltb c ncols) (now («col_idx» .entry)) ⌝ }
+// The limit has the width of a column, since there is no vector comparison of 64 bits.
+fn columns_below(col_idx: &[u32], limit: u32) -> bool
+    ensures { λ r. ⌜ r ≡ every (λ c. ltb c limit) (now («col_idx» .entry)) ⌝ }
 {
+    let mut good = true;
     let mut i: usize = 0;
     while i < col_idx.len() {
-        if hybit_core::wide(col_idx[i]) >= ncols {
-            return false;
-        }
+        good = both(good, col_idx[i] < limit);
         i += 1;
     }
-    true
+    good
+}
+
+fn columns_inside(col_idx: &[u32], ncols: usize) -> bool
+    requires { ⌜ few ncols ≡ true ⌝ }
+    ensures { λ r. ⌜ r ≡ every (λ c. ltb c ncols) (now («col_idx» .entry)) ⌝ }
+{
+    columns_below(col_idx, hybit_core::narrow(ncols))
 }
 
 // Whether every value is finite, for any list: stores ask it of theirs.
 pub fn all_finite(values: &[f64]) -> bool
     ensures { λ r. ⌜ r ≡ every finite (now (values .entry)) ⌝ }
 {
+    let mut good = true;
     let mut i: usize = 0;
     while i < values.len() {
-        if !hybit_core::is_finite(values[i]) {
-            return false;
-        }
+        good = both(good, hybit_core::is_finite(values[i]));
         i += 1;
     }
-    true
+    good
 }
 
 // The Rust's `new` and `validate`.

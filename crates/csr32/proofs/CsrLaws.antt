@@ -150,25 +150,3 @@ module _ {m : Csr} (v : Valid m) (r c : ℕ) where
 -- column c, as the code reads it, of columns that all lie below n
 pub column-below : (n : ℕ) (cs : List ℕ) (p c : ℕ) → every (λ d. ltb d n) cs ≡ true → p < length cs → c ≡ getD cs p 0 → c < n
 column-below n cs p c e h r = omega (arith, ltb-true (getD cs p 0) n (every-getD (λ d. ltb d n) cs p 0 e h))
-
--- ---- a row product on the way: s, with the entries from place p on still to be added, is the whole
-
-pub record Summing (cs : List ℕ) (vs x : List Float) (p : ℕ) (s : Float) : Type 0 where
-  pub is : foldl (λ (t : Float) (e : Entry). add binary64 t (mul binary64 (e .1) (at x (e .0)))) s (zip (drop p cs) (drop p vs)) ≡ rowProduct (zip cs vs) x
-
-module _ (cs : List ℕ) (vs x : List Float) where
-  pub summing-none : Summing cs vs x 0 zero64
-  unfolding rowProduct
-  summing-none = record { is = refl }
-
-  module _ (p : ℕ) (s : Float) (inv : Summing cs vs x p s) where
-    -- c is the column as the code reads it
-    pub summing-more : (c : ℕ) → p < length cs → length vs ≡ length cs → c ≡ getD cs p 0 → Summing cs vs x (p + 1) (add binary64 s (mul binary64 (getD vs p nan) (at x c)))
-    unfolding zip zipWith
-    summing-more c h same e =
-        let hv : p < length vs = omega arith in
-        record { is = rw (e, add-one) (rw (drop-cons cs p 0, drop-cons vs p nan) at (inv .is)) }
-
-    pub summing-done : length cs ≤ p → s ≡ rowProduct (zip cs vs) x
-    unfolding zip zipWith
-    summing-done h = rw drop-of-length-le at (inv .is)

@@ -1,18 +1,16 @@
--- Laws of plot lists: what an accepted one is, as its callers read it, its rows, and a row product on the way. Assumes nothing.
+-- Laws of plot lists: what an accepted one is, as its callers read it, and its rows. Assumes nothing.
 use mathlib.Core.Bool.{Bool, true, false, _&&_}
-use mathlib.Core.List.{List, foldl, zip, zipWith}
+use mathlib.Core.List.{List, zip}
 use mathlib.Core.Path.{_≡_, refl, sym, ap₂, _∙_}
 use Prim.Native.Nat.{ℕ, suc, _+_, _-_, _^_, _≤_, _<_}
-use native.Mathlib.Numerals.{add-one}
 use native.Mathlib.Omega.{arith}
 use lib.Dec.{eqb, ltb}
-use lib.ListN.{length, getD, take, drop, drop-of-length-le}
-use lib.Seq.{drop-cons}
-use lib.Ieee.{Float, nan, binary64, add, mul}
+use lib.ListN.{length, getD, take, drop}
+use lib.Ieee.{Float}
 use borrow.Author.Tests.{leb-true, ltb-true, eqb-true, eq-eqb, ne-eqb}
 use Rattle.hybit_core.specs.Answer.{Answer, accepted, demand, lengthIs, _andThen_}
 use Rattle.hybit_core.specs.Domain.{few, many, sizesFit}
-use Rattle.hybit_core.specs.Floats.{zero64, finite}
+use Rattle.hybit_core.specs.Floats.{finite}
 use Rattle.hybit_core.specs.Table.{told}
 use Rattle.hybit_core.specs.declared.Verdict.{Verdict}
 use Rattle.hybit_core.specs.declared.Verdict.the-variants.{Accepted}
@@ -20,7 +18,7 @@ use Rattle.hybit_core.proofs.BoolLaws.{and-left, and-right}
 use Rattle.hybit_core.proofs.AnswerLaws.{demand-accepted, then-first, then-second, length-accepted, accepted-by}
 use Rattle.lent.specs.Lists.{every, some, rises, part}
 use Rattle.lent.proofs.ListLaws.{every-getD, every-part, part-lent, every-left, some-left, some-every}
-use Rattle.csr32.specs.Csr.{Csr, Entry, framed, framedLists, csrSizes, csrRules, csrAnswer, entries, present, at, rowProduct, applyAnswer}
+use Rattle.csr32.specs.Csr.{Csr, Entry, framed, framedLists, csrSizes, csrRules, csrAnswer, entries, present, applyAnswer}
 use Rattle.csr32.proofs.FrameLaws.{Framed, framed-facts, RowIn, row-in, part-lengths}
 
 -- ---- the rule of the pointers, at each return of the code that tests it

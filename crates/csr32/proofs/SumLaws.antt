@@ -1,13 +1,13 @@
 -- Laws of row products made side by side: a sum on the way, and a y on the way that is written in four quarters. Assumes nothing.
 use mathlib.Core.Bool.{Bool, true, false}
-use mathlib.Core.List.{List, [], _∷_, foldl, zip, zipWith}
+use mathlib.Core.List.{List, [], _∷_, zip, zipWith}
 use mathlib.Core.Path.{_≡_, refl, sym, ap, ap₂, subst, _∙_}
 use Prim.Native.Nat.{ℕ, suc, _+_, _-_, _*_, _≤_, _<_}
 use native.Mathlib.Numerals.{add-one}
 use native.Mathlib.Omega.{arith}
 use lib.Dec.{eqb, ltb}
 use lib.ListN.{length, getD, set, length-set}
-use lib.Seq.{slice, slice-cons, slice-empty, getD-set-same, getD-set-other}
+use lib.Seq.{slice-cons, slice-empty, getD-set-same, getD-set-other}
 use lib.Ieee.{Float, nan, binary64, add, mul}
 use borrow.Author.Tests.{eqb-true, eqb-false, ltb-true, ltb-false}
 use Rattle.hybit_core.specs.Floats.{zero64}

@@ -1,7 +1,6 @@
 -- `csr32::add_entries` meets its contract. Assumes nothing.
 use borrow.Author.Needs.{needs}
 use Prim.Native.Nat.{_≤_, _-_}
-use native.Mathlib.Omega.{arith}
 use mathlib.Core.Path.{refl}
 use Rattle.csr32.proofs.SumLaws.{Adding, adding-none, adding-more, adding-done}
 use Rattle.csr32.proofs.add_entries.Statement.{statement}

@@ -1,4 +1,4 @@
--- Laws of row products made side by side: a sum on the way, and a y on the way that is written in four quarters. Assumes nothing.
+-- Laws of row products made side by side: a sum on the way, and a y on the way that is written in three thirds. Assumes nothing.
 use mathlib.Core.Bool.{Bool, true, false}
 use mathlib.Core.List.{List, [], _∷_, zip, zipWith}
 use mathlib.Core.Path.{_≡_, refl, sym, ap, ap₂, subst, _∙_}
@@ -74,7 +74,7 @@ pub row-sum : (m : Csr) (x : List Float) (r a b : ℕ) (s : Float) → a ≡ get
 unfolding addedTo between rowProduct entries part
 row-sum m x r a b s p q e = e ∙ ap₂ (λ (i j : ℕ). addedTo zero64 (between (m .col) (m .val) i j) x) p q
 
--- ---- a list that is written in four quarters: place k of it is f's, if there is such a place
+-- ---- a list that is written in three thirds: place k of it is f's, if there is such a place
 
 pub record Known (f : ℕ → Float) (y : List Float) (k : ℕ) : Type 0 where
   pub is : k < length y → getD y k nan ≡ f k
@@ -103,45 +103,39 @@ up-to-next P n before here k h = go (eqb k n) refl
     go true e = subst P (sym (eqb-true k n e)) here
     go false e = before k (omega (arith, eqb-false k n e))
 
--- the first n places of each quarter
-pub record Quarters (f : ℕ → Float) (q n : ℕ) (y : List Float) : Type 0 where
+-- the first n places of each third
+pub record Thirds (f : ℕ → Float) (q n : ℕ) (y : List Float) : Type 0 where
   pub first : (k : ℕ) → k < n → Known f y k
   pub second : (k : ℕ) → k < n → Known f y (k + q)
   pub third : (k : ℕ) → k < n → Known f y (k + 2 * q)
-  pub fourth : (k : ℕ) → k < n → Known f y (k + 3 * q)
 
 module _ (f : ℕ → Float) (q : ℕ) where
-  pub quarters-none : (y : List Float) → Quarters f q 0 y
-  quarters-none y = record { first = λ k h. absurd (omega arith); second = λ k h. absurd (omega arith); third = λ k h. absurd (omega arith); fourth = λ k h. absurd (omega arith) }
+  pub thirds-none : (y : List Float) → Thirds f q 0 y
+  thirds-none y = record { first = λ k h. absurd (omega arith); second = λ k h. absurd (omega arith); third = λ k h. absurd (omega arith) }
 
-  -- one place more of each quarter: the stores at n, b, c and d, each of f's own; b, c and d are the places in their quarters where those exist
-  pub quarters-more : (n : ℕ) (y : List Float) → Quarters f q n y → (b c d : ℕ) (s t u v : Float) → s ≡ f n → t ≡ f b → u ≡ f c → v ≡ f d
-      → (n + q < length y → b ≡ n + q) → (n + 2 * q < length y → c ≡ n + 2 * q) → (n + 3 * q < length y → d ≡ n + 3 * q)
-      → Quarters f q (n + 1) (set (set (set (set y n s) b t) c u) d v)
-  quarters-more n y inv b c d s t u v es et eu ev hb hc hd =
+  -- one place more of each third: the stores at n, b and c, each of f's own; b and c are the places in their thirds where those exist
+  pub thirds-more : (n : ℕ) (y : List Float) → Thirds f q n y → (b c : ℕ) (s t u : Float) → s ≡ f n → t ≡ f b → u ≡ f c
+      → (n + q < length y → b ≡ n + q) → (n + 2 * q < length y → c ≡ n + 2 * q)
+      → Thirds f q (n + 1) (set (set (set y n s) b t) c u)
+  thirds-more n y inv b c s t u es et eu hb hc =
       let y1 : List Float = set y n s in
       let y2 : List Float = set y1 b t in
       let y3 : List Float = set y2 c u in
       let l1 : length y1 ≡ length y = length-set y n s in
       let l2 : length y2 ≡ length y = length-set y1 b t ∙ l1 in
-      let l3 : length y3 ≡ length y = length-set y2 c u ∙ l2 in
-      let y4 : List Float = set y3 d v in
-      let last : (k : ℕ) → Known f y3 k → Known f y4 k = λ k h. known-kept f y3 d v ev k h in
-      let later : (k : ℕ) → Known f y2 k → Known f y4 k = λ k h. last k (known-kept f y2 c u eu k h) in
-      let late : (k : ℕ) → Known f y1 k → Known f y4 k = λ k h. later k (known-kept f y1 b t et k h) in
-      let all : (k : ℕ) → Known f y k → Known f y4 k = λ k h. late k (known-kept f y n s es k h) in
+      let last : (k : ℕ) → Known f y2 k → Known f y3 k = λ k h. known-kept f y2 c u eu k h in
+      let late : (k : ℕ) → Known f y1 k → Known f y3 k = λ k h. last k (known-kept f y1 b t et k h) in
+      let all : (k : ℕ) → Known f y k → Known f y3 k = λ k h. late k (known-kept f y n s es k h) in
       record {
-        first = up-to-next (λ k. Known f y4 k) n (λ k h. all k (inv .first k h)) (late n (known-new f y n s es n (λ l. refl)));
-        second = up-to-next (λ k. Known f y4 (k + q)) n (λ k h. all (k + q) (inv .second k h)) (later (n + q) (known-new f y1 b t et (n + q) (λ l. hb (omega arith))));
-        third = up-to-next (λ k. Known f y4 (k + 2 * q)) n (λ k h. all (k + 2 * q) (inv .third k h)) (last (n + 2 * q) (known-new f y2 c u eu (n + 2 * q) (λ l. hc (omega arith))));
-        fourth = up-to-next (λ k. Known f y4 (k + 3 * q)) n (λ k h. all (k + 3 * q) (inv .fourth k h)) (known-new f y3 d v ev (n + 3 * q) (λ l. hd (omega arith)));
+        first = up-to-next (λ k. Known f y3 k) n (λ k h. all k (inv .first k h)) (late n (known-new f y n s es n (λ l. refl)));
+        second = up-to-next (λ k. Known f y3 (k + q)) n (λ k h. all (k + q) (inv .second k h)) (last (n + q) (known-new f y1 b t et (n + q) (λ l. hb (omega arith))));
+        third = up-to-next (λ k. Known f y3 (k + 2 * q)) n (λ k h. all (k + 2 * q) (inv .third k h)) (known-new f y2 c u eu (n + 2 * q) (λ l. hc (omega arith)));
       }
 
-  pub quarters-done : (n : ℕ) (y : List Float) → Quarters f q n y → q ≤ n → (rows : ℕ) → length y ≡ rows → rows ≤ 4 * q → y ≡ each f rows
-  quarters-done n y inv h rows e w = each-is nan f rows y e (λ k l. by k (omega arith) (ltb k q) refl (ltb k (2 * q)) refl (ltb k (3 * q)) refl .is (omega arith))
+  pub thirds-done : (n : ℕ) (y : List Float) → Thirds f q n y → q ≤ n → (rows : ℕ) → length y ≡ rows → rows ≤ 3 * q → y ≡ each f rows
+  thirds-done n y inv h rows e w = each-is nan f rows y e (λ k l. by k (omega arith) (ltb k q) refl (ltb k (2 * q)) refl .is (omega arith))
     where
-      by : (k : ℕ) → k < 4 * q → (t : Bool) → ltb k q ≡ t → (u : Bool) → ltb k (2 * q) ≡ u → (v : Bool) → ltb k (3 * q) ≡ v → Known f y k
-      by k l true et u eu v ev = inv .first k (omega (arith, ltb-true k q et))
-      by k l false et true eu v ev = let g : k - q + q ≡ k = omega (arith, ltb-false k q et) in subst (λ (i : ℕ). Known f y i) g (inv .second (k - q) (omega (arith, ltb-true k (2 * q) eu, ltb-false k q et)))
-      by k l false et false eu true ev = let g : k - 2 * q + 2 * q ≡ k = omega (arith, ltb-false k (2 * q) eu) in subst (λ (i : ℕ). Known f y i) g (inv .third (k - 2 * q) (omega (arith, ltb-true k (3 * q) ev, ltb-false k (2 * q) eu)))
-      by k l false et false eu false ev = let g : k - 3 * q + 3 * q ≡ k = omega (arith, ltb-false k (3 * q) ev) in subst (λ (i : ℕ). Known f y i) g (inv .fourth (k - 3 * q) (omega (arith, ltb-false k (3 * q) ev)))
+      by : (k : ℕ) → k < 3 * q → (t : Bool) → ltb k q ≡ t → (u : Bool) → ltb k (2 * q) ≡ u → Known f y k
+      by k l true et u eu = inv .first k (omega (arith, ltb-true k q et))
+      by k l false et true eu = let g : k - q + q ≡ k = omega (arith, ltb-false k q et) in subst (λ (i : ℕ). Known f y i) g (inv .second (k - q) (omega (arith, ltb-true k (2 * q) eu, ltb-false k q et)))
+      by k l false et false eu = let g : k - 2 * q + 2 * q ≡ k = omega (arith, ltb-false k (2 * q) eu) in subst (λ (i : ℕ). Known f y i) g (inv .third (k - 2 * q) (omega (arith, ltb-false k (2 * q) eu)))

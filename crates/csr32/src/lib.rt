@@ -126,12 +126,11 @@ pub fn check(
     Verdict::Accepted
 }
 
-// Four sums made side by side.
-struct Four {
+// Three sums made side by side.
+struct Three {
     first: f64,
     second: f64,
     third: f64,
-    fourth: f64,
 }
 
 // The product of the entry at place p.
@@ -170,9 +169,9 @@ fn smaller(a: usize, b: usize) -> usize
     if a < b { a } else { b }
 }
 
-// The sums of four parts. Each sum adds its products one after the other, and an addition waits for the one before it; four sums
-// side by side, as far as the shortest part goes, don't wait for each other.
-fn sum_four(
+// The sums of three parts. A sum adds its products one after the other, and an addition waits for the one before it; three sums side
+// by side, as far as the shortest part goes, don't wait for each other. Four took more registers than there are.
+fn sum_three(
     col_idx: &[u32],
     values: &[f64],
     x: &[f64],
@@ -182,30 +181,25 @@ fn sum_four(
     b_end: usize,
     c: usize,
     c_end: usize,
-    d: usize,
-    d_end: usize,
-) -> Four
-    requires { ⌜ Sides (now «col_idx») (now values) (now x) ⌝ ∗ ⌜ Places (length (now «col_idx»)) a «a_end» ⌝ ∗ ⌜ Places (length (now «col_idx»)) b «b_end» ⌝ ∗ ⌜ Places (length (now «col_idx»)) c «c_end» ⌝ ∗ ⌜ Places (length (now «col_idx»)) d «d_end» ⌝ }
-    ensures { λ s. ⌜ (s .first ≡ addedTo zero64 (between (now («col_idx» .entry)) (now (values .entry)) a «a_end») (now (x .entry))) × (s .second ≡ addedTo zero64 (between (now («col_idx» .entry)) (now (values .entry)) b «b_end») (now (x .entry))) × (s .third ≡ addedTo zero64 (between (now («col_idx» .entry)) (now (values .entry)) c «c_end») (now (x .entry))) × (s .fourth ≡ addedTo zero64 (between (now («col_idx» .entry)) (now (values .entry)) d «d_end») (now (x .entry))) ⌝ }
+) -> Three
+    requires { ⌜ Sides (now «col_idx») (now values) (now x) ⌝ ∗ ⌜ Places (length (now «col_idx»)) a «a_end» ⌝ ∗ ⌜ Places (length (now «col_idx»)) b «b_end» ⌝ ∗ ⌜ Places (length (now «col_idx»)) c «c_end» ⌝ }
+    ensures { λ s. ⌜ (s .first ≡ addedTo zero64 (between (now («col_idx» .entry)) (now (values .entry)) a «a_end») (now (x .entry))) × (s .second ≡ addedTo zero64 (between (now («col_idx» .entry)) (now (values .entry)) b «b_end») (now (x .entry))) × (s .third ≡ addedTo zero64 (between (now («col_idx» .entry)) (now (values .entry)) c «c_end») (now (x .entry))) ⌝ }
 {
-    let n = smaller(smaller(a_end - a, b_end - b), smaller(c_end - c, d_end - d));
+    let n = smaller(smaller(a_end - a, b_end - b), c_end - c);
     let mut first: f64 = 0.0;
     let mut second: f64 = 0.0;
     let mut third: f64 = 0.0;
-    let mut fourth: f64 = 0.0;
     let mut i: usize = 0;
     while i < n {
         first = first + term(col_idx, values, x, a + i);
         second = second + term(col_idx, values, x, b + i);
         third = third + term(col_idx, values, x, c + i);
-        fourth = fourth + term(col_idx, values, x, d + i);
         i += 1;
     }
-    Four {
+    Three {
         first: add_entries(col_idx, values, x, a + i, a_end, first),
         second: add_entries(col_idx, values, x, b + i, b_end, second),
         third: add_entries(col_idx, values, x, c + i, c_end, third),
-        fourth: add_entries(col_idx, values, x, d + i, d_end, fourth),
     }
 }
 
@@ -216,8 +210,8 @@ fn pointer(row_ptr: &[u32], row: usize) -> usize
     hybit_core::wide(row_ptr[row])
 }
 
-// The Rust's `dot_row_unchecked` of four rows.
-fn four_rows(
+// The Rust's `dot_row_unchecked` of three rows.
+fn three_rows(
     nrows: usize,
     ncols: usize,
     row_ptr: &[u32],
@@ -227,10 +221,9 @@ fn four_rows(
     a: usize,
     b: usize,
     c: usize,
-    d: usize,
-) -> Four
-    requires { ⌜ csrAnswer (asCsr nrows ncols (now «row_ptr») (now «col_idx») (now values)) ≡ accepted ⌝ ∗ ⌜ length (now x) ≡ ncols ⌝ ∗ ⌜ (a < nrows) × (b < nrows) × (c < nrows) × (d < nrows) ⌝ }
-    ensures { λ s. ⌜ (s .first ≡ rowProduct (entries (asCsr nrows ncols (now («row_ptr» .entry)) (now («col_idx» .entry)) (now (values .entry))) a) (now (x .entry))) × (s .second ≡ rowProduct (entries (asCsr nrows ncols (now («row_ptr» .entry)) (now («col_idx» .entry)) (now (values .entry))) b) (now (x .entry))) × (s .third ≡ rowProduct (entries (asCsr nrows ncols (now («row_ptr» .entry)) (now («col_idx» .entry)) (now (values .entry))) c) (now (x .entry))) × (s .fourth ≡ rowProduct (entries (asCsr nrows ncols (now («row_ptr» .entry)) (now («col_idx» .entry)) (now (values .entry))) d) (now (x .entry))) ⌝ }
+) -> Three
+    requires { ⌜ csrAnswer (asCsr nrows ncols (now «row_ptr») (now «col_idx») (now values)) ≡ accepted ⌝ ∗ ⌜ length (now x) ≡ ncols ⌝ ∗ ⌜ (a < nrows) × (b < nrows) × (c < nrows) ⌝ }
+    ensures { λ s. ⌜ (s .first ≡ rowProduct (entries (asCsr nrows ncols (now («row_ptr» .entry)) (now («col_idx» .entry)) (now (values .entry))) a) (now (x .entry))) × (s .second ≡ rowProduct (entries (asCsr nrows ncols (now («row_ptr» .entry)) (now («col_idx» .entry)) (now (values .entry))) b) (now (x .entry))) × (s .third ≡ rowProduct (entries (asCsr nrows ncols (now («row_ptr» .entry)) (now («col_idx» .entry)) (now (values .entry))) c) (now (x .entry))) ⌝ }
 {
     let pa = pointer(row_ptr, a);
     let ea = pointer(row_ptr, a + 1);
@@ -238,16 +231,14 @@ fn four_rows(
     let eb = pointer(row_ptr, b + 1);
     let pc = pointer(row_ptr, c);
     let ec = pointer(row_ptr, c + 1);
-    let pd = pointer(row_ptr, d);
-    let ed = pointer(row_ptr, d + 1);
-    sum_four(col_idx, values, x, pa, ea, pb, eb, pc, ec, pd, ed)
+    sum_three(col_idx, values, x, pa, ea, pb, eb, pc, ec)
 }
 
-fn quarter_of(n: usize) -> usize
+fn third_of(n: usize) -> usize
     requires { ⌜ n ≤ 2 ^ 20 ⌝ }
-    ensures { λ r. ⌜ (r ≤ n) × (n ≤ 4 * r) ⌝ }
+    ensures { λ r. ⌜ (r ≤ n) × (n ≤ 3 * r) ⌝ }
 {
-    (n + 3) / 4
+    (n + 2) / 3
 }
 
 // The row, or the last one where there is no such row.
@@ -258,8 +249,8 @@ fn row_or_last(row: usize, nrows: usize) -> usize
     if row < nrows { row } else { nrows - 1 }
 }
 
-// The rows of the four quarters side by side: rows far from each other are read as four streams, which memory serves better than
-// neighbouring rows. Where the quarters reach past the end, the last row is made again.
+// The rows of the three thirds side by side: rows far from each other are read as long streams, which memory serves better than
+// neighbouring rows. Where the thirds reach past the end, the last row is made again.
 fn fill_product(
     nrows: usize,
     ncols: usize,
@@ -272,17 +263,15 @@ fn fill_product(
     requires { ⌜ csrAnswer (asCsr nrows ncols (now «row_ptr») (now «col_idx») (now values)) ≡ accepted ⌝ ∗ ⌜ length (now x) ≡ ncols ⌝ ∗ ⌜ length (now y) ≡ nrows ⌝ }
     ensures { λ _. ⌜ now (y .exit) ≡ product (asCsr nrows ncols (now («row_ptr» .entry)) (now («col_idx» .entry)) (now (values .entry))) (now (x .entry)) ⌝ }
 {
-    let quarter = quarter_of(nrows);
+    let third = third_of(nrows);
     let mut row: usize = 0;
-    while row < quarter {
-        let b = row_or_last(row + quarter, nrows);
-        let c = row_or_last(row + 2 * quarter, nrows);
-        let d = row_or_last(row + 3 * quarter, nrows);
-        let s = four_rows(nrows, ncols, row_ptr, col_idx, values, x, row, b, c, d);
+    while row < third {
+        let b = row_or_last(row + third, nrows);
+        let c = row_or_last(row + 2 * third, nrows);
+        let s = three_rows(nrows, ncols, row_ptr, col_idx, values, x, row, b, c);
         y[row] = s.first;
         y[b] = s.second;
         y[c] = s.third;
-        y[d] = s.fourth;
         row += 1;
     }
 }

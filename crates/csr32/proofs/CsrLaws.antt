@@ -1,18 +1,16 @@
--- Laws of plot lists: what an accepted one is, as its callers read it, its rows, and a row product on the way. Assumes nothing.
+-- Laws of plot lists: what an accepted one is, as its callers read it, and its rows. Assumes nothing.
 use mathlib.Core.Bool.{Bool, true, false, _&&_}
-use mathlib.Core.List.{List, foldl, zip, zipWith}
+use mathlib.Core.List.{List, zip}
 use mathlib.Core.Path.{_≡_, refl, sym, ap₂, _∙_}
 use Prim.Native.Nat.{ℕ, suc, _+_, _-_, _^_, _≤_, _<_}
-use native.Mathlib.Numerals.{add-one}
 use native.Mathlib.Omega.{arith}
 use lib.Dec.{eqb, ltb}
-use lib.ListN.{length, getD, take, drop, drop-of-length-le}
-use lib.Seq.{drop-cons}
-use lib.Ieee.{Float, nan, binary64, add, mul}
+use lib.ListN.{length, getD, take, drop}
+use lib.Ieee.{Float}
 use borrow.Author.Tests.{leb-true, ltb-true, eqb-true, eq-eqb, ne-eqb}
 use Rattle.hybit_core.specs.Answer.{Answer, accepted, demand, lengthIs, _andThen_}
 use Rattle.hybit_core.specs.Domain.{few, many, sizesFit}
-use Rattle.hybit_core.specs.Floats.{zero64, finite}
+use Rattle.hybit_core.specs.Floats.{finite}
 use Rattle.hybit_core.specs.Table.{told}
 use Rattle.hybit_core.specs.declared.Verdict.{Verdict}
 use Rattle.hybit_core.specs.declared.Verdict.the-variants.{Accepted}
@@ -20,7 +18,7 @@ use Rattle.hybit_core.proofs.BoolLaws.{and-left, and-right}
 use Rattle.hybit_core.proofs.AnswerLaws.{demand-accepted, then-first, then-second, length-accepted, accepted-by}
 use Rattle.lent.specs.Lists.{every, some, rises, part}
 use Rattle.lent.proofs.ListLaws.{every-getD, every-part, part-lent, every-left, some-left, some-every}
-use Rattle.csr32.specs.Csr.{Csr, Entry, framed, framedLists, csrSizes, csrRules, csrAnswer, entries, present, at, rowProduct, applyAnswer}
+use Rattle.csr32.specs.Csr.{Csr, Entry, framed, framedLists, csrSizes, csrRules, csrAnswer, entries, present, applyAnswer}
 use Rattle.csr32.proofs.FrameLaws.{Framed, framed-facts, RowIn, row-in, part-lengths}
 
 -- ---- the rule of the pointers, at each return of the code that tests it
@@ -150,25 +148,3 @@ module _ {m : Csr} (v : Valid m) (r c : ℕ) where
 -- column c, as the code reads it, of columns that all lie below n
 pub column-below : (n : ℕ) (cs : List ℕ) (p c : ℕ) → every (λ d. ltb d n) cs ≡ true → p < length cs → c ≡ getD cs p 0 → c < n
 column-below n cs p c e h r = omega (arith, ltb-true (getD cs p 0) n (every-getD (λ d. ltb d n) cs p 0 e h))
-
--- ---- a row product on the way: s, with the entries from place p on still to be added, is the whole
-
-pub record Summing (cs : List ℕ) (vs x : List Float) (p : ℕ) (s : Float) : Type 0 where
-  pub is : foldl (λ (t : Float) (e : Entry). add binary64 t (mul binary64 (e .1) (at x (e .0)))) s (zip (drop p cs) (drop p vs)) ≡ rowProduct (zip cs vs) x
-
-module _ (cs : List ℕ) (vs x : List Float) where
-  pub summing-none : Summing cs vs x 0 zero64
-  unfolding rowProduct
-  summing-none = record { is = refl }
-
-  module _ (p : ℕ) (s : Float) (inv : Summing cs vs x p s) where
-    -- c is the column as the code reads it
-    pub summing-more : (c : ℕ) → p < length cs → length vs ≡ length cs → c ≡ getD cs p 0 → Summing cs vs x (p + 1) (add binary64 s (mul binary64 (getD vs p nan) (at x c)))
-    unfolding zip zipWith
-    summing-more c h same e =
-        let hv : p < length vs = omega arith in
-        record { is = rw (e, add-one) (rw (drop-cons cs p 0, drop-cons vs p nan) at (inv .is)) }
-
-    pub summing-done : length cs ≤ p → s ≡ rowProduct (zip cs vs) x
-    unfolding zip zipWith
-    summing-done h = rw drop-of-length-le at (inv .is)

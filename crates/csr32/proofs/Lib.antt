@@ -1,3 +1,5 @@
 pub mod FrameLaws
+pub mod ScanLaws
 pub mod CsrLaws
+pub mod SumLaws
 pub mod MergedLaws

@@ -1,24 +1,21 @@
 -- `csr32::all_finite` meets its contract. Assumes nothing.
 use borrow.Author.Needs.{needs}
-use mathlib.Core.Path.{_≡_, refl}
-use Prim.Native.Nat.{_-_, _≤_}
+use Prim.Native.Nat.{_-_}
 use lib.Ieee.{nan}
-use lib.ListN.{length, drop}
+use lib.ListN.{length}
 use Rattle.hybit_core.specs.Floats.{finite}
-use Rattle.hybit_core.proofs.BoolLaws.{flag-on, flag-off}
-use Rattle.lent.specs.Lists.{every}
-use Rattle.lent.proofs.ListLaws.{every-more, every-fails, every-done}
+use Rattle.csr32.proofs.ScanLaws.{Passed, passed-none, passed-more, passed-done}
 use Rattle.csr32.proofs.all_finite.Statement.{statement}
 use Rattle.csr32.proofs.all_finite.Tie as tie
 
 abbrev Inv-loop : tie.InvT-loop
-Inv-loop values i₀ i = (i ≤ length values) × (every finite values ≡ every finite (drop i values))
+Inv-loop values good₀ i₀ good i = Passed finite values i good
 
 abbrev μ-loop : tie.MeasureT-loop
-μ-loop values i₀ i = length values - i
+μ-loop values good₀ i₀ good i = length values - i
 
 loop-holds : tie.Need-loop-holds Inv-loop μ-loop
-loop-holds c = (search needs, refl)
+loop-holds c = passed-none _ _
 
 mul-is-finite : tie.Need-mul-is-finite Inv-loop μ-loop
 mul-is-finite c = search needs
@@ -29,8 +26,8 @@ shared-slice-read-is-finite c = search needs
 is-finite-requires : tie.Need-is-finite-requires Inv-loop μ-loop
 is-finite-requires c κs = search needs
 
-returns : tie.Need-returns Inv-loop μ-loop
-returns c = every-fails _ _ _ (c .before .before .before .before .loop .inv .1) nan (search needs) (flag-off _ _ (c .before .is-finite .ensures) (c .if1 .taken))
+both-requires : tie.Need-both-requires Inv-loop μ-loop
+both-requires c κs = search needs
 
 add-i : tie.Need-add-i Inv-loop μ-loop
 add-i c = search needs
@@ -39,10 +36,10 @@ loop-less : tie.Need-loop-less Inv-loop μ-loop
 loop-less c = search needs
 
 loop-again : tie.Need-loop-again Inv-loop μ-loop
-loop-again c = (search needs, every-more _ _ _ (c .before .before .before .before .loop .inv .1) nan (search needs) (flag-on _ _ (c .before .is-finite .ensures) (c .if1 .left)))
+loop-again c = passed-more _ _ _ _ (c .before .before .before .before .loop .inv) nan _ _ (search needs) (c .before .is-finite .ensures) (c .both .ensures)
 
-returns-2 : tie.Need-returns-2 Inv-loop μ-loop
-returns-2 c = search (every-done, needs)
+returns : tie.Need-returns Inv-loop μ-loop
+returns c = search (passed-done, needs)
 
 pub all-finite-spec : {M : Type 1} → statement M
 all-finite-spec =
@@ -54,8 +51,8 @@ all-finite-spec =
     mul-is-finite
     shared-slice-read-is-finite
     is-finite-requires
-    returns
+    both-requires
     add-i
     loop-less
     loop-again
-    returns-2)
+    returns)

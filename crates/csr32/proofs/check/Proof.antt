@@ -3,6 +3,7 @@ use borrow.Author.Needs.{needs}
 use Rattle.hybit_core.proofs.AnswerLaws.{checks}
 use Rattle.hybit_core.proofs.BoolLaws.{tests}
 use Rattle.csr32.specs.Csr.{csrRules, csrAnswer}
+use Rattle.csr32.proofs.ScanLaws.{columns-few}
 use Rattle.csr32.proofs.check.Statement.{statement}
 use Rattle.csr32.proofs.check.Tie as tie
 
@@ -21,7 +22,7 @@ unfolding csrAnswer csrRules
 returns-2 c = search (checks, tests, needs)
 
 columns-inside-requires : tie.Need-columns-inside-requires
-columns-inside-requires c κs = search needs
+columns-inside-requires c κs = columns-few _ _ _ _ _ (c .before .before .before .sizes-fit .ensures) (c .before .before .if1 .left)
 
 returns-3 : tie.Need-returns-3
 unfolding csrAnswer csrRules

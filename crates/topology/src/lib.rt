@@ -256,31 +256,38 @@ pub fn clear_past(
     lent::clear_from_u64(masks, words);
 }
 
-fn rules_hold(
+fn lists_hold(
     nrows: usize,
     ncols: usize,
     row_word_ptr: &[u32],
     word_indices: &[u32],
     masks: &[u64],
-    structural_nnz: usize,
 ) -> bool
-    requires { ⌜ length (now masks) ≤ 2 ^ 24 ⌝ }
-    ensures { λ r. ⌜ r ≡ wordRules (asWords nrows ncols (now («row_word_ptr» .entry)) (now («word_indices» .entry)) (now (masks .entry)) «structural_nnz») ⌝ }
+    ensures { λ r. ⌜ r ≡ wordRules (asWords nrows ncols (now («row_word_ptr» .entry)) (now («word_indices» .entry)) (now (masks .entry)) (setBits (now (masks .entry)))) ⌝ }
 {
     if !csr32::lists_hold(nrows, row_word_ptr, word_indices.len(), masks.len()) {
         return false;
     }
-    if !rows_hold(
-        nrows,
-        ncols,
-        row_word_ptr,
-        word_indices,
-        masks,
-        structural_nnz,
-    ) {
-        return false;
+    rows_hold(nrows, ncols, row_word_ptr, word_indices, masks, 0)
+}
+
+// `check` of all but the total: of words whose total is the set bits of their masks.
+pub fn check_lists(
+    nrows: usize,
+    ncols: usize,
+    row_word_ptr: &[u32],
+    word_indices: &[u32],
+    masks: &[u64],
+) -> Verdict
+    ensures { λ r. ⌜ told r ≡ wordAnswer (asWords nrows ncols (now («row_word_ptr» .entry)) (now («word_indices» .entry)) (now (masks .entry)) (setBits (now (masks .entry)))) ⌝ }
+{
+    if !hybit_core::sizes_fit(nrows, ncols, word_indices.len(), masks.len()) {
+        return Verdict::Refused(HybitError::SizeOverflow);
     }
-    structural_nnz == count_bits(masks)
+    if !lists_hold(nrows, ncols, row_word_ptr, word_indices, masks) {
+        return Verdict::Refused(HybitError::BadWords);
+    }
+    Verdict::Accepted
 }
 
 // The Rust's `validate`.
@@ -294,17 +301,11 @@ pub fn check(
 ) -> Verdict
     ensures { λ r. ⌜ told r ≡ wordAnswer (asWords nrows ncols (now («row_word_ptr» .entry)) (now («word_indices» .entry)) (now (masks .entry)) «structural_nnz») ⌝ }
 {
-    if !hybit_core::sizes_fit(nrows, ncols, word_indices.len(), masks.len()) {
-        return Verdict::Refused(HybitError::SizeOverflow);
+    let v = check_lists(nrows, ncols, row_word_ptr, word_indices, masks);
+    if let Verdict::Refused(e) = v {
+        return Verdict::Refused(e);
     }
-    if !rules_hold(
-        nrows,
-        ncols,
-        row_word_ptr,
-        word_indices,
-        masks,
-        structural_nnz,
-    ) {
+    if structural_nnz != count_bits(masks) {
         return Verdict::Refused(HybitError::BadWords);
     }
     Verdict::Accepted

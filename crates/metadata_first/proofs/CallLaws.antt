@@ -3,33 +3,37 @@
 use mathlib.Core.Bool.{Bool, true, false, _&&_}
 use mathlib.Core.List.{List}
 use mathlib.Core.Path.{_≡_, refl, sym, ap, ap₂, _∙_}
-use Prim.Native.Nat.{ℕ, _+_, _-_, _*_, _%_, _^_, _≤_, _<_}
+use Prim.Native.Nat.{ℕ, zero, suc, _+_, _-_, _*_, _%_, _^_, _≤_, _<_}
+use native.Mathlib.Nat.{le-refl}
 use native.Mathlib.Omega.{arith}
 use lib.Dec.{eqb, ltb}
-use lib.ListN.{length, getD, take, drop}
+use lib.ListN.{length, getD, take, drop, length-append}
 use lib.Seq.{getD-take, getD-drop}
 use lib.Ieee.{Float, nan}
 use borrow.Author.Tests.{leb-true, ltb-true, eqb-true}
-use Rattle.hybit_core.specs.Answer.{accepted, refused, plain, demand, gives, answers, _andThen_}
+use Rattle.hybit_core.specs.Answer.{Answer, accepted, refused, plain, demand, gives, answers, _andThen_}
 use Rattle.hybit_core.specs.Domain.{many}
 use Rattle.hybit_core.specs.Floats.{finite}
-use Rattle.hybit_core.specs.Table.{told}
+use Rattle.hybit_core.specs.Table.{told, paper}
+use Rattle.hybit_core.specs.declared.HybitError.{HybitError}
 use Rattle.hybit_core.specs.declared.Verdict.{Verdict}
 use Rattle.hybit_core.specs.declared.Verdict.the-variants as verdict
-use Rattle.hybit_core.proofs.BoolLaws.{and-left, and-right, is-equal, is-unequal}
-use Rattle.hybit_core.proofs.AnswerLaws.{demand-accepted, then-first, then-second, accepted-by, given-accepted}
-use Rattle.lent.specs.Lists.{part, every}
+use Rattle.hybit_core.proofs.BoolLaws.{and-left, and-right, not-both, is-equal, is-unequal}
+use Rattle.hybit_core.proofs.AnswerLaws.{demand-accepted, then-first, then-second, accepted-by, given-accepted, test-fails, test-passes, last-fails, last-passes}
+use Rattle.lent.specs.Lists.{joined, part, every, spread}
 use Rattle.lent.proofs.ListLaws.{part-lent}
 use Rattle.word.specs.Bits.{count}
 use Rattle.word.proofs.BitLaws.{every-below-at}
 use Rattle.csr32.specs.Csr.{framed}
-use Rattle.csr32.proofs.FrameLaws.{Framed, framed-facts, RowIn, row-in, part-length, lists-sides, row-left, row-right}
+use Rattle.csr32.proofs.FrameLaws.{Framed, framed-facts, RowIn, row-in, part-length, lists-sides, lists-frame, parts-all, row-left, row-right}
 use Rattle.topology.specs.Words.{asWords, member, wordSizes, wordRules, wordAnswer, setBits}
 use Rattle.topology.specs.Calls.{metadataBytes}
 use Rattle.topology.proofs.RowLaws.{small}
 use Rattle.topology.proofs.TopologyLaws.{Accepted, accepted-facts}
-use Rattle.topology.proofs.CallLaws.{popcount-is}
-use Rattle.metadata_first.specs.Store.{Store, valueAt, storeSizes, valueRules, storeRules, storeFaults, storeAnswer, storeRowAnswer, storeStats}
+use Rattle.topology.proofs.CallLaws.{popcount-is, lists-refused, lists-then, bits-counted}
+use Rattle.topology.proofs.ScanLaws.{bits-append}
+use Rattle.topology.proofs.QuestionLaws.{rank-all}
+use Rattle.metadata_first.specs.Store.{Store, asStore, valueAt, storeSizes, valueRules, storeRules, storeFaults, storeAnswer, storeRowAnswer, storeStats}
 
 -- ---- the checks in the code's order: the number of values, the words' own checks, the store's rules
 
@@ -37,14 +41,6 @@ module _ (s : Store) where
   pub values-first : false ≡ many (length (s .vals)) → refused (plain 1) ≡ storeAnswer s
   unfolding storeAnswer storeSizes
   values-first e = ap (λ (t : Bool). demand (t && wordSizes (s .words)) 1 andThen storeFaults s) e
-
-  pub words-then : true ≡ many (length (s .vals)) → wordAnswer (s .words) andThen demand (storeRules s) 12 ≡ storeAnswer s
-  unfolding storeAnswer storeSizes storeFaults wordAnswer
-  words-then e = go (wordSizes (s .words)) (wordRules (s .words)) ∙ ap (λ (t : Bool). demand (t && wordSizes (s .words)) 1 andThen demand (wordRules (s .words)) 11 andThen demand (storeRules s) 12) e
-    where
-      go : (t u : Bool) → ((demand t 1 andThen demand u 11) andThen demand (storeRules s) 12) ≡ (demand t 1 andThen demand u 11 andThen demand (storeRules s) 12)
-      go true u = refl
-      go false u = refl
 
 -- ---- a store that `check` accepted
 
@@ -83,6 +79,63 @@ stored s e =
 
 pub checked : (s : Store) (v : Verdict) → told v ≡ storeAnswer s → v ≡ verdict.Accepted → Stored s
 checked s v e a = stored s (accepted-by (storeAnswer s) v e a)
+
+-- ---- the rest of the checks, once those of the words but their total have accepted
+
+module _ (n m : ℕ) (ps ws ms : List ℕ) (vp : List ℕ) (vs : List Float) (q : true ≡ many (length vs)) (t : ℕ) where
+  abbrev own : Store
+  own = asStore n m ps ws ms (setBits ms) vp vs
+
+  -- the total, then the store's rules
+  sizes-then : wordAnswer (asWords n m ps ws ms t) andThen demand (storeRules own) 12 ≡ storeAnswer (asStore n m ps ws ms t vp vs)
+  unfolding storeAnswer storeSizes storeFaults wordAnswer storeRules valueRules member
+  sizes-then = go (wordSizes (asWords n m ps ws ms t)) (wordRules (asWords n m ps ws ms t)) ∙ ap (λ (u : Bool). demand (u && wordSizes (asWords n m ps ws ms t)) 1 andThen demand (wordRules (asWords n m ps ws ms t)) 11 andThen demand (storeRules own) 12) q
+    where
+      go : (z u : Bool) → ((demand z 1 andThen demand u 11) andThen demand (storeRules own) 12) ≡ (demand z 1 andThen demand u 11 andThen demand (storeRules own) 12)
+      go true u = refl
+      go false u = refl
+
+  pub words-refused : (v : Verdict) (x : HybitError) → told v ≡ wordAnswer (asWords n m ps ws ms (setBits ms)) → v ≡ verdict.Refused x → refused (paper x) ≡ storeAnswer (asStore n m ps ws ms t vp vs)
+  words-refused v x e h = ap (λ (a : Answer). a andThen demand (storeRules own) 12) (lists-refused n m ps ws ms t v x e h) ∙ sizes-then
+
+  module _ (a : wordAnswer (asWords n m ps ws ms (setBits ms)) ≡ accepted) where
+    total-then : demand (eqb t (setBits ms)) 11 andThen demand (storeRules own) 12 ≡ storeAnswer (asStore n m ps ws ms t vp vs)
+    total-then = ap (λ (b : Answer). b andThen demand (storeRules own) 12) (lists-then n m ps ws ms a t) ∙ sizes-then
+
+    pub rules-fail : false ≡ storeRules own → (r : Answer) → r ≡ (demand (eqb t (setBits ms % 2 ^ 64)) 11 andThen refused (plain 12)) → r ≡ storeAnswer (asStore n m ps ws ms t vp vs)
+    rules-fail f r e =
+        e ∙ ap₂ (λ (k : ℕ) (b : Answer). demand (eqb t k) 11 andThen b) (bits-counted n m ps ws ms a t (setBits ms % 2 ^ 64) refl) (last-fails (storeRules own) 12 f)
+        ∙ total-then
+
+    module _ (tiny : small ms ≡ true) (ok : true ≡ storeRules own) where
+      facts : Stored own
+      unfolding storeAnswer storeSizes storeFaults wordAnswer
+      facts = stored own (go (wordSizes (asWords n m ps ws ms (setBits ms))) (wordRules (asWords n m ps ws ms (setBits ms))) (many (length vs)) (storeRules own) a (sym q) (sym ok))
+        where
+          go : (z w k r : Bool) → (demand z 1 andThen demand w 11) ≡ accepted → k ≡ true → r ≡ true → (demand (k && z) 1 andThen (demand w 11 andThen demand r 12)) ≡ accepted
+          go true true true true e f g = refl
+          go true false true true e f g = e
+          go false w true true e f g = e
+          go z w true false e f g = not-both false g refl
+          go z w false r e f g = not-both false f refl
+
+      -- as many set bits as values
+      bits-values : setBits ms ≡ length vs
+      unfolding joined setBits spread
+      bits-values = sym (ap setBits (parts-all n ps ms (lists-frame n ps (length ws) (length ms) (facts .words-facts .lists)))) ∙ upto n (le-refl n) ∙ ap length (parts-all n vp vs (facts .frame))
+        where
+          upto : (k : ℕ) → k ≤ n → setBits (joined (part ps ms) k) ≡ length (joined (part vp vs) k)
+          upto zero h = refl
+          upto (suc k) h =
+              bits-append (joined (part ps ms) k) (part ps ms k)
+              ∙ ap₂ (λ (i j : ℕ). i + j) (upto k (omega arith)) (sym (rank-all (asWords n m ps ws ms (setBits ms)) k (facts .words-facts) tiny h) ∙ sym (facts .row-counts k h))
+              ∙ sym (length-append (joined (part vp vs) k) (part vp vs k))
+
+      pub values-differ : (t ≡ length vs → ⊥) → refused (plain 11) ≡ storeAnswer (asStore n m ps ws ms t vp vs)
+      values-differ h = test-fails (eqb t (setBits ms)) 11 (demand (storeRules own) 12) (is-unequal t (setBits ms) (λ e. h (e ∙ bits-values))) ∙ total-then
+
+      pub values-agree : t ≡ length vs → accepted ≡ storeAnswer (asStore n m ps ws ms t vp vs)
+      values-agree h = test-passes (eqb t (setBits ms)) 11 accepted (demand (storeRules own) 12) (is-equal t (setBits ms) (h ∙ sym bits-values)) (last-passes (storeRules own) 12 ok) ∙ total-then
 
 module _ (s : Store) (k : Stored s) (r : ℕ) (h : r < s .words .rows) where
   -- the row's values can be read

@@ -4,14 +4,14 @@
 ghost use mathlib.Core.Path.{_≡_};
 ghost use mathlib.Core.Bool.{true};
 ghost use mathlib.Core.List.{[]};
-ghost use Prim.Native.Nat.{_+_, _-_, _<_, _^_};
-ghost use lib.Dec.{ltb};
+ghost use Prim.Native.Nat.{_+_, _-_, _%_, _<_, _^_};
+ghost use lib.Dec.{eqb, ltb};
 ghost use lib.ListN.{length};
-ghost use Rattle.hybit_core.specs.Answer.{accepted, numberIn, answers};
+ghost use Rattle.hybit_core.specs.Answer.{accepted, refused, plain, demand, numberIn, answers, _andThen_};
 ghost use Rattle.hybit_core.specs.Table.{told};
 ghost use Rattle.lent.specs.Lists.{part};
 ghost use Rattle.csr32.specs.Csr.{framed};
-ghost use Rattle.topology.specs.Words.{asWords, wordAnswer};
+ghost use Rattle.topology.specs.Words.{asWords, wordAnswer, setBits};
 ghost use Rattle.topology.specs.Calls.{partGiven};
 ghost use Rattle.metadata_first.specs.Store.{asStore, valueRules, storeRules, storeAnswer, storeRowAnswer, storeStats, toldStoreStats, saturated, estimatedBytes};
 ghost use Rattle.metadata_first.specs.Dot.{countsOf, pruningRatio, emptyWordRatio, accumulated, totalsFit, accumulateAnswer, toldTotals};
@@ -181,12 +181,11 @@ fn counts_hold(
     row_word_ptr: &[u32],
     word_indices: &[u32],
     masks: &[u64],
-    structural_nnz: usize,
     row_value_ptr: &[u32],
     values: &[f64],
 ) -> bool
-    requires { ⌜ wordAnswer (asWords nrows ncols (now «row_word_ptr») (now «word_indices») (now masks) «structural_nnz») ≡ accepted ⌝ ∗ ⌜ framed nrows (now «row_value_ptr») (length (now values)) ≡ true ⌝ }
-    ensures { λ r. ⌜ r ≡ valueRules (asStore nrows ncols (now («row_word_ptr» .entry)) (now («word_indices» .entry)) (now (masks .entry)) «structural_nnz» (now («row_value_ptr» .entry)) (now (values .entry))) ⌝ }
+    requires { ⌜ wordAnswer (asWords nrows ncols (now «row_word_ptr») (now «word_indices») (now masks) (setBits (now masks))) ≡ accepted ⌝ ∗ ⌜ framed nrows (now «row_value_ptr») (length (now values)) ≡ true ⌝ }
+    ensures { λ r. ⌜ r ≡ valueRules (asStore nrows ncols (now («row_word_ptr» .entry)) (now («word_indices» .entry)) (now (masks .entry)) (setBits (now (masks .entry))) (now («row_value_ptr» .entry)) (now (values .entry))) ⌝ }
 {
     let mut row: usize = 0;
     while row < nrows {
@@ -208,12 +207,11 @@ fn rules_hold(
     row_word_ptr: &[u32],
     word_indices: &[u32],
     masks: &[u64],
-    structural_nnz: usize,
     row_value_ptr: &[u32],
     values: &[f64],
 ) -> bool
-    requires { ⌜ wordAnswer (asWords nrows ncols (now «row_word_ptr») (now «word_indices») (now masks) «structural_nnz») ≡ accepted ⌝ }
-    ensures { λ r. ⌜ r ≡ storeRules (asStore nrows ncols (now («row_word_ptr» .entry)) (now («word_indices» .entry)) (now (masks .entry)) «structural_nnz» (now («row_value_ptr» .entry)) (now (values .entry))) ⌝ }
+    requires { ⌜ wordAnswer (asWords nrows ncols (now «row_word_ptr») (now «word_indices») (now masks) (setBits (now masks))) ≡ accepted ⌝ }
+    ensures { λ r. ⌜ r ≡ storeRules (asStore nrows ncols (now («row_word_ptr» .entry)) (now («word_indices» .entry)) (now (masks .entry)) (setBits (now (masks .entry))) (now («row_value_ptr» .entry)) (now (values .entry))) ⌝ }
 {
     if !csr32::pointers_hold(nrows, row_value_ptr, values.len()) {
         return false;
@@ -224,7 +222,6 @@ fn rules_hold(
         row_word_ptr,
         word_indices,
         masks,
-        structural_nnz,
         row_value_ptr,
         values,
     ) {
@@ -233,7 +230,18 @@ fn rules_hold(
     csr32::all_finite(values)
 }
 
-// The Rust's `validate`.
+// 12, and before it 11 for a wrong total.
+fn refused_store(masks: &[u64], structural_nnz: usize) -> Verdict
+    ensures { λ r. ⌜ told r ≡ demand (eqb «structural_nnz» (setBits (now (masks .entry)) % 2 ^ 64)) 11 andThen refused (plain 12) ⌝ }
+{
+    if structural_nnz != topology::count_bits(masks) {
+        return Verdict::Refused(HybitError::BadWords);
+    }
+    Verdict::Refused(HybitError::BadStore)
+}
+
+// The Rust's `validate`. Where every row has as many values as present columns, the total of set bits is the number of values, and
+// the bits need not be counted again.
 pub fn check(
     nrows: usize,
     ncols: usize,
@@ -249,14 +257,7 @@ pub fn check(
     if !hybit_core::entries_fit(values.len()) {
         return Verdict::Refused(HybitError::SizeOverflow);
     }
-    let v = topology::check(
-        nrows,
-        ncols,
-        row_word_ptr,
-        word_indices,
-        masks,
-        structural_nnz,
-    );
+    let v = topology::check_lists(nrows, ncols, row_word_ptr, word_indices, masks);
     if let Verdict::Refused(e) = v {
         return Verdict::Refused(e);
     }
@@ -266,11 +267,13 @@ pub fn check(
         row_word_ptr,
         word_indices,
         masks,
-        structural_nnz,
         row_value_ptr,
         values,
     ) {
-        return Verdict::Refused(HybitError::BadStore);
+        return refused_store(masks, structural_nnz);
+    }
+    if structural_nnz != values.len() {
+        return Verdict::Refused(HybitError::BadWords);
     }
     Verdict::Accepted
 }

@@ -1,7 +1,7 @@
 -- A loop over the words of a row that adds its dot: after the words below word f, the sum and the counts of the columns below 64 · f. Assumes nothing.
 use mathlib.Core.Bool.{Bool, true, false, not, _&&_}
 use mathlib.Core.List.{List, [], _++_, map, foldl, foldl-append}
-use mathlib.Core.Path.{_≡_, refl, sym, ap, ap₂, _∙_}
+use mathlib.Core.Path.{_≡_, refl, sym, ap, ap₂, subst, _∙_}
 use Prim.Native.Nat.{ℕ, zero, suc, _+_, _-_, _*_, _/_, _%_, _^_, _≤_, _<_}
 use native.Mathlib.Numerals.{add-one}
 use native.Mathlib.Omega.{arith}
@@ -29,6 +29,7 @@ use Rattle.topology.proofs.FrontLaws.{Front, front-none, Next, next, Placed, pl
 use Rattle.metadata_first.specs.declared.AbtmRowDot.{AbtmRowDot}
 use Rattle.metadata_first.specs.Dot.{sumOver, dotOf}
 use Rattle.metadata_first_dot.specs.Walk.{wordSum, wordInside, RowReady, rowDot}
+use Rattle.metadata_first_dot.proofs.SumLaws.{no-sum, no-products, no-word}
 
 -- the product of column c added, its value at the rank of c
 abbrev added : (ℕ → Bool) → List Float → List Float → Float → ℕ → Float
@@ -274,6 +275,15 @@ module _ (n : ℕ) (ws ms : List ℕ) (vals : List Float) (bits : List ℕ) (x :
           fits = h .fits;
           dots = dotting-more (rowMember ws ms) (active (asMask n bits)) n vals x i sum candidate executed words (h .dots) w (getD ms i 0) b here bits-are s c k v es ec ek ev;
         }
+
+        -- a word without a product
+        pub walked-past : b ≡ 0 → (c : ℕ) → c ≡ count (has (getD ms i 0)) 64 → Walked n ws ms vals bits x (i + 1) sum (candidate + c) executed words
+        walked-past z c ec =
+            let k : executed + 0 ≡ executed = omega arith in
+            let v : words + 0 ≡ words = omega arith in
+            subst (λ (t : ℕ). Walked n ws ms vals bits x (i + 1) sum (candidate + c) t words) k
+            (subst (λ (t : ℕ). Walked n ws ms vals bits x (i + 1) sum (candidate + c) (executed + 0) t) v
+            (walked-more sum c 0 0 (no-sum vals x (getD ms i 0) candidate (64 * w) b sum z) ec (no-products b z) (no-word b z)))
 
     module _ (l : length ws ≤ i) where
       pub walked-le : executed ≤ candidate

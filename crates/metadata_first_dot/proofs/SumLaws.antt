@@ -18,6 +18,11 @@ use Rattle.csr32.specs.Csr.{at}
 use Rattle.metadata_first_dot.specs.Walk.{wordSum, wordInside}
 
 module _ (vals x : List Float) (m place base : ℕ) where
+  -- no bits add nothing
+  pub no-sum : (b : ℕ) (s : Float) → b ≡ 0 → s ≡ wordSum vals x m b place base s
+  unfolding wordSum
+  no-sum b s z = sym (ap (λ (k : List ℕ). foldl (λ (t : Float) (i : ℕ). add binary64 t (mul binary64 (getD vals (place + count (has m) i) nan) (at x (base + i)))) s k) (ap members z ∙ members-none))
+
   -- of the bits, those of b are still to be added to s
   pub record Adding (bits : ℕ) (start : Float) (b : ℕ) (s : Float) : Type 0 where
     pub fits : b < 2 ^ 64
@@ -56,9 +61,7 @@ module _ (vals x : List Float) (m place base : ℕ) where
         adding-more o e f = record { fits = f; inside = rest-in; is = rest-is o e }
 
     pub adding-done : b ≡ 0 → s ≡ wordSum vals x m bits place base start
-    unfolding wordSum
-    adding-done z =
-        sym (ap (λ (k : List ℕ). foldl (λ (t : Float) (i : ℕ). add binary64 t (mul binary64 (getD vals (place + count (has m) i) nan) (at x (base + i)))) s k) (ap members z ∙ members-none)) ∙ inv .is
+    adding-done z = no-sum b s z ∙ inv .is
 
 -- ---- what a word counts for
 

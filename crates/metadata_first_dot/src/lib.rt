@@ -1,16 +1,13 @@
 // metadata_first.rs: `sparse_dot_row`, the pruned dot of a row, and the same for every row in one call. Once the operands are
 // checked both run one row kernel: it meets each word of the row with the mask first and reads values only where they overlap.
 ghost use mathlib.Core.Path.{_≡_};
-ghost use mathlib.Core.Bool.{true, not};
-ghost use mir.Val.{boolByte};
+ghost use mathlib.Core.Bool.{true};
 ghost use Prim.Native.Nat.{_≤_, _<_, _^_};
-ghost use lib.Dec.{eqb};
 ghost use lib.ListN.{length};
 ghost use Rattle.hybit_core.specs.Answer.{accepted};
 ghost use Rattle.hybit_core.specs.Floats.{zero64};
 ghost use Rattle.hybit_core.specs.Table.{told};
 ghost use Rattle.lent.specs.Lent.{built};
-ghost use Rattle.word.specs.Bits.{has, count};
 ghost use Rattle.mask.specs.Mask.{asMask};
 ghost use Rattle.metadata_first.specs.Store.{asStore};
 ghost use Rattle.metadata_first.specs.Dot.{dotOn, operandsAnswer, dotAnswer, sparseDotRow, toldDot};
@@ -46,27 +43,7 @@ fn sum_word(
     sum
 }
 
-// How many products a word has: its active bits.
-fn executed_in(bits: u64) -> usize
-    ensures { λ r. ⌜ r ≡ count (has bits) 64 ⌝ }
-{
-    if bits == 0 {
-        return 0;
-    }
-    word::popcount(bits)
-}
-
-// 1 for a word with a product, 0 for one without.
-fn active_in(bits: u64) -> usize
-    ensures { λ r. ⌜ r ≡ boolByte (not (eqb bits 0)) ⌝ }
-{
-    if bits == 0 {
-        return 0;
-    }
-    1
-}
-
-// The row kernel: a row's words and masks, its values, the words of the mask, the vector.
+// The row kernel: a row's words and masks, its values, the words of the mask, the vector. A word without a product is only counted.
 fn dot_row(
     ncols: usize,
     words: &[u32],
@@ -86,11 +63,16 @@ fn dot_row(
     while i < words.len() {
         let index = hybit_core::wide(words[i]);
         let bits = word::intersection(masks[i], active[index]);
-        sum = sum_word(masks[i], bits, candidate, 64 * index, values, x, sum);
-        candidate += word::popcount(masks[i]);
-        executed += executed_in(bits);
-        active_words += active_in(bits);
-        i += 1;
+        if bits == 0 {
+            candidate += word::popcount(masks[i]);
+            i += 1;
+        } else {
+            sum = sum_word(masks[i], bits, candidate, 64 * index, values, x, sum);
+            candidate += word::popcount(masks[i]);
+            executed += word::popcount(bits);
+            active_words += 1;
+            i += 1;
+        }
     }
     AbtmRowDot {
         sum: sum,

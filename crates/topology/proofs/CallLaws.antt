@@ -1,36 +1,33 @@
 -- What the calls on words know once their checks have accepted, and what their answers then are. Assumes nothing but masks of 64 bits.
-use mathlib.Core.Bool.{Bool, true, false, not, _&&_}
+use mathlib.Core.Bool.{Bool, true, false, _&&_, and-true}
 use mathlib.Core.List.{List, [], _∷_}
 use mathlib.Core.Option.{Option}
-use mathlib.Core.Path.{_≡_, sym, ap, ap₂, _∙_}
+use mathlib.Core.Path.{_≡_, refl, sym, ap, ap₂, _∙_}
 use Prim.Native.Nat.{ℕ, _*_, _%_, _^_, _≤_, _<_}
 use native.Mathlib.Omega.{arith}
-use lib.Dec.{ltb, leb}
+use lib.Dec.{eqb, ltb, leb}
 use lib.ListN.{length}
-use borrow.Author.Tests.{le-ltb, ltb-true, leb-true, not-false}
-use Rattle.hybit_core.specs.Answer.{accepted, demand, _andThen_}
-use Rattle.hybit_core.specs.Domain.{few, many, sizesFit}
-use Rattle.hybit_core.specs.Table.{told}
+use borrow.Author.Tests.{le-ltb, ltb-true, leb-true, eq-eqb}
+use Rattle.hybit_core.specs.Answer.{accepted, refused, plain, demand, _andThen_}
+use Rattle.hybit_core.specs.Table.{told, paper}
+use Rattle.hybit_core.specs.declared.HybitError.{HybitError}
 use Rattle.hybit_core.specs.declared.Verdict.{Verdict}
 use Rattle.hybit_core.specs.declared.Verdict.the-variants as verdict
-use Rattle.hybit_core.proofs.BoolLaws.{and-right}
-use Rattle.hybit_core.proofs.AnswerLaws.{demand-accepted, then-first, then-second, accepted-by}
+use Rattle.hybit_core.proofs.BoolLaws.{is-equal, is-unequal}
+use Rattle.hybit_core.proofs.AnswerLaws.{demand-accepted, then-first, then-second, accepted-by, refused-by, last-fails, last-passes}
 use Rattle.lent.specs.Lists.{part, spread}
 use Rattle.word.specs.Bits.{has, count, selected, within, wordsOf}
 use Rattle.word.proofs.BelowLaws.{length-below-le}
 use Rattle.word.proofs.BitLaws.{within-in}
+use Rattle.csr32.specs.Csr.{framedLists}
 use Rattle.csr32.proofs.FrameLaws.{RowIn, row-left, row-right, lists-sides, part-lengths}
-use Rattle.topology.specs.Words.{Words, rowMember, member, rowRule, setBits, wordAnswer}
+use Rattle.topology.specs.Words.{Words, asWords, rowMember, member, rowRule, rowRules, setBits, wordSizes, wordRules, wordAnswer}
 use Rattle.topology.specs.Calls.{rowAnswer}
 use Rattle.topology.proofs.RowLaws.{small}
 use Rattle.topology.proofs.ScanLaws.{bits-append, bits-one}
 use Rattle.topology.proofs.TopologyLaws.{Accepted, accepted-facts, row-of, row-bits}
 
--- ---- the tests of `check`
-
-pub sizes-right : (rows cols a b : ℕ) (x : Bool) → x ≡ sizesFit rows cols a b → not x ≡ false → b ≤ 2 ^ 24
-unfolding sizesFit
-sizes-right rows cols a b x e h = leb-true b (2 ^ 24) (and-right (few rows && few cols && many a) (many b) (sym e ∙ not-false x h))
+-- ---- the bits of some masks
 
 pub bits-le : (ms : List ℕ) → setBits ms ≤ 64 * length ms
 unfolding setBits spread
@@ -40,6 +37,51 @@ bits-le (m ∷ ms) = omega (arith, bits-le ms, bits-append (m ∷ []) ms, bits-o
 -- few masks: their sum does not wrap
 pub bits-whole : (ms : List ℕ) (n : ℕ) → length ms ≤ 2 ^ 24 → n ≡ setBits ms % 2 ^ 64 → n ≡ setBits ms
 bits-whole ms n h e = omega (arith, bits-le ms)
+
+-- ---- the checks of all but the total, and those of the total
+
+module _ (n m : ℕ) (ps ws ms : List ℕ) where
+  pub lists-fail : false ≡ framedLists n ps (length ws) (length ms) → false ≡ wordRules (asWords n m ps ws ms (setBits ms))
+  unfolding wordRules
+  lists-fail e = ap (λ (f : Bool). f && rowRules (asWords n m ps ws ms (setBits ms)) && eqb (setBits ms) (setBits ms)) e
+
+  pub rows-decide : true ≡ framedLists n ps (length ws) (length ms) → (t : ℕ) (r : Bool) → r ≡ rowRules (asWords n m ps ws ms t) → r ≡ wordRules (asWords n m ps ws ms (setBits ms))
+  unfolding wordRules rowRules
+  rows-decide e t r h =
+      h ∙ sym (and-true (rowRules (asWords n m ps ws ms t)))
+      ∙ ap₂ (λ (f q : Bool). f && rowRules (asWords n m ps ws ms t) && q) e (sym (eq-eqb (setBits ms) (setBits ms) refl))
+
+  pub lists-refused : (t : ℕ) (v : Verdict) (x : HybitError) → told v ≡ wordAnswer (asWords n m ps ws ms (setBits ms)) → v ≡ verdict.Refused x → refused (paper x) ≡ wordAnswer (asWords n m ps ws ms t)
+  unfolding wordAnswer wordRules rowRules
+  lists-refused t v x e h =
+      go (wordSizes (asWords n m ps ws ms t)) (framedLists n ps (length ws) (length ms) && rowRules (asWords n m ps ws ms t)) (eqb t (setBits ms))
+      (sym (refused-by _ v x e h) ∙ ap (λ (q : Bool). demand (wordSizes (asWords n m ps ws ms t)) 1 andThen demand (framedLists n ps (length ws) (length ms) && rowRules (asWords n m ps ws ms t) && q) 11) (eq-eqb (setBits ms) (setBits ms) refl))
+    where
+      go : (z f q : Bool) → refused (paper x) ≡ (demand z 1 andThen demand (f && true) 11) → refused (paper x) ≡ (demand z 1 andThen demand (f && q) 11)
+      go false f q e = e
+      go true false q e = e
+      go true true q e = cc
+
+  pub lists-then : wordAnswer (asWords n m ps ws ms (setBits ms)) ≡ accepted → (t : ℕ) → demand (eqb t (setBits ms)) 11 ≡ wordAnswer (asWords n m ps ws ms t)
+  unfolding wordAnswer wordRules rowRules
+  lists-then a t = go (wordSizes (asWords n m ps ws ms t)) (framedLists n ps (length ws) (length ms) && rowRules (asWords n m ps ws ms t)) (eqb (setBits ms) (setBits ms)) (eqb t (setBits ms)) a
+    where
+      go : (z f o q : Bool) → (demand z 1 andThen demand (f && o) 11) ≡ accepted → demand q 11 ≡ (demand z 1 andThen demand (f && q) 11)
+      go false f o q e = cc
+      go true false o q e = cc
+      go true true o q e = refl
+
+  module _ (a : wordAnswer (asWords n m ps ws ms (setBits ms)) ≡ accepted) (t k : ℕ) (e : k ≡ setBits ms % 2 ^ 64) where
+    pub bits-counted : k ≡ setBits ms
+    bits-counted =
+        let f : Accepted (asWords n m ps ws ms (setBits ms)) = accepted-facts (asWords n m ps ws ms (setBits ms)) a in
+        bits-whole ms k (omega (arith, f .words-in, lists-sides n ps (length ws) (length ms) (f .lists))) e
+
+    pub total-wrong : (t ≡ k → ⊥) → refused (plain 11) ≡ wordAnswer (asWords n m ps ws ms t)
+    total-wrong h = last-fails (eqb t (setBits ms)) 11 (is-unequal t (setBits ms) (λ q. h (q ∙ sym bits-counted))) ∙ lists-then a t
+
+    pub total-right : t ≡ k → accepted ≡ wordAnswer (asWords n m ps ws ms t)
+    total-right h = last-passes (eqb t (setBits ms)) 11 (is-equal t (setBits ms) (h ∙ bits-counted)) ∙ lists-then a t
 
 -- ---- a record that `check` accepted
 

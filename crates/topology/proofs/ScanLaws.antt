@@ -1,24 +1,24 @@
--- What the loops over words and masks find: the rule of a word, of a row and of all rows, the bits of some masks, the mask of one
+-- What the loops over words and masks find: the rule of a word and of all rows, the bits of some masks, the mask of one
 -- word. Assumes nothing.
-use mathlib.Core.Bool.{Bool, true, false, not, cond, _&&_, and-false}
-use mathlib.Core.List.{List, [], _∷_, _++_, zip, zipWith}
+use mathlib.Core.Bool.{Bool, true, false, not, cond, _&&_}
+use mathlib.Core.List.{List, [], _∷_, _++_}
 use mathlib.Core.Path.{_≡_, refl, sym, ap, ap₂, _∙_}
 use Prim.Native.Nat.{ℕ, suc, _+_, _-_, _*_, _/_, _%_, _^_, _≤_, _<_}
 use native.Mathlib.Numerals.{add-one}
 use native.Mathlib.Nat.{sub-zero}
 use native.Mathlib.Omega.{arith}
-use lib.Dec.{leb, eqb, ltb}
+use lib.Dec.{eqb, ltb}
 use lib.ListN.{length, getD, take, drop, drop-of-length-le, length-append}
 use lib.Seq.{drop-cons, take-suc, take-all}
-use borrow.Author.Tests.{lt-ltb, lt-leb, le-leb, eq-eqb, ne-eqb, ltb-true, eqb-true}
+use borrow.Author.Tests.{lt-ltb, eq-eqb, ne-eqb, ltb-true, eqb-true}
 use Rattle.hybit_core.proofs.BoolLaws.{and-left, and-right, and-both, same-test}
-use Rattle.lent.specs.Lists.{every, climbs, spread}
+use Rattle.lent.specs.Lists.{every, spread}
 use Rattle.lent.proofs.ListLaws.{spread-append}
 use Rattle.word.specs.Bits.{has, from, below, count, members, wordOf}
 use Rattle.word.proofs.BelowLaws.{selects}
 use Rattle.word.proofs.BitLaws.{every-below, every-below-at, has-none}
 use Rattle.word.proofs.OpLaws.{word-is, has-word}
-use Rattle.topology.specs.Words.{maskIn, rowMember, wordRule, rowRule, setBits}
+use Rattle.topology.specs.Words.{maskIn, rowMember, wordRule, setBits}
 use Rattle.topology.proofs.RowLaws.{mask-in-none, mask-in-cons, some-bit}
 
 -- ---- a word: its mask is not 0 and has no bit at or past the column count
@@ -61,40 +61,6 @@ module _ (n w m : ℕ) where
           keep i l b =
               let k : 64 * w + i < n = ltb-true (64 * w + i) n (every-below-at (λ i. ltb (64 * w + i) n) (has m) 64 i (and-right (not (eqb m 0)) (every (λ i. ltb (64 * w + i) n) (below (has m) 64)) q) l b) in
               and-both (has m i) (ltb i (n - 64 * w)) b (lt-ltb i (n - 64 * w) (omega arith))
-
--- ---- a row: what is left decides, the next word being at least a
-
-abbrev pub rowFrom : ℕ → ℕ → List ℕ → List ℕ → Bool
-rowFrom cols a ws ms = climbs a ws && every (wordRule cols) (zip ws ms)
-
-pub row-none : (cols : ℕ) (ws ms : List ℕ) → rowRule cols ws ms ≡ rowFrom cols 0 ws ms
-unfolding rowRule
-row-none cols ws ms = refl
-
-module _ (cols : ℕ) (ws ms : List ℕ) (a i : ℕ) (inv : rowRule cols ws ms ≡ rowFrom cols a (drop i ws) (drop i ms)) where
-  module _ (same : length ms ≡ length ws) (l : i < length ws) (w m : ℕ) (word : w ≡ getD ws i 0) (mask : m ≡ getD ms i 0) where
-    row-step : rowRule cols ws ms ≡ ((leb a w && climbs (suc w) (drop (i + 1) ws)) && (wordRule cols (w, m) && every (wordRule cols) (zip (drop (i + 1) ws) (drop (i + 1) ms))))
-    unfolding climbs every zip zipWith
-    row-step =
-        inv
-        ∙ ap₂ (λ (s t : List ℕ). climbs a s && every (wordRule cols) (zip s t))
-        (drop-cons ws i 0 l ∙ ap₂ (λ (v k : ℕ). v ∷ drop k ws) (sym word) (sym (add-one i)))
-        (drop-cons ms i 0 (omega arith) ∙ ap₂ (λ (v k : ℕ). v ∷ drop k ms) (sym mask) (sym (add-one i)))
-
-    pub row-more : a ≤ w → true ≡ wordRule cols (w, m) → rowRule cols ws ms ≡ rowFrom cols (w + 1) (drop (i + 1) ws) (drop (i + 1) ms)
-    row-more h e =
-        row-step ∙ ap₂ (λ (s t : Bool). (s && climbs (suc w) (drop (i + 1) ws)) && (t && every (wordRule cols) (zip (drop (i + 1) ws) (drop (i + 1) ms)))) (le-leb a w h) (sym e)
-        ∙ ap (λ (k : ℕ). climbs k (drop (i + 1) ws) && every (wordRule cols) (zip (drop (i + 1) ws) (drop (i + 1) ms))) (sym (add-one w))
-
-    pub row-falls : w < a → false ≡ rowRule cols ws ms
-    row-falls h = sym (row-step ∙ ap (λ (s : Bool). (s && climbs (suc w) (drop (i + 1) ws)) && (wordRule cols (w, m) && every (wordRule cols) (zip (drop (i + 1) ws) (drop (i + 1) ms)))) (lt-leb a w h))
-
-    pub row-breaks : false ≡ wordRule cols (w, m) → false ≡ rowRule cols ws ms
-    row-breaks e = sym (row-step ∙ ap (λ (s : Bool). (leb a w && climbs (suc w) (drop (i + 1) ws)) && (s && every (wordRule cols) (zip (drop (i + 1) ws) (drop (i + 1) ms)))) (sym e) ∙ and-false (leb a w && climbs (suc w) (drop (i + 1) ws)))
-
-  pub row-done : length ws ≤ i → true ≡ rowRule cols ws ms
-  unfolding climbs every zip zipWith
-  row-done h = sym (inv ∙ ap (λ (s : List ℕ). climbs a s && every (wordRule cols) (zip s (drop i ms))) (drop-of-length-le ws h))
 
 -- ---- all rows: a test of every row from r on
 

@@ -2,13 +2,13 @@
 // call on a record checks it: 1, 11. The build from a plot list is the crate topology_build, the set operations are
 // topology_combine.
 ghost use mathlib.Core.Path.{_≡_};
-ghost use mathlib.Core.Bool.{true, false};
+ghost use mathlib.Core.Bool.{true, false, not, _&&_};
 ghost use Prim.Native.Nat.{_+_, _*_, _%_, _≤_, _<_, _^_};
-ghost use lib.Dec.{leb};
+ghost use lib.Dec.{leb, ltb, eqb};
 ghost use lib.ListN.{length, take};
 ghost use Rattle.hybit_core.specs.Answer.{numberIn, answers, demand, _andThen_};
 ghost use Rattle.hybit_core.specs.Table.{told, toldCount, toldBool};
-ghost use Rattle.lent.specs.Lists.{part};
+ghost use Rattle.lent.specs.Lists.{part, every, climbs};
 ghost use Rattle.lent.specs.Lent.{padded};
 ghost use Rattle.word.specs.Bits.{has, count, within, selected, wordsOf};
 ghost use Rattle.word.specs.Word.{rankAnswer as wordRankAnswer, toldSelect};
@@ -124,25 +124,65 @@ fn word_holds(ncols: usize, index: usize, mask: u64) -> bool
     word::trimmed(mask, ncols - base) == mask
 }
 
-// A row's part of the word numbers and of the masks.
+// The two tests below run to the end of a row, without a branch on what they find, so that several places are tested at a time.
+fn also_above(holds: bool, before: u32, number: u32) -> bool
+    ensures { λ r. ⌜ r ≡ (holds && ltb before number) ⌝ }
+{
+    if before < number {
+        return holds;
+    }
+    false
+}
+
+fn numbers_climb(words: &[u32]) -> bool
+    ensures { λ r. ⌜ r ≡ climbs 0 (now (words .entry)) ⌝ }
+{
+    let mut holds = true;
+    let mut i: usize = 1;
+    while i < words.len() {
+        holds = also_above(holds, words[i - 1], words[i]);
+        i += 1;
+    }
+    holds
+}
+
+fn also_some(holds: bool, mask: u64) -> bool
+    ensures { λ r. ⌜ r ≡ (holds && not (eqb mask 0)) ⌝ }
+{
+    if mask != 0 {
+        return holds;
+    }
+    false
+}
+
+fn masks_hold(masks: &[u64]) -> bool
+    ensures { λ r. ⌜ r ≡ every (λ m. not (eqb m 0)) (now (masks .entry)) ⌝ }
+{
+    let mut holds = true;
+    let mut i: usize = 0;
+    while i < masks.len() {
+        holds = also_some(holds, masks[i]);
+        i += 1;
+    }
+    holds
+}
+
+// A row's part of the word numbers and of the masks. Where the numbers climb, no word before the last reaches the column count.
 fn row_holds(ncols: usize, words: &[u32], masks: &[u64]) -> bool
     requires { ⌜ length (now masks) ≡ length (now words) ⌝ }
     ensures { λ r. ⌜ r ≡ rowRule ncols (now (words .entry)) (now (masks .entry)) ⌝ }
 {
-    let mut least: usize = 0;
-    let mut i: usize = 0;
-    while i < words.len() {
-        let index = hybit_core::wide(words[i]);
-        if index < least {
-            return false;
-        }
-        if !word_holds(ncols, index, masks[i]) {
-            return false;
-        }
-        least = index + 1;
-        i += 1;
+    if words.len() == 0 {
+        return true;
     }
-    true
+    if !numbers_climb(words) {
+        return false;
+    }
+    if !masks_hold(masks) {
+        return false;
+    }
+    let last = words.len() - 1;
+    word_holds(ncols, hybit_core::wide(words[last]), masks[last])
 }
 
 // A row's part of the word numbers, and of the masks.
@@ -216,31 +256,38 @@ pub fn clear_past(
     lent::clear_from_u64(masks, words);
 }
 
-fn rules_hold(
+fn lists_hold(
     nrows: usize,
     ncols: usize,
     row_word_ptr: &[u32],
     word_indices: &[u32],
     masks: &[u64],
-    structural_nnz: usize,
 ) -> bool
-    requires { ⌜ length (now masks) ≤ 2 ^ 24 ⌝ }
-    ensures { λ r. ⌜ r ≡ wordRules (asWords nrows ncols (now («row_word_ptr» .entry)) (now («word_indices» .entry)) (now (masks .entry)) «structural_nnz») ⌝ }
+    ensures { λ r. ⌜ r ≡ wordRules (asWords nrows ncols (now («row_word_ptr» .entry)) (now («word_indices» .entry)) (now (masks .entry)) (setBits (now (masks .entry)))) ⌝ }
 {
     if !csr32::lists_hold(nrows, row_word_ptr, word_indices.len(), masks.len()) {
         return false;
     }
-    if !rows_hold(
-        nrows,
-        ncols,
-        row_word_ptr,
-        word_indices,
-        masks,
-        structural_nnz,
-    ) {
-        return false;
+    rows_hold(nrows, ncols, row_word_ptr, word_indices, masks, 0)
+}
+
+// `check` of all but the total: of words whose total is the set bits of their masks.
+pub fn check_lists(
+    nrows: usize,
+    ncols: usize,
+    row_word_ptr: &[u32],
+    word_indices: &[u32],
+    masks: &[u64],
+) -> Verdict
+    ensures { λ r. ⌜ told r ≡ wordAnswer (asWords nrows ncols (now («row_word_ptr» .entry)) (now («word_indices» .entry)) (now (masks .entry)) (setBits (now (masks .entry)))) ⌝ }
+{
+    if !hybit_core::sizes_fit(nrows, ncols, word_indices.len(), masks.len()) {
+        return Verdict::Refused(HybitError::SizeOverflow);
     }
-    structural_nnz == count_bits(masks)
+    if !lists_hold(nrows, ncols, row_word_ptr, word_indices, masks) {
+        return Verdict::Refused(HybitError::BadWords);
+    }
+    Verdict::Accepted
 }
 
 // The Rust's `validate`.
@@ -254,17 +301,11 @@ pub fn check(
 ) -> Verdict
     ensures { λ r. ⌜ told r ≡ wordAnswer (asWords nrows ncols (now («row_word_ptr» .entry)) (now («word_indices» .entry)) (now (masks .entry)) «structural_nnz») ⌝ }
 {
-    if !hybit_core::sizes_fit(nrows, ncols, word_indices.len(), masks.len()) {
-        return Verdict::Refused(HybitError::SizeOverflow);
+    let v = check_lists(nrows, ncols, row_word_ptr, word_indices, masks);
+    if let Verdict::Refused(e) = v {
+        return Verdict::Refused(e);
     }
-    if !rules_hold(
-        nrows,
-        ncols,
-        row_word_ptr,
-        word_indices,
-        masks,
-        structural_nnz,
-    ) {
+    if structural_nnz != count_bits(masks) {
         return Verdict::Refused(HybitError::BadWords);
     }
     Verdict::Accepted

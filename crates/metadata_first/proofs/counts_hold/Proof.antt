@@ -7,7 +7,7 @@ use lib.Dec.{eqb}
 use lib.ListN.{length, getD}
 use Rattle.lent.specs.Lists.{every, part}
 use Rattle.word.specs.Bits.{count, from}
-use Rattle.topology.specs.Words.{asWords, member}
+use Rattle.topology.specs.Words.{asWords, member, setBits}
 use Rattle.topology.proofs.RowLaws.{small-is}
 use Rattle.topology.proofs.ScanLaws.{rows-none, rows-more, rows-fail, rows-done}
 use Rattle.metadata_first.specs.Store.{asStore, valueRules}
@@ -18,10 +18,10 @@ use Rattle.metadata_first.proofs.counts_hold.Statement.{statement}
 use Rattle.metadata_first.proofs.counts_hold.Tie as tie
 
 abbrev Inv-loop : tie.InvT-loop
-Inv-loop nrows ncols row-word-ptr word-indices masks structural-nnz row-value-ptr values row₀ row = valueRules (asStore nrows ncols row-word-ptr word-indices masks structural-nnz row-value-ptr values) ≡ every (λ r. eqb (length (part row-value-ptr values r)) (count (member (asWords nrows ncols row-word-ptr word-indices masks structural-nnz) r) ncols)) (from (λ r. true) row (nrows - row))
+Inv-loop nrows ncols row-word-ptr word-indices masks row-value-ptr values row₀ row = valueRules (asStore nrows ncols row-word-ptr word-indices masks (setBits masks) row-value-ptr values) ≡ every (λ r. eqb (length (part row-value-ptr values r)) (count (member (asWords nrows ncols row-word-ptr word-indices masks (setBits masks)) r) ncols)) (from (λ r. true) row (nrows - row))
 
 abbrev μ-loop : tie.MeasureT-loop
-μ-loop nrows ncols row-word-ptr word-indices masks structural-nnz row-value-ptr values row₀ row = nrows - row
+μ-loop nrows ncols row-word-ptr word-indices masks row-value-ptr values row₀ row = nrows - row
 
 loop-holds : tie.Need-loop-holds Inv-loop μ-loop
 unfolding valueRules

@@ -1,30 +1,39 @@
 -- `topology::check` meets its contract. Assumes nothing.
-use Rattle.topology.proofs.CallLaws.{sizes-right}
-use Rattle.hybit_core.proofs.AnswerLaws.{checks}
-use Rattle.hybit_core.proofs.BoolLaws.{tests}
-use Rattle.topology.specs.Words.{wordAnswer}
+use Rattle.hybit_core.proofs.AnswerLaws.{accepted-by}
+use Rattle.topology.proofs.CallLaws.{lists-refused, total-wrong, total-right}
 use borrow.Author.Needs.{needs}
 use Rattle.topology.proofs.check.Statement.{statement}
 use Rattle.topology.proofs.check.Tie as tie
 
-sizes-fit-requires : tie.Need-sizes-fit-requires
-sizes-fit-requires c κs = search needs
+check-lists-requires : tie.Need-check-lists-requires
+check-lists-requires c κs = search needs
+
+enum-known-v : tie.Need-enum-known-v
+enum-known-v c = search needs
 
 returns : tie.Need-returns
-unfolding wordAnswer
-returns c = search (checks, tests, needs)
+returns c = lists-refused _ _ _ _ _ _ _ _ (c .before .before .before .check-lists .ensures) (c .before .v .given .1)
 
-rules-hold-requires : tie.Need-rules-hold-requires
-rules-hold-requires c κs = sizes-right _ _ _ _ _ (c .before .sizes-fit .ensures) (c .if1 .left)
+enum-told : tie.Need-enum-told
+enum-told c = search needs
+
+count-bits-requires : tie.Need-count-bits-requires
+count-bits-requires c κs = search needs
 
 returns-2 : tie.Need-returns-2
-unfolding wordAnswer
-returns-2 c = search (checks, tests, needs)
+returns-2 c = total-wrong _ _ _ _ _ (accepted-by _ _ (c .before .before .before .before .check-lists .ensures) (c .before .before .enum-told .given .1)) _ _ (c .before .count-bits .ensures) (c .if1 .taken)
 
 returns-3 : tie.Need-returns-3
-unfolding wordAnswer
-returns-3 c = search (checks, tests, needs)
+returns-3 c = total-right _ _ _ _ _ (accepted-by _ _ (c .before .before .before .before .check-lists .ensures) (c .before .before .enum-told .given .1)) _ _ (c .before .count-bits .ensures) (c .if1 .left)
 
 pub check-spec : {M : Type 1} → statement M
 check-spec =
-    tie.close (tie.spec sizes-fit-requires returns rules-hold-requires returns-2 returns-3)
+    tie.close
+    (tie.spec
+    check-lists-requires
+    enum-known-v
+    returns
+    enum-told
+    count-bits-requires
+    returns-2
+    returns-3)

@@ -1,34 +1,41 @@
-# Sourced by compare, breaks and record, from the project's root: makes the archive where it is missing or older than the
-# crates, then builds the workspace. HYBIT_SRC and DENIMRASP_LIB may name hybit's sources and the archive's folder.
+# Sourced by the scripts beside it. HYBIT_SRC and DENIMRASP_LIB may name hybit's sources and the archive's folder.
+
+# Takes `--hybit PATH` out of the arguments and leaves the others in `options`.
+take_options() {
+    options=()
+    while (($#)); do
+        case $1 in
+            --hybit)
+                HYBIT_SRC=$2
+                shift 2
+                ;;
+            *)
+                options+=("$1")
+                shift
+                ;;
+        esac
+    done
+}
 
 archive=target/staticlib/libdenimrasp.a
 
 archive_is_old() {
-    [[ ! -e $archive ]] ||
-        [[ -n $(find crates -name '*.rt' -newer "$archive" -print -quit) ]] ||
-        [[ -n $(find crates -name '*.antt' -newer "$archive" -print -quit) ]]
+    [[ ! -e $archive ]] || [[ -n $(find crates -type f -newer "$archive" -print -quit) ]]
 }
 
+# Goes to the project's root, and makes the archive where it is missing or older than the crates.
 make_archive() {
-    if archive_is_old && command -v rt >/dev/null; then
+    [[ -z ${HYBIT_SRC:-} ]] || HYBIT_SRC=$(realpath "$HYBIT_SRC")
+    [[ -z ${DENIMRASP_LIB:-} ]] || DENIMRASP_LIB=$(realpath "$DENIMRASP_LIB")
+    export ${HYBIT_SRC:+HYBIT_SRC} ${DENIMRASP_LIB:+DENIMRASP_LIB}
+    cd "$(dirname "${BASH_SOURCE[0]}")/.."
+    if [[ -z ${DENIMRASP_LIB:-} ]] && archive_is_old && command -v rt >/dev/null; then
         rt staticlib denimrasp >&2
-        touch "$archive"
-    elif [[ ! -e $archive ]]; then
-        echo "there is no $archive: 'rt staticlib denimrasp' makes it, or DENIMRASP_LIB names another folder" >&2
-        exit 2
     fi
 }
 
+# The same, then builds the comparison.
 build_all() {
-    if [[ -n ${HYBIT_SRC:-} ]]; then
-        HYBIT_SRC=$(realpath "$HYBIT_SRC")
-        export HYBIT_SRC
-    fi
-    if [[ -n ${DENIMRASP_LIB:-} ]]; then
-        DENIMRASP_LIB=$(realpath "$DENIMRASP_LIB")
-        export DENIMRASP_LIB
-    else
-        make_archive
-    fi
+    make_archive
     cargo build --release --offline --quiet --manifest-path oracle/Cargo.toml -p compare-run
 }

@@ -660,32 +660,83 @@ fn topology_stats(text: &[u8], at: &mut usize) {
     word_figures(r);
 }
 
-fn topology_union(text: &[u8], at: &mut usize) {
-    let mut row_word_ptr_room = [0u32; ROOM];
-    let mut word_indices_room = [0u32; ROOM];
-    let mut masks_room = [0u64; ROOM];
-    let mut other_row_word_ptr_room = [0u32; ROOM];
-    let mut other_word_indices_room = [0u32; ROOM];
-    let mut other_masks_room = [0u64; ROOM];
-    let mut out_ptr_room = [0u32; ROOM];
-    let mut out_words_room = [0u32; ROOM];
-    let mut out_masks_room = [0u64; ROOM];
-    let nrows = index(text, at);
-    let ncols = index(text, at);
-    let row_word_ptr = read_u32(text, at, &mut row_word_ptr_room);
-    let word_indices = read_u32(text, at, &mut word_indices_room);
-    let masks = read_u64(text, at, &mut masks_room);
-    let structural_nnz = index(text, at);
-    let other_nrows = index(text, at);
-    let other_ncols = index(text, at);
-    let other_row_word_ptr = read_u32(text, at, &mut other_row_word_ptr_room);
-    let other_word_indices = read_u32(text, at, &mut other_word_indices_room);
-    let other_masks = read_u64(text, at, &mut other_masks_room);
-    let other_structural_nnz = index(text, at);
-    let out_ptr = read_u32(text, at, &mut out_ptr_room);
-    let out_words = read_u32(text, at, &mut out_words_room);
-    let out_masks = read_u64(text, at, &mut out_masks_room);
-    let r = denimrasp::denimrasp_topology_union(
+// The set operation of that number.
+fn operation(
+    call: u64,
+    nrows: usize,
+    ncols: usize,
+    row_word_ptr: &[u32],
+    word_indices: &[u32],
+    masks: &[u64],
+    structural_nnz: usize,
+    other_nrows: usize,
+    other_ncols: usize,
+    other_row_word_ptr: &[u32],
+    other_word_indices: &[u32],
+    other_masks: &[u64],
+    other_structural_nnz: usize,
+    out_ptr: &mut [u32],
+    out_words: &mut [u32],
+    out_masks: &mut [u64],
+) -> DenimraspTopology {
+    if call == 26 {
+        return denimrasp::denimrasp_topology_union(
+            nrows,
+            ncols,
+            row_word_ptr,
+            word_indices,
+            masks,
+            structural_nnz,
+            other_nrows,
+            other_ncols,
+            other_row_word_ptr,
+            other_word_indices,
+            other_masks,
+            other_structural_nnz,
+            out_ptr,
+            out_words,
+            out_masks,
+        );
+    }
+    if call == 27 {
+        return denimrasp::denimrasp_topology_intersection(
+            nrows,
+            ncols,
+            row_word_ptr,
+            word_indices,
+            masks,
+            structural_nnz,
+            other_nrows,
+            other_ncols,
+            other_row_word_ptr,
+            other_word_indices,
+            other_masks,
+            other_structural_nnz,
+            out_ptr,
+            out_words,
+            out_masks,
+        );
+    }
+    if call == 28 {
+        return denimrasp::denimrasp_topology_and_not(
+            nrows,
+            ncols,
+            row_word_ptr,
+            word_indices,
+            masks,
+            structural_nnz,
+            other_nrows,
+            other_ncols,
+            other_row_word_ptr,
+            other_word_indices,
+            other_masks,
+            other_structural_nnz,
+            out_ptr,
+            out_words,
+            out_masks,
+        );
+    }
+    denimrasp::denimrasp_topology_xor(
         nrows,
         ncols,
         row_word_ptr,
@@ -701,14 +752,10 @@ fn topology_union(text: &[u8], at: &mut usize) {
         out_ptr,
         out_words,
         out_masks,
-    );
-    built(r);
-    show_u32(out_ptr);
-    show_u32(out_words);
-    show_u64(out_masks);
+    )
 }
 
-fn topology_intersection(text: &[u8], at: &mut usize) {
+fn topology_operation(call: u64, text: &[u8], at: &mut usize) {
     let mut row_word_ptr_room = [0u32; ROOM];
     let mut word_indices_room = [0u32; ROOM];
     let mut masks_room = [0u64; ROOM];
@@ -733,103 +780,8 @@ fn topology_intersection(text: &[u8], at: &mut usize) {
     let out_ptr = read_u32(text, at, &mut out_ptr_room);
     let out_words = read_u32(text, at, &mut out_words_room);
     let out_masks = read_u64(text, at, &mut out_masks_room);
-    let r = denimrasp::denimrasp_topology_intersection(
-        nrows,
-        ncols,
-        row_word_ptr,
-        word_indices,
-        masks,
-        structural_nnz,
-        other_nrows,
-        other_ncols,
-        other_row_word_ptr,
-        other_word_indices,
-        other_masks,
-        other_structural_nnz,
-        out_ptr,
-        out_words,
-        out_masks,
-    );
-    built(r);
-    show_u32(out_ptr);
-    show_u32(out_words);
-    show_u64(out_masks);
-}
-
-fn topology_and_not(text: &[u8], at: &mut usize) {
-    let mut row_word_ptr_room = [0u32; ROOM];
-    let mut word_indices_room = [0u32; ROOM];
-    let mut masks_room = [0u64; ROOM];
-    let mut other_row_word_ptr_room = [0u32; ROOM];
-    let mut other_word_indices_room = [0u32; ROOM];
-    let mut other_masks_room = [0u64; ROOM];
-    let mut out_ptr_room = [0u32; ROOM];
-    let mut out_words_room = [0u32; ROOM];
-    let mut out_masks_room = [0u64; ROOM];
-    let nrows = index(text, at);
-    let ncols = index(text, at);
-    let row_word_ptr = read_u32(text, at, &mut row_word_ptr_room);
-    let word_indices = read_u32(text, at, &mut word_indices_room);
-    let masks = read_u64(text, at, &mut masks_room);
-    let structural_nnz = index(text, at);
-    let other_nrows = index(text, at);
-    let other_ncols = index(text, at);
-    let other_row_word_ptr = read_u32(text, at, &mut other_row_word_ptr_room);
-    let other_word_indices = read_u32(text, at, &mut other_word_indices_room);
-    let other_masks = read_u64(text, at, &mut other_masks_room);
-    let other_structural_nnz = index(text, at);
-    let out_ptr = read_u32(text, at, &mut out_ptr_room);
-    let out_words = read_u32(text, at, &mut out_words_room);
-    let out_masks = read_u64(text, at, &mut out_masks_room);
-    let r = denimrasp::denimrasp_topology_and_not(
-        nrows,
-        ncols,
-        row_word_ptr,
-        word_indices,
-        masks,
-        structural_nnz,
-        other_nrows,
-        other_ncols,
-        other_row_word_ptr,
-        other_word_indices,
-        other_masks,
-        other_structural_nnz,
-        out_ptr,
-        out_words,
-        out_masks,
-    );
-    built(r);
-    show_u32(out_ptr);
-    show_u32(out_words);
-    show_u64(out_masks);
-}
-
-fn topology_xor(text: &[u8], at: &mut usize) {
-    let mut row_word_ptr_room = [0u32; ROOM];
-    let mut word_indices_room = [0u32; ROOM];
-    let mut masks_room = [0u64; ROOM];
-    let mut other_row_word_ptr_room = [0u32; ROOM];
-    let mut other_word_indices_room = [0u32; ROOM];
-    let mut other_masks_room = [0u64; ROOM];
-    let mut out_ptr_room = [0u32; ROOM];
-    let mut out_words_room = [0u32; ROOM];
-    let mut out_masks_room = [0u64; ROOM];
-    let nrows = index(text, at);
-    let ncols = index(text, at);
-    let row_word_ptr = read_u32(text, at, &mut row_word_ptr_room);
-    let word_indices = read_u32(text, at, &mut word_indices_room);
-    let masks = read_u64(text, at, &mut masks_room);
-    let structural_nnz = index(text, at);
-    let other_nrows = index(text, at);
-    let other_ncols = index(text, at);
-    let other_row_word_ptr = read_u32(text, at, &mut other_row_word_ptr_room);
-    let other_word_indices = read_u32(text, at, &mut other_word_indices_room);
-    let other_masks = read_u64(text, at, &mut other_masks_room);
-    let other_structural_nnz = index(text, at);
-    let out_ptr = read_u32(text, at, &mut out_ptr_room);
-    let out_words = read_u32(text, at, &mut out_words_room);
-    let out_masks = read_u64(text, at, &mut out_masks_room);
-    let r = denimrasp::denimrasp_topology_xor(
+    let r = operation(
+        call,
         nrows,
         ncols,
         row_word_ptr,
@@ -1220,10 +1172,7 @@ fn topology_calls(call: u64, text: &[u8], at: &mut usize) {
         23 => topology_row_rank(text, at),
         24 => topology_row_select(text, at),
         25 => topology_stats(text, at),
-        26 => topology_union(text, at),
-        27 => topology_intersection(text, at),
-        28 => topology_and_not(text, at),
-        _ => topology_xor(text, at),
+        _ => topology_operation(call, text, at),
     }
 }
 

@@ -25,9 +25,15 @@ archive_is_old() {
 
 # Goes to the project's root, and makes the archive where it is missing or older than the crates.
 make_archive() {
-    [[ -z ${HYBIT_SRC:-} ]] || HYBIT_SRC=$(realpath "$HYBIT_SRC")
-    [[ -z ${DENIMRASP_LIB:-} ]] || DENIMRASP_LIB=$(realpath "$DENIMRASP_LIB")
-    export ${HYBIT_SRC:+HYBIT_SRC} ${DENIMRASP_LIB:+DENIMRASP_LIB}
+    local path
+    if [[ -n ${HYBIT_SRC:-} ]]; then
+        path=$(realpath "$HYBIT_SRC")
+        export HYBIT_SRC=$path
+    fi
+    if [[ -n ${DENIMRASP_LIB:-} ]]; then
+        path=$(realpath "$DENIMRASP_LIB")
+        export DENIMRASP_LIB=$path
+    fi
     cd "$(dirname "${BASH_SOURCE[0]}")/.."
     if [[ -z ${DENIMRASP_LIB:-} ]] && archive_is_old && command -v rt >/dev/null; then
         rt staticlib denimrasp >&2

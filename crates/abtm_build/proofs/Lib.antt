@@ -1,0 +1,2 @@
+pub mod WindowLaws
+pub mod WordLaws

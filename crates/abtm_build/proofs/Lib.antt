@@ -1,2 +1,7 @@
 pub mod WindowLaws
 pub mod WordLaws
+pub mod EmitLaws
+pub mod WroteLaws
+pub mod RowsLaws
+pub mod FewLaws
+pub mod AnswerLaws

@@ -1,0 +1,1 @@
+-- Laws of the tiles of a word, a block and a window. Assumes nothing.

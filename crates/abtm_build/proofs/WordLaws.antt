@@ -95,3 +95,53 @@ walked f w from old b at out inv z =
     let a = walking-done f w from old b at out inv z in
     let e : at ≡ from + length (members w) = a .next ∙ ap (λ (n : ℕ). from + n) (length-map (members w) f) in
     subst (λ (n : ℕ). Appended (map f (members w)) from n old out) e a
+
+-- ---- the values of a tile
+
+-- two functions that agree where the test holds
+map-kept : {A : Type 0} (f g : ℕ → A) (p : ℕ → Bool) (n : ℕ) → ((i : ℕ) → i < n → p i ≡ true → f i ≡ g i) → map f (below p n) ≡ map g (below p n)
+map-kept f g p zero h = ap (map f) (below-zero p) ∙ sym (ap (map g) (below-zero p))
+map-kept {A} f g p (suc n) h =
+    ap (map f) (below-snoc p n)
+    ∙ map-append f (below p n) (consIf (p n) n [])
+    ∙ ap₂ (λ (l r : List A). l ++ r) (map-kept f g p n (λ i b. h i (omega arith))) (last (p n) refl)
+    ∙ sym (map-append g (below p n) (consIf (p n) n []))
+    ∙ ap (map g) (sym (below-snoc p n))
+  where
+    last : (t : Bool) → p n ≡ t → map f (consIf t n []) ≡ map g (consIf t n [])
+    last true e = ap (λ (a : A). a ∷ []) (h n (omega arith) e)
+    last false e = refl
+
+all-length : length (below (λ i. true) 64) ≡ 64
+unfolding below Rattle.word.specs.Bits.from
+all-length = refl
+
+module _ (kind mask : ℕ) where
+  pub dense-length : kind ≡ 2 → length (placesOf kind mask) ≡ 64
+  dense-length d = ap length (dense-places kind mask d) ∙ all-length
+
+  pub compact-length : (kind ≡ 2 → ⊥) → length (placesOf kind mask) ≡ length (members mask)
+  compact-length d = ap length (compact-places kind mask d)
+
+  module _ (sums : List Float) (from : ℕ) (old out : List Float) where
+    as-places : (f : ℕ → Float) (places : List ℕ) (to : ℕ) → places ≡ placesOf kind mask → to ≡ from + length (placesOf kind mask) → map f places ≡ map (λ i. cond (has mask i) (getD sums i nan) zero64) places
+        → Appended (map f places) from to old out → Appended (map (λ i. cond (has mask i) (getD sums i nan) zero64) (placesOf kind mask)) from (from + length (placesOf kind mask)) old out
+    as-places f places to p t e a =
+        subst (λ (l : List ℕ). Appended (map (λ i. cond (has mask i) (getD sums i nan) zero64) l) from (from + length (placesOf kind mask)) old out) p
+        (subst (λ (n : ℕ). Appended (map (λ i. cond (has mask i) (getD sums i nan) zero64) places) from n old out) t
+        (subst (λ (new : List Float). Appended new from to old out) e a))
+
+    pub slots-dense : kind ≡ 2 → mask ≡ wordOf (λ i. not (isZero (getD sums i nan)))
+        → Appended (map (λ i. cond (not (isZero (getD sums i nan))) (getD sums i nan) zero64) (below (λ i. true) 64)) from (from + 64) old out
+        → Appended (map (λ i. cond (has mask i) (getD sums i nan) zero64) (placesOf kind mask)) from (from + length (placesOf kind mask)) old out
+    slots-dense d m =
+        as-places (λ i. cond (not (isZero (getD sums i nan))) (getD sums i nan) zero64) (below (λ i. true) 64) (from + 64) (sym (dense-places kind mask d)) (ap (λ (n : ℕ). from + n) (sym (dense-length d)))
+        (map-kept (λ i. cond (not (isZero (getD sums i nan))) (getD sums i nan) zero64) (λ i. cond (has mask i) (getD sums i nan) zero64) (λ i. true) 64
+        (λ i b t. ap (λ (s : Bool). cond s (getD sums i nan) zero64) (sym (ap (λ (w : ℕ). has w i) m ∙ has-word (λ i. not (isZero (getD sums i nan))) i b))))
+
+    pub slots-compact : (kind ≡ 2 → ⊥) → Appended (map (λ i. getD sums i nan) (members mask)) from (from + length (members mask)) old out
+        → Appended (map (λ i. cond (has mask i) (getD sums i nan) zero64) (placesOf kind mask)) from (from + length (placesOf kind mask)) old out
+    unfolding members
+    slots-compact d =
+        as-places (λ i. getD sums i nan) (members mask) (from + length (members mask)) (sym (compact-places kind mask d)) (ap (λ (n : ℕ). from + n) (sym (compact-length d)))
+        (map-kept (λ i. getD sums i nan) (λ i. cond (has mask i) (getD sums i nan) zero64) (has mask) 64 (λ i b t. ap (λ (s : Bool). cond s (getD sums i nan) zero64) (sym t)))

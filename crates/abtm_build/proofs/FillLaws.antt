@@ -21,7 +21,7 @@ use Rattle.abtm_build.specs.declared.Cursor.{Cursor}
 use Rattle.abtm_build.specs.Window.{tilesBetween, windowValue, Next, Outside}
 use Rattle.abtm_build.specs.Written.{Wrote}
 use Rattle.abtm_build.proofs.WroteLaws.{wrote-as, tiles-row}
-use Rattle.abtm_build.proofs.EmitLaws.{Emitting, emitting-none, emitting-skip, emitting-more}
+use Rattle.abtm_build.proofs.EmitLaws.{Emitting, emitting-skip, emitting-more}
 
 pub zeros-as : (sums : List Float) (m n : ℕ) → sums ≡ replicate m zero64 → m ≡ n → sums ≡ replicate n zero64
 zeros-as sums m n e h = e ∙ ap (λ (k : ℕ). replicate k zero64) h

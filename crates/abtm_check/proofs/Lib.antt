@@ -1,0 +1,2 @@
+pub mod MetaLaws
+pub mod TilesLaws

@@ -1,11 +1,15 @@
 -- Parts of lists that are mapped or stand side by side. Assumes nothing.
+use mathlib.Core.Bool.{Bool, _&&_}
 use mathlib.Core.List.{List, [], _∷_, map, zip, zipWith}
-use mathlib.Core.Path.{_≡_, refl, sym, ap, _∙_}
-use Prim.Native.Nat.{ℕ, zero, suc, _+_, _<_}
+use mathlib.Core.Path.{_≡_, refl, sym, ap, ap₂, _∙_}
+use Prim.Native.Nat.{ℕ, zero, suc, _+_, _-_, _≤_, _<_}
 use native.Mathlib.Nat.{not-suc-le-zero}
 use native.Mathlib.Omega.{arith}
-use lib.ListN.{length, getD, take, drop}
-use Rattle.lent.specs.Lists.{part}
+use lib.Dec.{ltb}
+use lib.ListN.{length, getD, take, drop, length-map, List·getD-map}
+use Rattle.lent.specs.Lists.{part, climbs}
+use Rattle.topology.proofs.LastLaws.{climbsOn, climb-more, climb-done}
+use Rattle.abtm.specs.Tiles.{wordIn}
 
 module _ {A B : Type 0} where
   take-map : (f : A → B) (n : ℕ) (l : List A) → take n (map f l) ≡ map f (take n l)
@@ -61,3 +65,14 @@ module _ {A B : Type 0} where
   length-zip [] m e = refl
   length-zip (x ∷ l) [] e = absurd (omega arith)
   length-zip (x ∷ l) (y ∷ m) e = ap suc (length-zip l m (omega arith))
+
+-- ---- the word numbers of metas climb: those from place i on are still to be tested
+
+module _ (ks : List ℕ) (holds : Bool) (i : ℕ) (inv : climbsOn (map wordIn ks) holds i) where
+  pub numbers-more : i < length ks → (a b : ℕ) (r : Bool) → a ≡ wordIn (getD ks (i - 1) 0) → b ≡ wordIn (getD ks i 0) → r ≡ (holds && ltb a b) → climbsOn (map wordIn ks) r (i + 1)
+  numbers-more h a b r p q e =
+      climb-more (map wordIn ks) holds i inv (omega (arith, length-map ks wordIn, h)) r
+      (e ∙ ap₂ (λ (s t : ℕ). holds && ltb s t) (p ∙ sym (List·getD-map wordIn ks (i - 1) 0)) (q ∙ sym (List·getD-map wordIn ks i 0)))
+
+  pub numbers-done : length ks ≤ i → holds ≡ climbs 0 (map wordIn ks)
+  numbers-done h = climb-done (map wordIn ks) holds i inv (omega (arith, length-map ks wordIn, h))

@@ -1,0 +1,4 @@
+pub mod MetaLaws
+pub mod TilesLaws
+pub mod ValueLaws
+pub mod SlotLaws

@@ -1,2 +1,5 @@
+pub mod MetaLaws
+pub mod TilesLaws
 pub mod SumLaws
 pub mod TileLaws
+pub mod RowLaws

@@ -3,3 +3,4 @@ pub mod TilesLaws
 pub mod SumLaws
 pub mod TileLaws
 pub mod RowLaws
+pub mod ProductLaws

@@ -1,0 +1,3 @@
+pub mod MetaLaws
+pub mod TilesLaws
+pub mod JoinLaws

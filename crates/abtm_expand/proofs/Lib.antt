@@ -1,3 +1,4 @@
 pub mod MetaLaws
 pub mod TilesLaws
 pub mod JoinLaws
+pub mod ExpandLaws

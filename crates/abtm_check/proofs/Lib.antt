@@ -2,3 +2,4 @@ pub mod MetaLaws
 pub mod TilesLaws
 pub mod ValueLaws
 pub mod SlotLaws
+pub mod RuleLaws

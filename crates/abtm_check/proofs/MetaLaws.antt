@@ -1,14 +1,15 @@
 -- Parts of lists that are mapped or stand side by side. Assumes nothing.
-use mathlib.Core.Bool.{Bool, _&&_}
+use mathlib.Core.Bool.{Bool, true, _&&_}
 use mathlib.Core.List.{List, [], _∷_, map, zip, zipWith}
 use mathlib.Core.Path.{_≡_, refl, sym, ap, ap₂, _∙_}
-use Prim.Native.Nat.{ℕ, zero, suc, _+_, _-_, _≤_, _<_}
+use Prim.Native.Nat.{ℕ, zero, suc, _+_, _-_, _^_, _≤_, _<_}
 use native.Mathlib.Nat.{not-suc-le-zero}
 use native.Mathlib.Omega.{arith}
 use lib.Dec.{ltb}
 use lib.ListN.{length, getD, take, drop, length-map, List·getD-map}
-use Rattle.lent.specs.Lists.{part, climbs}
-use Rattle.topology.proofs.LastLaws.{climbsOn, climb-more, climb-done}
+use Rattle.lent.specs.Lists.{part, every, climbs}
+use Rattle.topology.specs.Words.{wordRule, rowRule}
+use Rattle.topology.proofs.LastLaws.{climbsOn, climb-more, climb-done, nonzero, row-by-last}
 use Rattle.abtm.specs.Tiles.{wordIn}
 
 module _ {A B : Type 0} where
@@ -76,3 +77,20 @@ module _ (ks : List ℕ) (holds : Bool) (i : ℕ) (inv : climbsOn (map wordIn ks
 
   pub numbers-done : length ks ≤ i → holds ≡ climbs 0 (map wordIn ks)
   numbers-done h = climb-done (map wordIn ks) holds i inv (omega (arith, length-map ks wordIn, h))
+
+-- ---- a row of metas and masks: the last one decides
+
+pub number-small : (m a b : ℕ) → a ≡ wordIn m → b ≡ a → b < 2 ^ 32
+number-small m a b e f = omega (arith, e, f)
+
+pub row-by-last-meta : (n : ℕ) (ks ms : List ℕ) → length ms ≡ length ks → ((k : ℕ) → getD ms k 0 < 2 ^ 64) → (length ks ≡ 0 → ⊥) → true ≡ climbs 0 (map wordIn ks) → true ≡ every nonzero ms
+    → (w a : ℕ) (r : Bool) → w ≡ wordIn (getD ks (length ks - 1) 0) → a ≡ w → r ≡ wordRule n (a, getD ms (length ks - 1) 0) → r ≡ rowRule n (map wordIn ks) ms
+row-by-last-meta n ks ms s t z c f w a r ew ea er =
+    let l : length (map wordIn ks) ≡ length ks = length-map ks wordIn in
+    row-by-last n (map wordIn ks) ms (s ∙ sym l) t (λ e. z (sym l ∙ e)) c f a r
+    (ea ∙ ew ∙ sym (List·getD-map wordIn ks (length ks - 1) 0) ∙ ap (λ (j : ℕ). getD (map wordIn ks) (j - 1) 0) (sym l))
+    (er ∙ ap (λ (j : ℕ). wordRule n (a, getD ms (j - 1) 0)) (sym l))
+
+-- what a row's parts are told to keep, of the row
+pub row-told : (n : ℕ) (ptr ks ms : List ℕ) (r : ℕ) (xs ys : List ℕ) → xs ≡ part ptr ks r → ys ≡ part ptr ms r → (b : Bool) → b ≡ rowRule n (map wordIn xs) ys → b ≡ rowRule n (part ptr (map wordIn ks) r) (part ptr ms r)
+row-told n ptr ks ms r xs ys p q b e = e ∙ ap₂ (λ (s t : List ℕ). rowRule n s t) (ap (map wordIn) p ∙ sym (part-map ptr wordIn ks r)) q

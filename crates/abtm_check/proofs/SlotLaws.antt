@@ -1,11 +1,11 @@
 -- The rules of a tile's values, and those of all tiles as a loop over them finds: what is left decides. Assumes nothing.
-use mathlib.Core.Bool.{Bool, true, false, not, cond, _&&_, and-true, and-false, false≢true}
+use mathlib.Core.Bool.{Bool, true, false, not, cond, _&&_, and-true, and-false}
 use mathlib.Core.List.{List, [], _∷_, map, zip, zipWith}
 use mathlib.Core.Path.{_≡_, refl, sym, ap, ap₂, _∙_}
 use Prim.Native.Nat.{ℕ, zero, suc, _+_, _-_, _*_, _%_, _^_, _≤_, _<_}
 use native.Mathlib.Numerals.{add-one}
 use native.Mathlib.Omega.{arith}
-use lib.Dec.{eqb, leb, ltb}
+use lib.Dec.{eqb, ltb}
 use lib.ListN.{length, getD, take, drop, length-drop, drop-of-length-le}
 use lib.Seq.{slice, drop-cons, length-take-le}
 use lib.Ieee.{Float, nan}
@@ -17,7 +17,7 @@ use Rattle.word.specs.Bits.{has, from, below, members}
 use Rattle.word.proofs.BitLaws.{every-below}
 use Rattle.csr32.specs.Csr.{Entry}
 use Rattle.abtm.specs.Values.{solid, plusZero}
-use Rattle.abtm.specs.Tiles.{Tile, Listed, wordIn, kindIn, placesOf, places, slotCount, stored, valueRule, tileAt, tileRule, gapless, slotRules}
+use Rattle.abtm.specs.Tiles.{Tile, Listed, wordIn, kindIn, placesOf, places, stored, valueRule, tileAt, tileRule, gapless, slotRules}
 use Rattle.abtm.proofs.KindLaws.{dense-places, compact-places}
 use Rattle.abtm_check.proofs.MetaLaws.{getD-zip, length-zip}
 use Rattle.abtm_check.proofs.TilesLaws.{gapless-le}

@@ -5,10 +5,10 @@ use mathlib.Core.Path.{_≡_, refl, sym, ap, _∙_}
 use Prim.Native.Nat.{ℕ, zero, suc, _+_, _-_, _*_, _/_, _^_, _<_}
 use native.Mathlib.Nat.{zero-mul, zero-div, mul-pos, zero-lt-suc}
 use native.Mathlib.Omega.{arith}
-use lib.Dec.{T, eqb, eqb·suc-zero, ltb}
+use lib.Dec.{T, eqb, eqb·suc-zero}
 use lib.ListN.{getD}
 use lib.IntN.{ℤ}
-use lib.Ieee.{Float, nan, inf, fin, binary64, up, down, low, prec, hid, top, lt, eq, isNan, below, size, span, climb, ofBits, toBits}
+use lib.Ieee.{Float, nan, inf, fin, binary64, up, down, low, hid, top, lt, eq, isNan, below, size, span, climb, ofBits, toBits}
 use lib.Ieee.Fits.{up-pos}
 use borrow.Author.Tests.{lt-ltb, le-ltb}
 use Rattle.word.specs.Bits.{has}

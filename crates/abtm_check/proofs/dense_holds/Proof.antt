@@ -1,13 +1,10 @@
 -- `abtm_check::dense_holds` meets its contract. Assumes nothing.
 use Prim.Native.Nat.{_-_}
-use mathlib.Core.Bool.{Bool, true, cond}
-use mathlib.Core.Path.{_≡_, _∙_, ap}
-use lib.Ieee.{nan}
-use lib.ListN.{getD}
+use mathlib.Core.Bool.{true}
+use mathlib.Core.Path.{_≡_}
 use Rattle.hybit_core.proofs.BoolLaws.{flag-on, flag-off}
 use Rattle.lent.specs.Lists.{every}
-use Rattle.word.specs.Bits.{has, from, below}
-use Rattle.abtm.specs.Values.{solid, plusZero}
+use Rattle.word.specs.Bits.{from, below}
 use Rattle.topology.proofs.ScanLaws.{rows-none, rows-more, rows-fail, rows-done}
 use Rattle.abtm_check.proofs.ValueLaws.{placeHolds, place-held}
 use borrow.Author.Needs.{needs}

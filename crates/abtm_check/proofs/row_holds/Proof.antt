@@ -1,69 +1,56 @@
+-- `abtm_check::row_holds` meets its contract. Assumes nothing.
+use mathlib.Core.List.{map}
+use mathlib.Core.Path.{sym, _∙_}
+use lib.ListN.{length-map}
+use Rattle.hybit_core.proofs.BoolLaws.{flag-on, flag-off}
+use Rattle.abtm.specs.Tiles.{wordIn}
+use Rattle.topology.proofs.LastLaws.{row-empty, row-not-climbing, row-with-empty}
+use Rattle.abtm_check.proofs.MetaLaws.{row-by-last-meta, number-small}
 use borrow.Author.Needs.{needs}
 use Rattle.abtm_check.proofs.row_holds.Statement.{statement}
 use Rattle.abtm_check.proofs.row_holds.Tie as tie
-use Rattle.abtm_check.proofs.row_holds.Reads as reads
-use Rattle.abtm_check.proofs.row_holds.Lts as lts
-use Rattle.abtm.proofs.word_in.Reads as word-in-reads
-use Rattle.abtm_check.proofs.masks_hold.Reads as masks-hold-reads
-use Rattle.abtm_check.proofs.numbers_climb.Reads as numbers-climb-reads
-use Rattle.abtm_check.proofs.word_holds.Reads as word-holds-reads
-use Rattle.hybit_core.proofs.wide.Reads as wide-reads
 
--- src/lib.rt:180:9
 returns : tie.Need-returns
-returns c = search needs
+returns c = row-empty _ (map wordIn (c .before .before .before .args .metas .now)) _ (length-map (c .before .before .before .args .metas .now) wordIn ∙ c .if1 .taken)
 
--- src/lib.rt:182:9
 numbers-climb-requires : tie.Need-numbers-climb-requires
 numbers-climb-requires c κs = search needs
 
--- src/lib.rt:183:9
 returns-2 : tie.Need-returns-2
-returns-2 c = search needs
+returns-2 c = row-not-climbing _ _ _ (flag-off _ _ (c .before .numbers-climb .ensures) (c .if2 .taken))
 
--- src/lib.rt:185:9
 masks-hold-requires : tie.Need-masks-hold-requires
 masks-hold-requires c κs = search needs
 
--- src/lib.rt:186:9
 returns-3 : tie.Need-returns-3
-returns-3 c = search needs
+returns-3 c = row-with-empty _ (map wordIn (c .before .before .before .before .before .before .before .args .metas .now)) _ (c .before .before .before .before .before .before .before .pre ∙ sym (length-map (c .before .before .before .before .before .before .before .args .metas .now) wordIn)) (flag-off _ _ (c .before .masks-hold .ensures) (c .if3 .taken))
 
--- src/lib.rt:188:16
 sub-last : tie.Need-sub-last
 sub-last c = search needs
 
--- src/lib.rt:191:40
 mul-word-in : tie.Need-mul-word-in
 mul-word-in c = search needs
 
--- src/lib.rt:191:40
 shared-slice-read-word-in : tie.Need-shared-slice-read-word-in
 shared-slice-read-word-in c = search needs
 
--- src/lib.rt:191:26
 word-in-requires : tie.Need-word-in-requires
 word-in-requires c κs = search needs
 
--- src/lib.rt:191:9
 wide-requires : tie.Need-wide-requires
 wide-requires c κs = search needs
 
--- src/lib.rt:192:9
 mul-word-holds : tie.Need-mul-word-holds
 mul-word-holds c = search needs
 
--- src/lib.rt:192:9
 shared-slice-read-word-holds : tie.Need-shared-slice-read-word-holds
 shared-slice-read-word-holds c = search needs
 
--- src/lib.rt:189:5
 word-holds-requires : tie.Need-word-holds-requires
-word-holds-requires c κs = search needs
+word-holds-requires c κs = number-small _ _ _ (c .before .before .word-in .ensures) (c .before .wide .ensures)
 
--- src/lib.rt:175:1
 returns-4 : tie.Need-returns-4
-returns-4 c = search needs
+returns-4 c = row-by-last-meta _ (c .before .before .before .before .before .before .before .before .before .before .before .before .args .metas .now) _ (c .before .before .before .before .before .before .before .before .before .before .before .before .pre) (λ k. c .before .before .before .before .before .before .before .before .before .before .before .shared-slice-known .given k .fits) (c .before .before .before .before .before .before .before .before .before .if1 .left) (flag-on _ _ (c .before .before .before .before .before .before .before .before .numbers-climb .ensures) (c .before .before .before .before .before .before .before .if2 .left)) (flag-on _ _ (c .before .before .before .before .before .before .masks-hold .ensures) (c .before .before .before .before .before .if3 .left)) _ _ _ (c .before .before .before .word-in .ensures) (c .before .before .wide .ensures) (c .word-holds .ensures)
 
 pub row-holds-spec : {M : Type 1} → statement M
 row-holds-spec =

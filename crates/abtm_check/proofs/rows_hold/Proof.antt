@@ -1,53 +1,57 @@
+-- `abtm_check::rows_hold` meets its contract. Assumes nothing.
+use Prim.Native.Nat.{_-_}
+use mathlib.Core.Bool.{true}
+use mathlib.Core.List.{map}
+use mathlib.Core.Path.{_≡_, sym, ap, _∙_}
+use lib.ListN.{length}
+use Rattle.hybit_core.proofs.BoolLaws.{flag-on, flag-off}
+use Rattle.lent.specs.Lists.{every, part}
+use Rattle.word.specs.Bits.{from}
+use Rattle.csr32.proofs.FrameLaws.{row-left, row-right, lists-sides, part-lengths}
+use Rattle.topology.specs.Words.{asWords, rowRule, rowRules}
+use Rattle.topology.proofs.ScanLaws.{rows-none, rows-more, rows-fail, rows-done}
+use Rattle.abtm.specs.Tiles.{wordIn}
+use Rattle.abtm_check.proofs.MetaLaws.{row-told}
 use borrow.Author.Needs.{needs}
 use Rattle.abtm_check.proofs.rows_hold.Statement.{statement}
 use Rattle.abtm_check.proofs.rows_hold.Tie as tie
-use Rattle.abtm_check.proofs.rows_hold.Reads as reads
-use Rattle.abtm_check.proofs.rows_hold.Lts as lts
-use Rattle.abtm_check.proofs.masks_of.Reads as masks-of-reads
-use Rattle.abtm_check.proofs.numbers_of.Reads as numbers-of-reads
-use Rattle.abtm_check.proofs.row_holds.Reads as row-holds-reads
 
 abbrev Inv-loop : tie.InvT-loop
-Inv-loop nrows ncols row-tile-ptr masks metas row₀ row = ?
+Inv-loop nrows ncols row-tile-ptr masks metas row₀ row = rowRules (asWords nrows ncols row-tile-ptr (map wordIn metas) masks 0) ≡ every (λ r. rowRule ncols (part row-tile-ptr (map wordIn metas) r) (part row-tile-ptr masks r)) (from (λ r. true) row (nrows - row))
 
 abbrev μ-loop : tie.MeasureT-loop
-μ-loop nrows ncols row-tile-ptr masks metas row₀ row = ?
+μ-loop nrows ncols row-tile-ptr masks metas row₀ row = nrows - row
 
--- src/lib.rt:220:5
 loop-holds : tie.Need-loop-holds Inv-loop μ-loop
-loop-holds c = search needs
+unfolding rowRules
+loop-holds c = rows-none _ _
 
--- src/lib.rt:221:13
 numbers-of-requires : tie.Need-numbers-of-requires Inv-loop μ-loop
-numbers-of-requires c κs = search needs
+numbers-of-requires c κs = row-left _ _ _ _ (c .before .before .before .before .before .pre) _ (search needs)
 
--- src/lib.rt:222:30
 masks-of-requires : tie.Need-masks-of-requires Inv-loop μ-loop
-masks-of-requires c κs = search needs
+masks-of-requires c κs = row-right _ _ _ _ (c .before .before .before .before .before .before .pre) _ (search needs)
 
--- src/lib.rt:222:13
 row-holds-requires : tie.Need-row-holds-requires Inv-loop μ-loop
-row-holds-requires c κs = search needs
+row-holds-requires c κs = ap length (c .masks-of .ensures) ∙ part-lengths _ _ _ _ (sym (lists-sides _ _ _ _ (c .before .before .before .before .before .before .before .pre))) ∙ sym (ap length (c .before .numbers-of .ensures))
 
--- src/lib.rt:223:13
 returns : tie.Need-returns Inv-loop μ-loop
-returns c = search needs
+unfolding rowRules
+returns c = rows-fail _ _ _ (c .before .before .before .before .before .loop .inv) (search needs) (flag-off _ _ (row-told _ _ (c .before .before .before .before .before .before .before .before .before .args .metas .now) _ _ _ _ (c .before .before .before .numbers-of .ensures) (c .before .before .masks-of .ensures) _ (c .before .row-holds .ensures)) (c .if1 .taken))
 
--- src/lib.rt:225:9
 add-row : tie.Need-add-row Inv-loop μ-loop
 add-row c = search needs
 
--- src/lib.rt:220:5
 loop-less : tie.Need-loop-less Inv-loop μ-loop
 loop-less c = search needs
 
--- src/lib.rt:220:5
 loop-again : tie.Need-loop-again Inv-loop μ-loop
-loop-again c = search needs
+unfolding rowRules
+loop-again c = rows-more _ _ _ (c .before .before .before .before .before .loop .inv) (search needs) (flag-on _ _ (row-told _ _ (c .before .before .before .before .before .before .before .before .before .args .metas .now) _ _ _ _ (c .before .before .before .numbers-of .ensures) (c .before .before .masks-of .ensures) _ (c .before .row-holds .ensures)) (c .if1 .left))
 
--- src/lib.rt:215:1
 returns-2 : tie.Need-returns-2 Inv-loop μ-loop
-returns-2 c = search needs
+unfolding rowRules
+returns-2 c = rows-done _ _ _ (c .before .loop .inv) (search needs)
 
 pub rows-hold-spec : {M : Type 1} → statement M
 rows-hold-spec =

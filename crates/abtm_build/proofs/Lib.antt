@@ -1,3 +1,6 @@
+pub mod WindowLaws
+pub mod WordLaws
+pub mod EmitLaws
 pub mod WroteLaws
 pub mod RowsLaws
 pub mod FewLaws

@@ -5,26 +5,28 @@ use mathlib.Core.Path.{_≡_, refl, sym, ap, ap₂, subst, _∙_}
 use Prim.Native.Nat.{ℕ, suc, _+_, _-_, _*_, _/_, _%_, _^_, _≤_, _<_}
 use native.Mathlib.Omega.{arith}
 use lib.Dec.{eqb, leb}
-use lib.ListN.{length, getD, set, length-map}
+use lib.ListN.{length, getD, take, drop, set, length-map, length-drop}
+use lib.Seq.{length-take-le, getD-take, getD-drop}
 use lib.Ieee.{Float, nan}
 use borrow.Author.Tests.{ne-eqb}
 use Rattle.hybit_core.specs.Floats.{zero64}
 use Rattle.lent.specs.Lists.{consIf, spread}
 use Rattle.lent.specs.Lent.{Appended}
 use Rattle.lent.proofs.LentLaws.{appended-none, appended-snoc}
-use Rattle.word.specs.Bits.{has, between, count, wordOf}
-use Rattle.word.proofs.BelowLaws.{between-none, between-cons}
+use Rattle.word.specs.Bits.{has, below, between, count, wordOf}
+use Rattle.word.proofs.BelowLaws.{length-below-le, between-none, between-cons, between-block}
 use Rattle.word.proofs.OpLaws.{word-cong}
 use Rattle.topology.specs.Words.{setBits}
 use Rattle.topology.proofs.ScanLaws.{bits-one}
+use Rattle.topology.proofs.CallLaws.{bits-le}
 use Rattle.abtm.specs.declared.AbtmConfig.{AbtmConfig}
 use Rattle.abtm.specs.Values.{isZero}
 use Rattle.abtm.specs.Tiles.{Tile, placesOf, places, kindOf, metaOf, tileOf, laid, masksOf, metasOf, offsetsOf, slotsOf}
 use Rattle.abtm_build.specs.declared.Cursor.{Cursor}
-use Rattle.abtm_build.specs.Window.{maskAt, hitAt, tilesBetween, windowValue}
-use Rattle.abtm_build.specs.Written.{Laid, Wrote, Lists}
-use Rattle.abtm_build.proofs.RowsLaws.{places-few}
-use Rattle.abtm_build.proofs.WroteLaws.{wrote-none, wrote-as}
+use Rattle.abtm_build.specs.Window.{maskAt, hitAt, tilesBetween, windowValue, Marked}
+use Rattle.abtm_build.specs.Written.{Laid, Wrote, Bounded, Lists}
+use Rattle.abtm_build.proofs.RowsLaws.{places-few, slots-few}
+use Rattle.abtm_build.proofs.WroteLaws.{wrote-none, wrote-join, wrote-as, tiles-split, tiles-skip, tiles-cong}
 
 -- ---- one tile
 
@@ -165,3 +167,104 @@ module _ (h : AbtmConfig) (n : ℕ) (sums : List Float) (mask : ℕ) where
           (λ _ _. laid-one tileHere at next ms os ks vs out mask offset (kind * 1073741824 + low) counted refl g d (omega arith) (omega arith) (omega arith)
           (subst (λ (j : ℕ). Appended (map (λ i. cond (has mask i) (getD sums i nan) zero64) (placesOf j mask)) (at .slots) (next .slots) vs out) kind-is
           (subst (λ (j : ℕ). Appended (map (λ i. cond (has mask i) (getD sums i nan) zero64) (placesOf kind mask)) (at .slots) j vs out) q a)))
+
+-- ---- the tiles of the words from a up to b are written
+
+pub record Emitting (h : AbtmConfig) (v : ℕ → Float) (a b : ℕ) (from at : Cursor) (ms₀ ms os₀ os ks₀ ks : List ℕ) (vs₀ vs : List Float) : Type 0 where
+  pub ordered : a ≤ b
+  pub wrote : Wrote (tilesBetween h v a b) from at ms₀ ms os₀ os ks₀ ks vs₀ vs
+  pub same-masks : length ms ≡ length ms₀
+  pub same-offsets : length os ≡ length os₀
+  pub same-metas : length ks ≡ length ks₀
+  pub same-vals : length vs ≡ length vs₀
+
+between-le : (p : ℕ → Bool) (a b : ℕ) → a ≤ b → length (between p a b) ≤ b - a
+between-le p a b o =
+    let e : a + (b - a) ≡ b = omega arith in
+    let l : length (between p a b) ≡ length (below (λ i. p (a + i)) (b - a)) = ap (λ (n : ℕ). length (between p a n)) (sym e) ∙ ap length (between-block p (λ i. p (a + i)) a (b - a) (λ i l. refl)) ∙ length-map (below (λ i. p (a + i)) (b - a)) (λ (n : ℕ). a + n) in
+    omega (arith, l, length-below-le (λ i. p (a + i)) (b - a))
+
+module _ (h : AbtmConfig) (v : ℕ → Float) (a : ℕ) where
+  pub emitting-none : (b : ℕ) (at : Cursor) (ms os ks : List ℕ) (vs : List Float) → b ≡ a → Emitting h v a b at at ms ms os os ks ks vs vs
+  emitting-none b at ms os ks vs e = record {
+    ordered = omega arith;
+    wrote = wrote-as [] (tilesBetween h v a b) at at ms ms os os ks ks vs vs (sym (tiles-skip h v a b (λ c l u. absurd (omega arith)))) (wrote-none at ms os ks vs);
+    same-masks = refl;
+    same-offsets = refl;
+    same-metas = refl;
+    same-vals = refl;
+  }
+
+  module _ (m : ℕ) (from mid : Cursor) (ms₀ ms₁ os₀ os₁ ks₀ ks₁ : List ℕ) (vs₀ vs₁ : List Float) (inv : Emitting h v a m from mid ms₀ ms₁ os₀ os₁ ks₀ ks₁ vs₀ vs₁) where
+    pub emitting-done : (b : ℕ) → m ≡ b → Wrote (tilesBetween h v a b) from mid ms₀ ms₁ os₀ os₁ ks₀ ks₁ vs₀ vs₁
+    emitting-done b e = wrote-as (tilesBetween h v a m) (tilesBetween h v a b) from mid ms₀ ms₁ os₀ os₁ ks₀ ks₁ vs₀ vs₁ (ap (tilesBetween h v a) e) (inv .wrote)
+
+    -- words of zeros
+    pub emitting-skip : (b : ℕ) → m ≤ b → ((c : ℕ) → 64 * m ≤ c → c < 64 * b → v c ≡ zero64) → Emitting h v a b from mid ms₀ ms₁ os₀ os₁ ks₀ ks₁ vs₀ vs₁
+    emitting-skip b o z = record {
+      ordered = omega (arith, inv .ordered);
+      wrote = wrote-as (tilesBetween h v a m) (tilesBetween h v a b) from mid ms₀ ms₁ os₀ os₁ ks₀ ks₁ vs₀ vs₁
+          (sym (tiles-split h v a m b (inv .ordered) o ∙ ap (λ (l : List Tile). tilesBetween h v a m ++ l) (tiles-skip h v m b z) ∙ append-nil (tilesBetween h v a m))) (inv .wrote);
+      same-masks = inv .same-masks;
+      same-offsets = inv .same-offsets;
+      same-metas = inv .same-metas;
+      same-vals = inv .same-vals;
+    }
+
+    -- the words from m up to b, which a callee wrote
+    pub emitting-more : (u : ℕ → Float) (k n b : ℕ) (to : Cursor) (ms₂ os₂ ks₂ : List ℕ) (vs₂ : List Float) → k ≡ m → n ≡ b → m ≤ b → ((c : ℕ) → 64 * m ≤ c → c < 64 * b → u c ≡ v c)
+        → length ms₂ ≡ length ms₁ → length os₂ ≡ length os₁ → length ks₂ ≡ length ks₁ → length vs₂ ≡ length vs₁
+        → Wrote (tilesBetween h u k n) mid to ms₁ ms₂ os₁ os₂ ks₁ ks₂ vs₁ vs₂ → Emitting h v a b from to ms₀ ms₂ os₀ os₂ ks₀ ks₂ vs₀ vs₂
+    emitting-more u k n b to ms₂ os₂ ks₂ vs₂ e f o same lm lo lk lv w = record {
+      ordered = omega (arith, inv .ordered);
+      wrote = wrote-as (tilesBetween h v a m ++ tilesBetween h v m b) (tilesBetween h v a b) from to ms₀ ms₂ os₀ os₂ ks₀ ks₂ vs₀ vs₂ (sym (tiles-split h v a m b (inv .ordered) o))
+          (wrote-join (tilesBetween h v a m) (tilesBetween h v m b) from mid to ms₀ ms₁ ms₂ os₀ os₁ os₂ ks₀ ks₁ ks₂ vs₀ vs₁ vs₂ (inv .same-masks) (inv .same-vals) (inv .wrote)
+          (wrote-as (tilesBetween h u k n) (tilesBetween h v m b) mid to ms₁ ms₂ os₁ os₂ ks₁ ks₂ vs₁ vs₂ (ap₂ (λ (x y : ℕ). tilesBetween h u x y) e f ∙ tiles-cong h u v m b o same) w));
+      same-masks = lm ∙ inv .same-masks;
+      same-offsets = lo ∙ inv .same-offsets;
+      same-metas = lk ∙ inv .same-metas;
+      same-vals = lv ∙ inv .same-vals;
+    }
+
+    -- at most one tile for each word, with at most 64 values
+    pub emitting-bounded : (few more : ℕ) → Bounded few from → few + (m - a) ≤ more → Bounded more mid
+    unfolding tilesBetween
+    emitting-bounded few more b o =
+        let words : List ℕ = between (hitAt v) a m in
+        let w : length words ≤ m - a = between-le (hitAt v) a m (inv .ordered) in
+        let t : length (tilesBetween h v a m) ≡ length words = length-map words (λ w. tileOf h v (maskAt v w) w) in
+        record {
+          tiles-in = omega (arith, w, t, inv .wrote .tiles-are, b .tiles-in);
+          slots-in = omega (arith, w, slots-few h v (maskAt v) words, inv .wrote .slots-are, b .slots-in);
+          nnz-in = omega (arith, w, t, bits-le (masksOf (tilesBetween h v a m)), length-map (tilesBetween h v a m) (λ (e : Tile). e .mask), inv .wrote .nnz-are, b .nnz-in);
+        }
+
+    pub emitting-lists : Lists (length ms₀) (length os₀) (length ks₀) (length vs₀) → Lists (length ms₁) (length os₁) (length ks₁) (length vs₁)
+    emitting-lists l = record {
+      offsets-same = omega (arith, l .offsets-same, inv .same-offsets, inv .same-masks);
+      metas-same = omega (arith, l .metas-same, inv .same-metas, inv .same-masks);
+      few-tiles = omega (arith, l .few-tiles, inv .same-masks);
+      few-slots = omega (arith, l .few-slots, inv .same-vals);
+    }
+
+-- ---- the words of a window
+
+module _ (first : ℕ) (sums : List Float) where
+  -- the sums of word w, as they are lent
+  pub lent-length : (w : ℕ) → 64 * w + 64 ≤ length sums → length (take (64 * w + 64 - 64 * w) (drop (64 * w) sums)) ≡ 64
+  lent-length w h = let e : 64 * w + 64 - 64 * w ≡ 64 = omega arith in length-take-le (64 * w + 64 - 64 * w) (drop (64 * w) sums) (omega (arith, length-drop (64 * w) sums)) ∙ e
+
+  pub lent-value : (w c : ℕ) → 64 * (first + w) ≤ c → c < 64 * (first + (w + 1)) → windowValue (64 * (first + w)) (take (64 * w + 64 - 64 * w) (drop (64 * w) sums)) c ≡ windowValue (64 * first) sums c
+  lent-value w c l u =
+      let e : 64 * w + (c - 64 * (first + w)) ≡ c - 64 * first = omega arith in
+      getD-take (64 * w + 64 - 64 * w) (drop (64 * w) sums) (c - 64 * (first + w)) nan (omega arith)
+      ∙ getD-drop (64 * w) sums (c - 64 * (first + w)) nan
+      ∙ ap (λ (k : ℕ). getD sums k nan) e
+
+  -- where a mark is 0
+  module _ (marks : List ℕ) where
+    pub word-zeros : Marked 64 sums marks → (w c : ℕ) → 64 * w + 64 ≤ length sums → getD marks w 0 ≡ 0 → 64 * (first + w) ≤ c → c < 64 * (first + (w + 1)) → windowValue (64 * first) sums c ≡ zero64
+    word-zeros m w c h z l u = let e : (c - 64 * first) / 64 ≡ w = omega arith in m .zeros (c - 64 * first) (omega arith) (ap (λ (k : ℕ). getD marks k 0) e ∙ z)
+
+    pub block-zeros : Marked 4096 sums marks → (b c : ℕ) → 4096 * b + 4096 ≤ length sums → getD marks b 0 ≡ 0 → 64 * (first + 64 * b) ≤ c → c < 64 * (first + 64 * (b + 1)) → windowValue (64 * first) sums c ≡ zero64
+    block-zeros m b c h z l u = let e : (c - 64 * first) / 4096 ≡ b = omega arith in m .zeros (c - 64 * first) (omega arith) (ap (λ (k : ℕ). getD marks k 0) e ∙ z)

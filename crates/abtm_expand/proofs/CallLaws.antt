@@ -19,7 +19,7 @@ use Rattle.lent.specs.Lent.{padded}
 use Rattle.lent.specs.Lists.{each}
 use Rattle.lent.proofs.LentLaws.{cleared-front}
 use Rattle.word.specs.Bits.{maskOf, ceil64}
-use Rattle.mask.specs.Mask.{Mask, asMask, maskWords, maskRules, maskAnswer}
+use Rattle.mask.specs.Mask.{asMask, maskWords, maskRules, maskAnswer}
 use Rattle.mask.proofs.MaskLaws.{checked}
 use Rattle.abtm.specs.Tiles.{Tiles, tileSizes, tilesRules, tilesAnswer}
 use Rattle.abtm_expand.specs.Expand.{expandAnswer}

@@ -1,16 +1,16 @@
 -- Words copied, and words that tile masks are joined into, on the way. Assumes nothing.
 use mathlib.Core.Bool.{Bool, true, false, _&&_, _||_, or-false}
 use mathlib.Core.List.{List, [], _∷_, _++_, zip}
-use mathlib.Core.Path.{_≡_, refl, sym, ap, ap₂, _∙_}
-use Prim.Native.Nat.{ℕ, suc, _+_, _≤_, _<_, _^_}
+use mathlib.Core.Path.{_≡_, refl, sym, ap, _∙_}
+use Prim.Native.Nat.{ℕ, _+_, _≤_, _<_, _^_}
 use native.Mathlib.Numerals.{add-one}
 use native.Mathlib.Omega.{arith}
 use lib.Dec.{eqb, ltb}
-use lib.ListN.{length, getD, take, set, length-set}
+use lib.ListN.{length, getD, take, set}
 use lib.Seq.{take-suc, take-all}
 use borrow.Author.Tests.{ltb-true, eq-eqb, ne-eqb}
 use Rattle.lent.specs.Lists.{each, every, some}
-use Rattle.lent.proofs.ListLaws.{length-each, getD-each, each-is, each-set, each-cong, every-getD, some-none, some-snoc}
+use Rattle.lent.proofs.ListLaws.{length-each, getD-each, each-is, each-set, every-getD, some-none, some-snoc}
 use Rattle.lent.proofs.LentLaws.{Filled, filled-none, filled-length, filled-more, filled-done}
 use Rattle.word.specs.Bits.{has, wordOf}
 use Rattle.word.proofs.OpLaws.{word-is, has-word, word-cong}
@@ -90,9 +90,9 @@ module _ (masks metas old : List ℕ) where
         this-word b u q =
             q ∙ word-cong (λ i. has (getD new index 0) i || has (getD masks k 0) i) (λ i. has (getD old index 0) i || inWord (take (k + 1) (zip masks metas)) index i)
             (λ i l.
-                ap (λ (t : Bool). t || has (getD masks k 0) i) (before i l)
-                ∙ or-assoc (has (getD old index 0) i) (inWord (take k (zip masks metas)) index i) (has (getD masks k 0) i)
-                ∙ sym (ap (λ (t : Bool). has (getD old index 0) i || t) (bit-more index i ∙ ap (λ (t : Bool). inWord (take k (zip masks metas)) index i || (t && has (getD masks k 0) i)) (eq-eqb index index refl))))
+            ap (λ (t : Bool). t || has (getD masks k 0) i) (before i l)
+            ∙ or-assoc (has (getD old index 0) i) (inWord (take k (zip masks metas)) index i) (has (getD masks k 0) i)
+            ∙ sym (ap (λ (t : Bool). has (getD old index 0) i || t) (bit-more index i ∙ ap (λ (t : Bool). inWord (take k (zip masks metas)) index i || (t && has (getD masks k 0) i)) (eq-eqb index index refl))))
           where
             or-assoc : (s t v : Bool) → ((s || t) || v) ≡ (s || (t || v))
             or-assoc true t v = refl

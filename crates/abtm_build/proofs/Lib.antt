@@ -6,3 +6,5 @@ pub mod WroteLaws
 pub mod RowsLaws
 pub mod FewLaws
 pub mod AnswerLaws
+pub mod NumberLaws
+pub mod BuiltLaws

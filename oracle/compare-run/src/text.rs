@@ -52,18 +52,12 @@ pub fn outcome_line(o: &Outcome) -> String {
 
 /// The places of the call's longest list.
 pub fn longest_list(call: &Call) -> usize {
-    longest(&parts(&mut call.clone()))
+    let lengths = parts(&mut call.clone()).iter().map(length).max();
+    lengths.unwrap_or(0)
 }
 
-pub fn longest_list_below(call: &Below) -> usize {
-    longest(&parts_below(&mut call.clone()))
-}
-
-fn longest(parts: &[Part<'_>]) -> usize {
-    parts.iter().map(length).max().unwrap_or(0)
-}
-
-fn length(part: &Part<'_>) -> usize {
+/// The places of a list, 0 for a number.
+pub fn length(part: &Part<'_>) -> usize {
     match part {
         Part::Sizes(list) => list.len(),
         Part::Nums32(list) => list.len(),

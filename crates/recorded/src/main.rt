@@ -17,6 +17,7 @@ use denimrasp_answers::DenimraspVerdict;
 use hybit_core::HybitError;
 use hybit_core::Verdict;
 use metadata_first::AbtmRowDot;
+use topology::AbtmTopologyWord;
 use word::Operation;
 
 // The places that a recorded list has at most.
@@ -1300,6 +1301,20 @@ fn csr32_all_finite(text: &[u8], at: &mut usize) {
     truth(csr32::all_finite(values));
 }
 
+fn topology_word(text: &[u8], at: &mut usize) {
+    let word_index = hybit_core::narrow(index(text, at));
+    let mask = numeral(text, at);
+    let n = index(text, at);
+    let w = AbtmTopologyWord { word_index, mask };
+    count(denimrasp_answers::count(w.rank(n)));
+    let s = denimrasp_answers::word_selection(w.select(n));
+    truth(s.found);
+    size(s.column);
+    size(w.base_col());
+    size(w.popcount());
+    truth(w.contains_offset(n));
+}
+
 fn topology_count_bits(text: &[u8], at: &mut usize) {
     let mut masks_room = [0u64; ROOM];
     let masks = read_u64(text, at, &mut masks_room);
@@ -1524,7 +1539,8 @@ fn record_calls(call: u64, text: &[u8], at: &mut usize) {
         246 => topology_row_numbers(text, at),
         247 => topology_row_masks(text, at),
         248 => metadata_first_row_part(text, at),
-        _ => metadata_first_report(text, at),
+        249 => metadata_first_report(text, at),
+        _ => topology_word(text, at),
     }
 }
 

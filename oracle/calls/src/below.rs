@@ -36,6 +36,8 @@ pub enum Below {
     RowValues(Store, usize),
     /// The counts of a row dot's report, and its ratios.
     Report(Counts),
+    /// A word of a topology by its number and mask, with an offset that is an ordinal too: its methods.
+    TopologyWord(u32, u64, usize),
 }
 
 /// The calls of one word, in the order of their numbers.
@@ -100,6 +102,7 @@ impl Below {
             Below::RowMasks(..) => 247,
             Below::RowValues(..) => 248,
             Below::Report(..) => 249,
+            Below::TopologyWord(..) => 250,
         }
     }
 }

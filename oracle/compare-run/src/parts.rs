@@ -230,5 +230,6 @@ pub fn parts_below(call: &mut Below) -> Vec<Part<'_>> {
         Below::RowNumbers(w, row) | Below::RowMasks(w, row) => join(words(w), vec![Size(row)]),
         Below::RowValues(s, row) => join(store(s), vec![Size(row)]),
         Below::Report(counts) => counts.iter_mut().map(Size).collect(),
+        Below::TopologyWord(number, mask, n) => vec![Num32(number), Num64(mask), Size(n)],
     }
 }

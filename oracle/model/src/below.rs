@@ -5,7 +5,7 @@ use crate::answer::{
     Checked, NO_SUCH_PLACE, answer, list_bits, need, need_sizes, ratio, truth, verdict,
 };
 use crate::csr32::{part, pointers_hold};
-use crate::words::{WIDTH, offsets};
+use crate::words::{self, WIDTH, offsets};
 use crate::{metadata_first, topology};
 use calls::{Below, Counts, Mask, Outcome, Store, WordCall, Words, WordsRoom, bits};
 use std::collections::BTreeSet;
@@ -33,6 +33,7 @@ pub fn judge_below(call: &Below) -> Outcome {
         Below::RowMasks(words, row) => row_masks(words, *row),
         Below::RowValues(store, row) => row_values(store, *row),
         Below::Report(counts) => report(counts),
+        Below::TopologyWord(number, mask, n) => topology_word(*number, *mask, *n),
     }
 }
 
@@ -174,5 +175,20 @@ fn report(counts: &Counts) -> Outcome {
     let mut outcome = answer(Ok(counts.map(|n| n as u64)));
     outcome.result.push(bits(ratio(skipped, candidates)));
     outcome.result.push(bits(ratio(empty, words)));
+    outcome
+}
+
+/// The rank, which may be refused, then the select, the first column, the ones, whether it has the offset.
+fn topology_word(number: u32, mask: u64, n: usize) -> Outcome {
+    let mut outcome = words::judge_rank(mask, n);
+    let others = [
+        words::judge_select(mask, n),
+        words::judge_base_col(number),
+        words::judge_popcount(mask),
+        words::judge_contains_offset(mask, n),
+    ];
+    for other in others {
+        outcome.result.extend(other.result);
+    }
     outcome
 }

@@ -16,6 +16,7 @@ pub fn calls() -> Vec<Below> {
     lists(&mut all);
     record_parts(&mut all);
     reports(&mut all);
+    topology_words(&mut all);
     all
 }
 
@@ -219,6 +220,18 @@ fn record_parts(all: &mut Vec<Below>) {
         for row in [0, 1, 2, 3, HUGE] {
             all.push(Below::RowValues(s.clone(), row));
         }
+    }
+}
+
+/// The methods of a topology's word: the offsets and ordinals around its end, 7 for a rank above 64.
+fn topology_words(all: &mut Vec<Below>) {
+    for (number, word) in WORDS.into_iter().enumerate() {
+        for n in [0, 1, 2, 3, 4, 31, 32, 62, 63, 64, 65, 128, HUGE] {
+            all.push(Below::TopologyWord(number as u32, word, n));
+        }
+    }
+    for number in [16_383, 67_108_863, 67_108_864, u32::MAX] {
+        all.push(Below::TopologyWord(number, 6, 1));
     }
 }
 

@@ -93,7 +93,7 @@ fn clears(all: &mut Vec<Below>) {
             all.push(Below::ClearF64(floats[..n].to_vec(), from));
         }
     }
-    for from in [0, 1, 31, 1000, 4095, 4096] {
+    for from in [1000, 4095] {
         all.push(Below::ClearU32(vec![7; 4096], from));
     }
     for (rows, words) in [

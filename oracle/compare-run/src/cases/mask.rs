@@ -196,48 +196,35 @@ fn with_words(mut m: Mask, n: usize) -> Mask {
 }
 
 /// The largest mask of all, 16,384 words; one place less, where the last word is trimmed; one more, which is over size. A word
-/// too few, one too many that is 0, the bit at the length.
+/// too few, one too many that is 0, the bit at the length. Two masks of 1,000,000 places, which just fit into a line.
 pub fn long() -> Vec<Call> {
     let m = mostly_empty(MOST);
     let n = MOST / 64;
-    let mut all = vec![
-        Call::MaskCheck(m.clone()),
-        Call::MaskCheck(with_words(m.clone(), n - 1)),
-        Call::MaskCheck(with_words(m.clone(), n + 1)),
-        Call::MaskCheck(mostly_empty(MOST + 1)),
-        Call::MaskCountOnes(m.clone()),
-        Call::MaskIsEmpty(m.clone()),
-        Call::MaskIsEmpty(mask(MOST, &vec![0; n])),
-        Call::MaskContains(m.clone(), MOST - 64),
-        Call::MaskContains(m.clone(), MOST - 1),
-        Call::MaskContains(m.clone(), MOST),
-        Call::MaskSet(m.clone(), MOST - 1, true),
-        Call::MaskSet(m.clone(), MOST, true),
-        Call::MaskOrWord(m.clone(), n - 1, ONES),
-        Call::MaskOrWord(m.clone(), n, ONES),
-        Call::MaskIndices(m.clone(), vec![77; 69]),
-        Call::MaskIndices(m, vec![77; 68]),
-    ];
-    long_builds(&mut all, n);
-    let mut at_length = mostly_empty(MOST - 1);
-    all.push(Call::MaskOrWord(at_length.clone(), n - 1, ONES));
-    all.push(Call::MaskSet(at_length.clone(), MOST - 1, true));
+    let trimmed = mostly_empty(MOST - 1);
+    let mut at_length = trimmed.clone();
     at_length.words[n - 1] |= 1 << 63;
-    all.push(Call::MaskCheck(at_length));
     let (a, mut b) = (mostly_empty(1_000_000), mostly_empty(1_000_000));
     b.words[0] = 1;
     b.words[7000] = 8;
     b.words[15_624] = 3;
-    both(&mut all, &a, &b);
-    all
-}
-
-fn long_builds(all: &mut Vec<Call>, n: usize) {
-    let members = vec![MOST - 1, 0, MOST / 2, 64];
-    all.push(Call::MaskNew(MOST, vec![7; n]));
-    all.push(Call::MaskNew(MOST, vec![7; n - 1]));
-    all.push(Call::MaskNew(MOST - 64, vec![7; n]));
-    all.push(Call::MaskFromIndices(MOST, members.clone(), vec![7; n]));
-    all.push(Call::MaskFromIndices(MOST, members, vec![7; n - 1]));
-    all.push(Call::MaskFromIndices(MOST, vec![MOST], vec![7; n]));
+    vec![
+        Call::MaskCheck(m.clone()),
+        Call::MaskCheck(with_words(m.clone(), n - 1)),
+        Call::MaskCheck(with_words(m.clone(), n + 1)),
+        Call::MaskCheck(mostly_empty(MOST + 1)),
+        Call::MaskCheck(at_length),
+        Call::MaskCountOnes(m.clone()),
+        Call::MaskIsEmpty(m.clone()),
+        Call::MaskIsEmpty(mask(MOST, &vec![0; n])),
+        Call::MaskContains(m.clone(), MOST - 64),
+        Call::MaskContains(m.clone(), MOST),
+        Call::MaskSet(m.clone(), MOST - 1, true),
+        Call::MaskOrWord(trimmed, n - 1, ONES),
+        Call::MaskIndices(m.clone(), vec![77; 69]),
+        Call::MaskIndices(m, vec![77; 68]),
+        Call::MaskNew(MOST, vec![7; n]),
+        Call::MaskFromIndices(MOST, vec![MOST - 1, 0, MOST / 2, 64], vec![7; n]),
+        Call::MaskAndNotAssign(a.clone(), b.clone()),
+        Call::MaskIntersects(a, b),
+    ]
 }

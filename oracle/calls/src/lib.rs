@@ -1,6 +1,10 @@
 //! One call of the library with its whole input, and what a judge says comes of it. Three judges answer the same `Call`: the
 //! library through its C interface, hybit's Rust, and the model written from document 01.
 
+mod below;
+
+pub use below::{Below, WordCall};
+
 #[derive(Clone, Debug, PartialEq)]
 pub struct Mask {
     pub len: usize,
@@ -135,7 +139,11 @@ pub struct Outcome {
 
 /// The bits of an f64, any NaN as one and the same.
 pub fn bits(x: f64) -> u64 {
-    if x.is_nan() { f64::NAN.to_bits() & !(1 << 63) } else { x.to_bits() }
+    if x.is_nan() {
+        f64::NAN.to_bits() & !(1 << 63)
+    } else {
+        x.to_bits()
+    }
 }
 
 impl Call {

@@ -5,6 +5,7 @@
 //! checks stand in the order in which document 01 has them.
 
 mod answer;
+mod below;
 mod csr32;
 mod mask;
 mod metadata_first;
@@ -14,6 +15,7 @@ mod words;
 #[cfg(test)]
 mod tests;
 
+pub use below::judge_below;
 use calls::{Call, Outcome};
 use topology::Operation;
 

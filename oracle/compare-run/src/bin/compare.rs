@@ -1,8 +1,8 @@
-//! `compare --seed N --seconds S [--break CALL]`: the tiny inputs whole, some random ones, the edge of the domain, then
-//! random calls until the seconds are over.
+//! `compare --seed N --seconds S [--break CALL]`: the tiny inputs whole, some random ones, the named cases, the edge of the
+//! domain, then random calls until the seconds are over.
 
 use compare_run::run::{Run, Tally, summary};
-use compare_run::{edge, exhaustive, random, rng::Rng};
+use compare_run::{Sink, cases, edge, exhaustive, random, rng::Rng};
 use judges::ours;
 use std::process::ExitCode;
 use std::time::{Duration, Instant};
@@ -51,6 +51,9 @@ fn work(thread: usize, options: &Options, end: Instant) {
     let mut rng = Rng::new(seed);
     for _ in 0..FIRST_ROUNDS {
         random::round(&mut run, ours::judge, &mut rng);
+    }
+    for call in cases::calls().iter().skip(thread).step_by(THREADS) {
+        run.call(call);
     }
     edge::all(&mut run, ours::judge, thread);
     random::forever(&mut run, ours::judge, &mut rng);

@@ -1,6 +1,7 @@
 //! What is expected is written out by hand from document 01; only `judge` is asked.
 
 mod any_input;
+mod below;
 mod combine;
 mod csr32;
 mod dot;

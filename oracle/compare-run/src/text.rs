@@ -19,6 +19,7 @@ pub fn call_line(call: &Call) -> String {
     for part in parts(&mut call.clone()) {
         match part {
             Part::Size(n) => line.push(*n as u64),
+            Part::Num8(n) => line.push((*n).into()),
             Part::Num32(n) => line.push((*n).into()),
             Part::Num64(n) => line.push(*n),
             Part::Flag(n) => line.push((*n).into()),

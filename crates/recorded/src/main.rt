@@ -1,7 +1,8 @@
-// Replays recorded calls of the C interface. Its input has a call to a line: the call's number and then what it is lent, in
-// decimal, a list as its length and its places, a float as its bits; in blocks of 65,536 bytes, none of whose lines goes on in
-// the next. Its output has for each call what came of it: the refusal's number, expected and actual, the result, and every list
-// that was lent to be written. The expected output is what the Rust or the model of document 01 answered (oracle/record).
+// Replays recorded calls of the C interface, and from number 200 on of the crates below it. Its input has a call to a line: the
+// call's number and then what it is lent, in decimal, a list as its length and its places, a float as its bits; in blocks of
+// 65,536 bytes, none of whose lines goes on in the next. Its output has for each call what came of it: the refusal's number,
+// expected and actual, the result, and every list that was lent to be written. The expected output is what the Rust or the model
+// of document 01 answered (oracle/record).
 ghost use Prim.Native.Nat.{_≤_};
 use denimrasp_answers::DenimraspBool;
 use denimrasp_answers::DenimraspCount;
@@ -13,9 +14,17 @@ use denimrasp_answers::DenimraspTopology;
 use denimrasp_answers::DenimraspTopologyStats;
 use denimrasp_answers::DenimraspTotals;
 use denimrasp_answers::DenimraspVerdict;
+use hybit_core::HybitError;
+use hybit_core::Verdict;
+use metadata_first::AbtmRowDot;
+use topology::AbtmTopologyWord;
+use word::Operation;
 
 // The places that a recorded list has at most.
-const ROOM: usize = 64;
+const ROOM: usize = 4096;
+
+// The places of the words of one mask: one more than a mask of 2^20 has.
+const MASK_ROOM: usize = 16385;
 
 // Ten times v and one digit more, the low 64 bits.
 fn ten_times(v: u64, digit: u8) -> u64 {
@@ -254,7 +263,7 @@ fn show_f64(s: &[f64]) {
 }
 
 fn mask_check(text: &[u8], at: &mut usize) {
-    let mut words_room = [0u64; ROOM];
+    let mut words_room = [0u64; MASK_ROOM];
     let len = index(text, at);
     let words = read_u64(text, at, &mut words_room);
     let r = denimrasp::denimrasp_mask_check(len, words);
@@ -262,7 +271,7 @@ fn mask_check(text: &[u8], at: &mut usize) {
 }
 
 fn mask_contains(text: &[u8], at: &mut usize) {
-    let mut words_room = [0u64; ROOM];
+    let mut words_room = [0u64; MASK_ROOM];
     let len = index(text, at);
     let words = read_u64(text, at, &mut words_room);
     let index = index(text, at);
@@ -271,7 +280,7 @@ fn mask_contains(text: &[u8], at: &mut usize) {
 }
 
 fn mask_count_ones(text: &[u8], at: &mut usize) {
-    let mut words_room = [0u64; ROOM];
+    let mut words_room = [0u64; MASK_ROOM];
     let len = index(text, at);
     let words = read_u64(text, at, &mut words_room);
     let r = denimrasp::denimrasp_mask_count_ones(len, words);
@@ -279,7 +288,7 @@ fn mask_count_ones(text: &[u8], at: &mut usize) {
 }
 
 fn mask_is_empty(text: &[u8], at: &mut usize) {
-    let mut words_room = [0u64; ROOM];
+    let mut words_room = [0u64; MASK_ROOM];
     let len = index(text, at);
     let words = read_u64(text, at, &mut words_room);
     let r = denimrasp::denimrasp_mask_is_empty(len, words);
@@ -287,7 +296,7 @@ fn mask_is_empty(text: &[u8], at: &mut usize) {
 }
 
 fn mask_new(text: &[u8], at: &mut usize) {
-    let mut words_room = [0u64; ROOM];
+    let mut words_room = [0u64; MASK_ROOM];
     let len = index(text, at);
     let words = read_u64(text, at, &mut words_room);
     let r = denimrasp::denimrasp_mask_new(len, words);
@@ -297,7 +306,7 @@ fn mask_new(text: &[u8], at: &mut usize) {
 
 fn mask_from_indices(text: &[u8], at: &mut usize) {
     let mut indices_room = [0usize; ROOM];
-    let mut words_room = [0u64; ROOM];
+    let mut words_room = [0u64; MASK_ROOM];
     let len = index(text, at);
     let indices = read_usize(text, at, &mut indices_room);
     let words = read_u64(text, at, &mut words_room);
@@ -307,7 +316,7 @@ fn mask_from_indices(text: &[u8], at: &mut usize) {
 }
 
 fn mask_set(text: &[u8], at: &mut usize) {
-    let mut words_room = [0u64; ROOM];
+    let mut words_room = [0u64; MASK_ROOM];
     let len = index(text, at);
     let words = read_u64(text, at, &mut words_room);
     let index = index(text, at);
@@ -318,7 +327,7 @@ fn mask_set(text: &[u8], at: &mut usize) {
 }
 
 fn mask_or_word(text: &[u8], at: &mut usize) {
-    let mut words_room = [0u64; ROOM];
+    let mut words_room = [0u64; MASK_ROOM];
     let len = index(text, at);
     let words = read_u64(text, at, &mut words_room);
     let word_index = index(text, at);
@@ -329,7 +338,7 @@ fn mask_or_word(text: &[u8], at: &mut usize) {
 }
 
 fn mask_indices(text: &[u8], at: &mut usize) {
-    let mut words_room = [0u64; ROOM];
+    let mut words_room = [0u64; MASK_ROOM];
     let mut out_room = [0usize; ROOM];
     let len = index(text, at);
     let words = read_u64(text, at, &mut words_room);
@@ -340,8 +349,8 @@ fn mask_indices(text: &[u8], at: &mut usize) {
 }
 
 fn mask_union_assign(text: &[u8], at: &mut usize) {
-    let mut words_room = [0u64; ROOM];
-    let mut other_room = [0u64; ROOM];
+    let mut words_room = [0u64; MASK_ROOM];
+    let mut other_room = [0u64; MASK_ROOM];
     let len = index(text, at);
     let words = read_u64(text, at, &mut words_room);
     let other_len = index(text, at);
@@ -352,8 +361,8 @@ fn mask_union_assign(text: &[u8], at: &mut usize) {
 }
 
 fn mask_intersect_assign(text: &[u8], at: &mut usize) {
-    let mut words_room = [0u64; ROOM];
-    let mut other_room = [0u64; ROOM];
+    let mut words_room = [0u64; MASK_ROOM];
+    let mut other_room = [0u64; MASK_ROOM];
     let len = index(text, at);
     let words = read_u64(text, at, &mut words_room);
     let other_len = index(text, at);
@@ -364,8 +373,8 @@ fn mask_intersect_assign(text: &[u8], at: &mut usize) {
 }
 
 fn mask_and_not_assign(text: &[u8], at: &mut usize) {
-    let mut words_room = [0u64; ROOM];
-    let mut other_room = [0u64; ROOM];
+    let mut words_room = [0u64; MASK_ROOM];
+    let mut other_room = [0u64; MASK_ROOM];
     let len = index(text, at);
     let words = read_u64(text, at, &mut words_room);
     let other_len = index(text, at);
@@ -376,8 +385,8 @@ fn mask_and_not_assign(text: &[u8], at: &mut usize) {
 }
 
 fn mask_intersects(text: &[u8], at: &mut usize) {
-    let mut words_room = [0u64; ROOM];
-    let mut other_room = [0u64; ROOM];
+    let mut words_room = [0u64; MASK_ROOM];
+    let mut other_room = [0u64; MASK_ROOM];
     let len = index(text, at);
     let words = read_u64(text, at, &mut words_room);
     let other_len = index(text, at);
@@ -1134,6 +1143,306 @@ fn metadata_first_accumulate(text: &[u8], at: &mut usize) {
     totals(r);
 }
 
+// The calls from here on are those of the crates below that the C interface doesn't export.
+
+// Document 01's refusal of a number; its expected and actual under 6 alone.
+fn error_of(n: u64, expected: usize, actual: usize) -> HybitError {
+    match n {
+        1 => HybitError::SizeOverflow,
+        2 => HybitError::BadFrame,
+        3 => HybitError::OutsideColumn,
+        4 => HybitError::NotFinite,
+        5 => HybitError::BadMask,
+        6 => HybitError::DimensionMismatch { expected, actual },
+        7 => HybitError::NoSuchPlace,
+        8 => HybitError::FramesDiffer,
+        9 => HybitError::BadThresholds,
+        10 => HybitError::NotSquare,
+        11 => HybitError::BadWords,
+        12 => HybitError::BadStore,
+        _ => HybitError::ShortList,
+    }
+}
+
+fn core_refusal(text: &[u8], at: &mut usize) {
+    let n = numeral(text, at);
+    let expected = index(text, at);
+    let actual = index(text, at);
+    let e = error_of(n, expected, actual);
+    refusal(
+        hybit_core::number(e),
+        hybit_core::expected(e),
+        hybit_core::actual(e),
+    );
+    number(hybit_core::verdict_number(Verdict::Refused(e)) as u64);
+    number(hybit_core::verdict_number(Verdict::Accepted) as u64);
+}
+
+fn core_sizes(text: &[u8], at: &mut usize) {
+    let nrows = index(text, at);
+    let ncols = index(text, at);
+    let left = index(text, at);
+    let right = index(text, at);
+    refusal(0, 0, 0);
+    truth(hybit_core::sizes_fit(nrows, ncols, left, right));
+    truth(hybit_core::dimension_fits(nrows));
+    truth(hybit_core::entries_fit(left));
+    size(hybit_core::MAX_DIMENSION);
+    size(hybit_core::MAX_ENTRIES);
+}
+
+fn core_counts(text: &[u8], at: &mut usize) {
+    let part = numeral(text, at);
+    let whole = numeral(text, at);
+    refusal(0, 0, 0);
+    float(hybit_core::count_as_f64(part));
+    float(hybit_core::ratio(part, whole));
+}
+
+fn core_is_finite(text: &[u8], at: &mut usize) {
+    let x = float_of(numeral(text, at));
+    refusal(0, 0, 0);
+    truth(hybit_core::is_finite(x));
+}
+
+fn core_narrow(text: &[u8], at: &mut usize) {
+    let n = index(text, at);
+    refusal(0, 0, 0);
+    size(hybit_core::wide(hybit_core::narrow(n)));
+}
+
+fn clear_from_u32(text: &[u8], at: &mut usize) {
+    let mut list_room = [0u32; ROOM];
+    let list = read_u32(text, at, &mut list_room);
+    let from = index(text, at);
+    lent::clear_from_u32(list, from);
+    refusal(0, 0, 0);
+    show_u32(list);
+}
+
+fn clear_from_u64(text: &[u8], at: &mut usize) {
+    let mut list_room = [0u64; ROOM];
+    let list = read_u64(text, at, &mut list_room);
+    let from = index(text, at);
+    lent::clear_from_u64(list, from);
+    refusal(0, 0, 0);
+    show_u64(list);
+}
+
+fn clear_from_usize(text: &[u8], at: &mut usize) {
+    let mut list_room = [0usize; ROOM];
+    let list = read_usize(text, at, &mut list_room);
+    let from = index(text, at);
+    lent::clear_from_usize(list, from);
+    refusal(0, 0, 0);
+    show_usize(list);
+}
+
+fn clear_from_f64(text: &[u8], at: &mut usize) {
+    let mut list_room = [0.0f64; ROOM];
+    let list = read_f64(text, at, &mut list_room);
+    let from = index(text, at);
+    lent::clear_from_f64(list, from);
+    refusal(0, 0, 0);
+    show_f64(list);
+}
+
+// A call of a word with an offset, or with a second word.
+fn word_answer(call: u64, a: u64, b: u64) -> u64 {
+    match call {
+        220 => word::ones_below(a, b as usize) as u64,
+        221 => word::lowest(a) as u64,
+        222 => word::without_lowest(a),
+        223 => word::with_bit(a, b as usize),
+        224 => word::without_bit(a, b as usize),
+        225 => word::trimmed(a, b as usize),
+        226 => word::union(a, b),
+        227 => word::intersection(a, b),
+        228 => word::and_not(a, b),
+        229 => word::xor(a, b),
+        230 => word::combine(Operation::Union, a, b),
+        231 => word::combine(Operation::Intersection, a, b),
+        232 => word::combine(Operation::AndNot, a, b),
+        _ => word::combine(Operation::Xor, a, b),
+    }
+}
+
+fn word_call(call: u64, text: &[u8], at: &mut usize) {
+    let a = numeral(text, at);
+    let b = numeral(text, at);
+    refusal(0, 0, 0);
+    number(word_answer(call, a, b));
+}
+
+fn mask_is_member(text: &[u8], at: &mut usize) {
+    let mut words_room = [0u64; MASK_ROOM];
+    let len = index(text, at);
+    let words = read_u64(text, at, &mut words_room);
+    let index = index(text, at);
+    refusal(0, 0, 0);
+    truth(mask::is_member(len, words, index));
+}
+
+fn csr32_pointers(text: &[u8], at: &mut usize) {
+    let mut row_ptr_room = [0u32; ROOM];
+    let nrows = index(text, at);
+    let row_ptr = read_u32(text, at, &mut row_ptr_room);
+    let left = index(text, at);
+    let right = index(text, at);
+    refusal(0, 0, 0);
+    truth(csr32::pointers_hold(nrows, row_ptr, left));
+    truth(csr32::lists_hold(nrows, row_ptr, left, right));
+}
+
+fn csr32_all_finite(text: &[u8], at: &mut usize) {
+    let mut values_room = [0.0f64; ROOM];
+    let values = read_f64(text, at, &mut values_room);
+    refusal(0, 0, 0);
+    truth(csr32::all_finite(values));
+}
+
+fn topology_word(text: &[u8], at: &mut usize) {
+    let word_index = hybit_core::narrow(index(text, at));
+    let mask = numeral(text, at);
+    let n = index(text, at);
+    let w = AbtmTopologyWord { word_index, mask };
+    count(denimrasp_answers::count(w.rank(n)));
+    let s = denimrasp_answers::word_selection(w.select(n));
+    truth(s.found);
+    size(s.column);
+    size(w.base_col());
+    size(w.popcount());
+    truth(w.contains_offset(n));
+}
+
+fn topology_count_bits(text: &[u8], at: &mut usize) {
+    let mut masks_room = [0u64; ROOM];
+    let masks = read_u64(text, at, &mut masks_room);
+    refusal(0, 0, 0);
+    size(topology::count_bits(masks));
+}
+
+fn topology_clear_past(text: &[u8], at: &mut usize) {
+    let mut row_word_ptr_room = [0u32; ROOM];
+    let mut word_indices_room = [0u32; ROOM];
+    let mut masks_room = [0u64; ROOM];
+    let rows = index(text, at);
+    let words = index(text, at);
+    let row_word_ptr = read_u32(text, at, &mut row_word_ptr_room);
+    let word_indices = read_u32(text, at, &mut word_indices_room);
+    let masks = read_u64(text, at, &mut masks_room);
+    topology::clear_past(rows, words, row_word_ptr, word_indices, masks);
+    refusal(0, 0, 0);
+    show_u32(row_word_ptr);
+    show_u32(word_indices);
+    show_u64(masks);
+}
+
+fn topology_check_lists(text: &[u8], at: &mut usize) {
+    let mut row_word_ptr_room = [0u32; ROOM];
+    let mut word_indices_room = [0u32; ROOM];
+    let mut masks_room = [0u64; ROOM];
+    let nrows = index(text, at);
+    let ncols = index(text, at);
+    let row_word_ptr = read_u32(text, at, &mut row_word_ptr_room);
+    let word_indices = read_u32(text, at, &mut word_indices_room);
+    let masks = read_u64(text, at, &mut masks_room);
+    let r = topology::check_lists(nrows, ncols, row_word_ptr, word_indices, masks);
+    verdict(denimrasp_answers::verdict(r));
+}
+
+fn topology_row_numbers(text: &[u8], at: &mut usize) {
+    let mut row_word_ptr_room = [0u32; ROOM];
+    let mut word_indices_room = [0u32; ROOM];
+    let mut masks_room = [0u64; ROOM];
+    let nrows = index(text, at);
+    let ncols = index(text, at);
+    let ptr = read_u32(text, at, &mut row_word_ptr_room);
+    let words = read_u32(text, at, &mut word_indices_room);
+    let masks = read_u64(text, at, &mut masks_room);
+    let nnz = index(text, at);
+    let row = index(text, at);
+    let mut n: u32 = 99;
+    let part = topology::row_word_indices(nrows, ncols, ptr, words, masks, nnz, row, &mut n);
+    refusal(n, 0, 0);
+    show_u32(part);
+}
+
+fn topology_row_masks(text: &[u8], at: &mut usize) {
+    let mut row_word_ptr_room = [0u32; ROOM];
+    let mut word_indices_room = [0u32; ROOM];
+    let mut masks_room = [0u64; ROOM];
+    let nrows = index(text, at);
+    let ncols = index(text, at);
+    let ptr = read_u32(text, at, &mut row_word_ptr_room);
+    let words = read_u32(text, at, &mut word_indices_room);
+    let masks = read_u64(text, at, &mut masks_room);
+    let nnz = index(text, at);
+    let row = index(text, at);
+    let mut n: u32 = 99;
+    let part = topology::row_masks(nrows, ncols, ptr, words, masks, nnz, row, &mut n);
+    refusal(n, 0, 0);
+    show_u64(part);
+}
+
+fn metadata_first_row_part(text: &[u8], at: &mut usize) {
+    let mut row_word_ptr_room = [0u32; ROOM];
+    let mut word_indices_room = [0u32; ROOM];
+    let mut masks_room = [0u64; ROOM];
+    let mut row_value_ptr_room = [0u32; ROOM];
+    let mut values_room = [0.0f64; ROOM];
+    let nrows = index(text, at);
+    let ncols = index(text, at);
+    let ptr = read_u32(text, at, &mut row_word_ptr_room);
+    let words = read_u32(text, at, &mut word_indices_room);
+    let masks = read_u64(text, at, &mut masks_room);
+    let nnz = index(text, at);
+    let value_ptr = read_u32(text, at, &mut row_value_ptr_room);
+    let values = read_f64(text, at, &mut values_room);
+    let row = index(text, at);
+    let mut n: u32 = 99;
+    let part = metadata_first::row_values(
+        nrows,
+        ncols,
+        ptr,
+        words,
+        masks,
+        nnz,
+        value_ptr,
+        values,
+        row,
+        &mut n,
+    );
+    refusal(n, 0, 0);
+    show_f64(part);
+}
+
+// The counts and ratios of a row dot's report.
+fn metadata_first_report(text: &[u8], at: &mut usize) {
+    let candidate_products = index(text, at);
+    let executed_products = index(text, at);
+    let skipped_products = index(text, at);
+    let topology_words = index(text, at);
+    let active_words = index(text, at);
+    let report = AbtmRowDot {
+        sum: 0.5,
+        candidate_products,
+        executed_products,
+        skipped_products,
+        topology_words,
+        active_words,
+    };
+    let c = report.counts();
+    refusal(0, 0, 0);
+    size(c.candidate_products);
+    size(c.executed_products);
+    size(c.skipped_products);
+    size(c.topology_words);
+    size(c.active_words);
+    float(report.pruning_ratio());
+    float(report.empty_word_ratio());
+}
+
 fn mask_calls(call: u64, text: &[u8], at: &mut usize) {
     match call {
         0 => mask_check(text, at),
@@ -1205,9 +1514,52 @@ fn value_calls(call: u64, text: &[u8], at: &mut usize) {
     }
 }
 
+fn core_calls(call: u64, text: &[u8], at: &mut usize) {
+    match call {
+        200 => core_refusal(text, at),
+        201 => core_sizes(text, at),
+        202 => core_counts(text, at),
+        203 => core_is_finite(text, at),
+        204 => core_narrow(text, at),
+        210 => clear_from_u32(text, at),
+        211 => clear_from_u64(text, at),
+        212 => clear_from_usize(text, at),
+        _ => clear_from_f64(text, at),
+    }
+}
+
+fn record_calls(call: u64, text: &[u8], at: &mut usize) {
+    match call {
+        240 => mask_is_member(text, at),
+        241 => csr32_pointers(text, at),
+        242 => csr32_all_finite(text, at),
+        243 => topology_count_bits(text, at),
+        244 => topology_clear_past(text, at),
+        245 => topology_check_lists(text, at),
+        246 => topology_row_numbers(text, at),
+        247 => topology_row_masks(text, at),
+        248 => metadata_first_row_part(text, at),
+        249 => metadata_first_report(text, at),
+        _ => topology_word(text, at),
+    }
+}
+
+// The calls of the crates below.
+fn below_calls(call: u64, text: &[u8], at: &mut usize) {
+    if call < 220 {
+        core_calls(call, text, at);
+    } else if call < 240 {
+        word_call(call, text, at);
+    } else {
+        record_calls(call, text, at);
+    }
+}
+
 // One call, and what came of it.
 fn replay(call: u64, text: &[u8], at: &mut usize) {
-    if call < 13 {
+    if call >= 200 {
+        below_calls(call, text, at);
+    } else if call < 13 {
         mask_calls(call, text, at);
     } else if call < 17 {
         csr32_calls(call, text, at);
@@ -1220,13 +1572,13 @@ fn replay(call: u64, text: &[u8], at: &mut usize) {
     }
 }
 
-// The calls of one block of the input; the number 49 ends them.
+// The calls of one block of the input; the number 999 ends them.
 fn replay_block(text: &[u8]) {
     let mut at: usize = 0;
     let mut turn: usize = 0;
     while turn < 65536 {
         let call = numeral(text, &mut at);
-        if call >= 49 {
+        if call >= 999 {
             return;
         }
         replay(call, text, &mut at);
@@ -1238,7 +1590,7 @@ fn replay_block(text: &[u8]) {
 fn main() {
     let mut block = io::large_buffer();
     let mut turn: usize = 0;
-    while turn < 64 {
+    while turn < 128 {
         if io::read_full(0, &mut block) == 0 {
             return;
         }

@@ -1,6 +1,10 @@
 //! One call of the library with its whole input, and what a judge says comes of it. Three judges answer the same `Call`: the
 //! library through its C interface, hybit's Rust, and the model written from document 01.
 
+mod below;
+
+pub use below::{Below, WordCall};
+
 #[derive(Clone, Debug, PartialEq)]
 pub struct Mask {
     pub len: usize,

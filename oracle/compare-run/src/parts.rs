@@ -1,7 +1,7 @@
 //! The numbers and lists that a call is made of, in the order of its fields. Damage, shrinking and the text form go by them, so
 //! a new call needs its lines here and in `kind` alone.
 
-use calls::{Call, Csr, Mask, Store, StoreRoom, Tiles, TilesRoom, Words, WordsRoom};
+use calls::{Below, Call, Csr, Mask, Store, StoreRoom, Tiles, TilesRoom, Words, WordsRoom};
 
 pub enum Part<'a> {
     Size(&'a mut usize),
@@ -256,5 +256,34 @@ fn numbers(call: &mut Call) -> Vec<Part<'_>> {
         MetadataFirstTotalEstimatedBytes(a, b, c) => vec![Size(a), Size(b), Size(c)],
         MetadataFirstAccumulate(a, b) => a.iter_mut().chain(b).map(Size).collect(),
         _ => unreachable!("every other call has its line above"),
+    }
+}
+
+/// All parts of a call of the crates below.
+pub fn parts_below(call: &mut Below) -> Vec<Part<'_>> {
+    match call {
+        Below::Refusal(n, expected, actual) => vec![Num32(n), Size(expected), Size(actual)],
+        Below::Sizes(a, b, c, d) => vec![Size(a), Size(b), Size(c), Size(d)],
+        Below::Counts(a, b) | Below::Word(_, a, b) => vec![Num64(a), Num64(b)],
+        Below::IsFinite(bits) => vec![Num64(bits)],
+        Below::Narrow(n) => vec![Size(n)],
+        Below::ClearU32(list, from) => vec![Nums32(list), Size(from)],
+        Below::ClearU64(list, from) => vec![Nums64(list), Size(from)],
+        Below::ClearUsize(list, from) => vec![Sizes(list), Size(from)],
+        Below::ClearF64(list, from) => vec![Floats(list), Size(from)],
+        Below::MaskIsMember(m, i) => join(mask(m), vec![Size(i)]),
+        Below::Pointers(n, list, a, b) => vec![Size(n), Nums32(list), Size(a), Size(b)],
+        Below::AllFinite(list) => vec![Floats(list)],
+        Below::CountBits(list) => vec![Nums64(list)],
+        Below::ClearPast(rows, n, room) => join(vec![Size(rows), Size(n)], words_room(room)),
+        Below::CheckLists(w) => {
+            let mut all = words(w);
+            all.pop();
+            all
+        }
+        Below::RowNumbers(w, row) | Below::RowMasks(w, row) => join(words(w), vec![Size(row)]),
+        Below::RowValues(s, row) => join(store(s), vec![Size(row)]),
+        Below::Report(counts) => counts.iter_mut().map(Size).collect(),
+        Below::TopologyWord(number, mask, n) => vec![Num32(number), Num64(mask), Size(n)],
     }
 }

@@ -1,7 +1,7 @@
 //! The text form of calls and outcomes: decimal numbers, one space between, one line each.
 
-use crate::parts::{Part, kind, parts};
-use calls::{Call, Outcome};
+use crate::parts::{Part, kind, parts, parts_below};
+use calls::{Below, Call, Outcome};
 
 fn push(line: &mut Vec<u64>, list: impl ExactSizeIterator<Item = u64>) {
     line.push(list.len() as u64);
@@ -15,8 +15,17 @@ fn join(line: &[u64]) -> String {
 
 /// The call's kind, then its parts in order: a number as it is, an f64 by its bits, a list by its length and elements.
 pub fn call_line(call: &Call) -> String {
-    let mut line = vec![kind(call) as u64];
-    for part in parts(&mut call.clone()) {
+    numbered(kind(call), parts(&mut call.clone()))
+}
+
+/// The same of a call of the crates below.
+pub fn below_line(call: &Below) -> String {
+    numbered(call.number(), parts_below(&mut call.clone()))
+}
+
+fn numbered(number: usize, parts: Vec<Part<'_>>) -> String {
+    let mut line = vec![number as u64];
+    for part in parts {
         match part {
             Part::Size(n) => line.push(*n as u64),
             Part::Num8(n) => line.push((*n).into()),
@@ -48,7 +57,8 @@ pub fn longest_list(call: &Call) -> usize {
     lengths.unwrap_or(0)
 }
 
-fn length(part: &Part<'_>) -> usize {
+/// The places of a list, 0 for a number.
+pub fn length(part: &Part<'_>) -> usize {
     match part {
         Part::Sizes(list) => list.len(),
         Part::Nums32(list) => list.len(),

@@ -6,6 +6,7 @@
 
 mod abtm;
 mod answer;
+mod below;
 mod csr32;
 mod mask;
 mod metadata_first;
@@ -15,6 +16,7 @@ mod words;
 #[cfg(test)]
 mod tests;
 
+pub use below::judge_below;
 use calls::{Call, Outcome};
 use topology::Operation;
 

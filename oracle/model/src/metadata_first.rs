@@ -30,7 +30,7 @@ fn rules(store: &Store) -> Checked {
     need(store.values.iter().all(|v| v.is_finite()), BAD_STORE)
 }
 
-fn check(store: &Store) -> Checked {
+pub fn check(store: &Store) -> Checked {
     sizes(store)?;
     rules(store)
 }

@@ -42,13 +42,13 @@ fn row_holds(words: &Words, mut places: Range<usize>) -> bool {
     numbers.is_sorted_by(|a, b| a < b) && places.all(inside)
 }
 
-fn check(words: &Words) -> Checked {
+pub fn check(words: &Words) -> Checked {
     sizes(words)?;
     rules(words)
 }
 
 /// The check that every question to a row makes.
-fn check_row(words: &Words, row: usize) -> Checked {
+pub fn check_row(words: &Words, row: usize) -> Checked {
     check(words)?;
     need(row < words.nrows, NO_SUCH_PLACE)
 }

@@ -7,10 +7,10 @@ use Rattle.recorded.proofs.main.Statement.{statement}
 use Rattle.recorded.proofs.main.Tie as tie
 
 abbrev Inv-loop : tie.InvT-loop
-Inv-loop block₀ turn₀ block turn = (turn ≤ 64) × (65536 ≡ length block)
+Inv-loop block₀ turn₀ block turn = (turn ≤ 128) × (65536 ≡ length block)
 
 abbrev μ-loop : tie.MeasureT-loop
-μ-loop block₀ turn₀ block turn = 64 - turn
+μ-loop block₀ turn₀ block turn = 128 - turn
 
 large-buffer-requires : tie.Need-large-buffer-requires Inv-loop μ-loop
 large-buffer-requires c κs = search needs

@@ -1,9 +1,10 @@
-//! `compare --seed N --seconds S [--library none] [--break CALL]`: the tiny inputs whole, some random ones, the edge of the
-//! domain, then random calls until the seconds are over. With `--library none` the model is held against hybit's Rust alone.
+//! `compare --seed N --seconds S [--library none] [--break CALL]`: the tiny inputs whole, some random ones, the named cases, the
+//! edge of the domain, then random calls until the seconds are over. With `--library none` the model is held against hybit's
+//! Rust alone.
 
 use compare_run::make::Judge;
 use compare_run::run::{Run, Tally, summary};
-use compare_run::{edge, exhaustive, random, rng::Rng};
+use compare_run::{Sink, cases, edge, exhaustive, random, rng::Rng};
 use judges::ours;
 use std::process::ExitCode;
 use std::time::{Duration, Instant};
@@ -56,6 +57,9 @@ fn work(thread: usize, options: &Options, end: Instant) {
     let mut rng = Rng::new(seed);
     for _ in 0..FIRST_ROUNDS {
         random::round(&mut run, options.library, &mut rng);
+    }
+    for call in cases::calls().iter().skip(thread).step_by(THREADS) {
+        run.call(call);
     }
     edge::all(&mut run, options.library, thread);
     random::forever(&mut run, options.library, &mut rng);

@@ -1,17 +1,25 @@
 //! `record FOLDER`: writes the recorded calls to FOLDER/stdin and their outcomes to FOLDER/stdout. An outcome is hybit's where
 //! its Rust can judge and the model's elsewhere, never the library's. The files are the same byte for byte each time.
 
-use calls::{Call, Outcome};
-use compare_run::parts::{KINDS, Part, kind, parts};
-use compare_run::text::{call_line, longest_list, outcome_line};
-use compare_run::{Sink, random, rng::Rng, worked};
+use calls::{Below, Call, Outcome};
+use compare_run::parts::{KINDS, Part, kind, parts, parts_below};
+use compare_run::text::{below_line, call_line, length, longest_list, outcome_line};
+use compare_run::{Sink, cases, random, rng::Rng, worked};
 use judges::hybit::{self, Reason};
 use std::collections::{BTreeMap, BTreeSet};
 use std::process::ExitCode;
 
 const SEED: u64 = 20_261_116;
 const BLOCK: usize = 65_536;
+/// The line that ends a block: a number past all kinds.
+const END: &str = "999\n";
+/// The most places of a list in a random call, of any list and of a mask's words: `ROOM` and `MASK_ROOM` of the program that
+/// replays the calls.
 const LONGEST_LIST: usize = 40;
+const ROOM: usize = 4096;
+const MASK_ROOM: usize = 16_385;
+/// The kinds of call that are handed masks alone come first.
+const MASK_KINDS: usize = 13;
 /// How many calls are looked at, and how many of each sort are kept.
 const LOOKED_AT: usize = 1_500_000;
 const ACCEPTED: usize = 5;
@@ -28,7 +36,8 @@ struct Record {
     kept: BTreeMap<Sort, usize>,
     of_a_kind: BTreeMap<usize, usize>,
     seen: BTreeSet<String>,
-    lines: Vec<(usize, String, String)>,
+    cases: usize,
+    lines: Vec<Line>,
     disagreements: usize,
 }
 
@@ -97,6 +106,42 @@ impl Record {
             self.lines.push((n, line, outcome_line(&outcome)));
         }
     }
+
+    /// A named case, whatever its lists, as long as the program that replays it has room for them.
+    fn keep_case(&mut self, call: &Call) {
+        let n = kind(call);
+        let words = if n < MASK_KINDS { MASK_ROOM } else { ROOM };
+        assert_room(&parts(&mut call.clone()), words);
+        let (outcome, _) = self.judge(call);
+        self.add_case(n, call_line(call), &outcome);
+    }
+
+    /// A named case of the crates below, which the model alone judges.
+    fn keep_below(&mut self, call: &Below) {
+        assert_room(&parts_below(&mut call.clone()), ROOM);
+        let outcome = model::judge_below(call);
+        self.add_case(call.number(), below_line(call), &outcome);
+    }
+
+    fn add_case(&mut self, n: usize, line: String, outcome: &Outcome) {
+        assert!(line.len() + 1 + END.len() <= BLOCK, "too long: {line:.99}");
+        if self.seen.insert(line.clone()) {
+            self.cases += 1;
+            self.lines.push((n, line, outcome_line(outcome)));
+        }
+    }
+}
+
+/// No list is longer than the program has room for; `words` is the room of lists of 64 bits.
+fn assert_room(parts: &[Part<'_>], words: usize) {
+    for part in parts {
+        let room = if matches!(part, Part::Nums64(_)) {
+            words
+        } else {
+            ROOM
+        };
+        assert!(length(part) <= room, "a list of {} places", length(part));
+    }
 }
 
 impl Sink for Record {
@@ -110,23 +155,40 @@ impl Sink for Record {
     }
 }
 
-/// The calls in blocks of `BLOCK` bytes, which the program reads one at a time: as many lines as fit, a line with the number past
-/// the last kind to end them, and line feeds to fill the block.
-fn blocks<'a>(lines: impl Iterator<Item = &'a str>) -> String {
-    let end = format!("{KINDS}\n");
-    let mut text = String::new();
-    let mut room = BLOCK;
+/// One call: its number, its line, its outcome's line.
+type Line = (usize, String, String);
+
+/// The calls shared out to blocks: each goes to the first block with room for it and for `END`.
+fn shared_out(lines: Vec<Line>) -> Vec<Vec<Line>> {
+    let mut blocks: Vec<(usize, Vec<Line>)> = Vec::new();
     for line in lines {
-        if room < line.len() + 1 + end.len() {
-            text += &end;
-            text += &"\n".repeat(room - end.len());
-            room = BLOCK;
-        }
-        text += line;
-        text.push('\n');
-        room -= line.len() + 1;
+        let need = line.1.len() + 1;
+        let block = match blocks.iter().position(|(room, _)| need <= *room) {
+            Some(block) => block,
+            None => {
+                blocks.push((BLOCK - END.len(), Vec::new()));
+                blocks.len() - 1
+            }
+        };
+        blocks[block].0 -= need;
+        blocks[block].1.push(line);
     }
-    text + &end
+    blocks.into_iter().map(|(_, lines)| lines).collect()
+}
+
+/// The calls of the blocks, which the program reads one at a time: each has its lines, `END`, and line feeds to fill it; the last
+/// isn't filled.
+fn text(blocks: &[Vec<Line>]) -> String {
+    let mut text = String::new();
+    for (n, block) in blocks.iter().enumerate() {
+        text += &"\n".repeat(n * BLOCK - text.len());
+        for (_, line, _) in block {
+            text += line;
+            text.push('\n');
+        }
+        text += END;
+    }
+    text
 }
 
 fn main() -> ExitCode {
@@ -139,16 +201,23 @@ fn main() -> ExitCode {
         record.keep(&call, true);
     }
     random::forever(&mut record, model::judge, &mut Rng::new(SEED));
+    for call in cases::calls() {
+        record.keep_case(&call);
+    }
+    for call in cases::calls_below() {
+        record.keep_below(&call);
+    }
+    let (all, cases) = (record.lines.len(), record.cases);
     record.lines.sort_by_key(|line| line.0);
-    let outcomes: String = record.lines.iter().map(|l| format!("{}\n", l.2)).collect();
-    let calls = blocks(record.lines.iter().map(|l| l.1.as_str()));
-    std::fs::write(format!("{folder}/stdin"), calls).expect("a folder to write to");
+    let blocks = shared_out(record.lines);
+    let outcomes: String = blocks
+        .iter()
+        .flatten()
+        .map(|l| format!("{}\n", l.2))
+        .collect();
+    std::fs::write(format!("{folder}/stdin"), text(&blocks)).expect("a folder to write to");
     std::fs::write(format!("{folder}/stdout"), outcomes).expect("a folder to write to");
-    println!(
-        "{} calls of {} kinds",
-        record.lines.len(),
-        record.of_a_kind.len()
-    );
+    println!("{all} calls, {cases} of them named cases");
     if record.disagreements == 0 && record.of_a_kind.len() == KINDS {
         ExitCode::SUCCESS
     } else {

@@ -1,0 +1,108 @@
+//! Calls of the crates below the C interface that it doesn't export. The program `recorded` replays them under numbers from 200
+//! on; the model alone judges them, since hybit has no such functions, or none that can be reached.
+
+use crate::{Counts, Mask, Store, Words, WordsRoom};
+
+#[derive(Clone, Debug, PartialEq)]
+pub enum Below {
+    /// A refusal's number, expected and actual.
+    Refusal(u32, usize, usize),
+    /// Rows, columns, and the lengths of two lists.
+    Sizes(usize, usize, usize, usize),
+    /// A count, and one to divide it by.
+    Counts(u64, u64),
+    /// A float by its bits.
+    IsFinite(u64),
+    Narrow(usize),
+    /// The lent list, and the place from which it is cleared.
+    ClearU32(Vec<u32>, usize),
+    ClearU64(Vec<u64>, usize),
+    ClearUsize(Vec<usize>, usize),
+    ClearF64(Vec<f64>, usize),
+    /// A word, with an offset or a second word.
+    Word(WordCall, u64, u64),
+    MaskIsMember(Mask, usize),
+    /// Rows, pointers, and the lengths of two lists.
+    Pointers(usize, Vec<u32>, usize, usize),
+    AllFinite(Vec<f64>),
+    CountBits(Vec<u64>),
+    /// The used rows and words, and the lent lists.
+    ClearPast(usize, usize, WordsRoom),
+    /// The total is not asked.
+    CheckLists(Words),
+    /// The row's part of the word numbers.
+    RowNumbers(Words, usize),
+    RowMasks(Words, usize),
+    RowValues(Store, usize),
+    /// The counts of a row dot's report, and its ratios.
+    Report(Counts),
+    /// A word of a topology by its number and mask, with an offset that is an ordinal too: its methods.
+    TopologyWord(u32, u64, usize),
+}
+
+/// The calls of one word, in the order of their numbers.
+#[derive(Clone, Copy, Debug, PartialEq)]
+pub enum WordCall {
+    OnesBelow,
+    Lowest,
+    WithoutLowest,
+    WithBit,
+    WithoutBit,
+    Trimmed,
+    Union,
+    Intersection,
+    AndNot,
+    Xor,
+    CombineUnion,
+    CombineIntersection,
+    CombineAndNot,
+    CombineXor,
+}
+
+impl WordCall {
+    pub const OFFSETS: [WordCall; 4] = [
+        WordCall::OnesBelow,
+        WordCall::WithBit,
+        WordCall::WithoutBit,
+        WordCall::Trimmed,
+    ];
+    pub const PAIRS: [WordCall; 8] = [
+        WordCall::Union,
+        WordCall::Intersection,
+        WordCall::AndNot,
+        WordCall::Xor,
+        WordCall::CombineUnion,
+        WordCall::CombineIntersection,
+        WordCall::CombineAndNot,
+        WordCall::CombineXor,
+    ];
+}
+
+impl Below {
+    /// The number under which the call is recorded.
+    pub fn number(&self) -> usize {
+        match self {
+            Below::Refusal(..) => 200,
+            Below::Sizes(..) => 201,
+            Below::Counts(..) => 202,
+            Below::IsFinite(..) => 203,
+            Below::Narrow(..) => 204,
+            Below::ClearU32(..) => 210,
+            Below::ClearU64(..) => 211,
+            Below::ClearUsize(..) => 212,
+            Below::ClearF64(..) => 213,
+            Below::Word(call, ..) => 220 + *call as usize,
+            Below::MaskIsMember(..) => 240,
+            Below::Pointers(..) => 241,
+            Below::AllFinite(..) => 242,
+            Below::CountBits(..) => 243,
+            Below::ClearPast(..) => 244,
+            Below::CheckLists(..) => 245,
+            Below::RowNumbers(..) => 246,
+            Below::RowMasks(..) => 247,
+            Below::RowValues(..) => 248,
+            Below::Report(..) => 249,
+            Below::TopologyWord(..) => 250,
+        }
+    }
+}

@@ -1,0 +1,6 @@
+pub mod MetaLaws
+pub mod TilesLaws
+pub mod SumLaws
+pub mod TileLaws
+pub mod RowLaws
+pub mod ProductLaws

@@ -1,0 +1,4 @@
+pub mod WroteLaws
+pub mod RowsLaws
+pub mod FewLaws
+pub mod AnswerLaws

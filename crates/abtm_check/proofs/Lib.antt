@@ -1,0 +1,5 @@
+pub mod MetaLaws
+pub mod TilesLaws
+pub mod ValueLaws
+pub mod SlotLaws
+pub mod RuleLaws

@@ -10,6 +10,8 @@ use denimrasp_answers::DenimraspDot;
 use denimrasp_answers::DenimraspPart;
 use denimrasp_answers::DenimraspSelect;
 use denimrasp_answers::DenimraspStoreStats;
+use denimrasp_answers::DenimraspTileStats;
+use denimrasp_answers::DenimraspTiles;
 use denimrasp_answers::DenimraspTopology;
 use denimrasp_answers::DenimraspTopologyStats;
 use denimrasp_answers::DenimraspTotals;
@@ -223,6 +225,26 @@ fn totals(r: DenimraspTotals) {
     size(r.skipped_products);
     size(r.topology_words);
     size(r.active_words);
+}
+
+fn tiles_built(r: DenimraspTiles) {
+    refusal(r.number, r.expected, r.actual);
+    size(r.tiles);
+    size(r.value_slots);
+    size(r.matrix_nnz);
+}
+
+fn tile_figures(r: DenimraspTileStats) {
+    refusal(r.number, r.expected, r.actual);
+    size(r.nrows);
+    size(r.ncols);
+    size(r.matrix_nnz);
+    size(r.tiles);
+    size(r.sparse_tiles);
+    size(r.bitmap_tiles);
+    size(r.dense_tiles);
+    size(r.value_slots);
+    size(r.metadata_bytes);
 }
 
 // A list: its length and its places.
@@ -1143,6 +1165,236 @@ fn metadata_first_accumulate(text: &[u8], at: &mut usize) {
     totals(r);
 }
 
+fn abtm_validate(text: &[u8], at: &mut usize) {
+    let sparse_max_nnz = (numeral(text, at) & 255) as u8;
+    let dense_min_nnz = (numeral(text, at) & 255) as u8;
+    verdict(denimrasp::denimrasp_abtm_validate(sparse_max_nnz, dense_min_nnz));
+}
+
+fn abtm_check(text: &[u8], at: &mut usize) {
+    let mut row_tile_ptr_room = [0u32; ROOM];
+    let mut masks_room = [0u64; ROOM];
+    let mut value_offsets_room = [0u32; ROOM];
+    let mut metas_room = [0u32; ROOM];
+    let mut values_room = [0.0f64; ROOM];
+    let nrows = index(text, at);
+    let ncols = index(text, at);
+    let row_tile_ptr = read_u32(text, at, &mut row_tile_ptr_room);
+    let masks = read_u64(text, at, &mut masks_room);
+    let value_offsets = read_u32(text, at, &mut value_offsets_room);
+    let metas = read_u32(text, at, &mut metas_room);
+    let values = read_f64(text, at, &mut values_room);
+    let matrix_nnz = index(text, at);
+    let r = denimrasp::denimrasp_abtm_check(
+        nrows,
+        ncols,
+        row_tile_ptr,
+        masks,
+        value_offsets,
+        metas,
+        values,
+        matrix_nnz,
+    );
+    verdict(r);
+}
+
+fn abtm_from_csr32(text: &[u8], at: &mut usize) {
+    let mut row_ptr_room = [0u32; ROOM];
+    let mut col_idx_room = [0u32; ROOM];
+    let mut values_room = [0.0f64; ROOM];
+    let mut row_tile_ptr_room = [0u32; ROOM];
+    let mut masks_room = [0u64; ROOM];
+    let mut value_offsets_room = [0u32; ROOM];
+    let mut metas_room = [0u32; ROOM];
+    let mut tile_values_room = [0.0f64; ROOM];
+    let nrows = index(text, at);
+    let ncols = index(text, at);
+    let row_ptr = read_u32(text, at, &mut row_ptr_room);
+    let col_idx = read_u32(text, at, &mut col_idx_room);
+    let values = read_f64(text, at, &mut values_room);
+    let sparse_max_nnz = (numeral(text, at) & 255) as u8;
+    let dense_min_nnz = (numeral(text, at) & 255) as u8;
+    let row_tile_ptr = read_u32(text, at, &mut row_tile_ptr_room);
+    let masks = read_u64(text, at, &mut masks_room);
+    let value_offsets = read_u32(text, at, &mut value_offsets_room);
+    let metas = read_u32(text, at, &mut metas_room);
+    let tile_values = read_f64(text, at, &mut tile_values_room);
+    let r = denimrasp::denimrasp_abtm_from_csr32(
+        nrows,
+        ncols,
+        row_ptr,
+        col_idx,
+        values,
+        sparse_max_nnz,
+        dense_min_nnz,
+        row_tile_ptr,
+        masks,
+        value_offsets,
+        metas,
+        tile_values,
+    );
+    tiles_built(r);
+    show_u32(row_tile_ptr);
+    show_u64(masks);
+    show_u32(value_offsets);
+    show_u32(metas);
+    show_f64(tile_values);
+}
+
+fn abtm_tile_kind(text: &[u8], at: &mut usize) {
+    let meta = hybit_core::narrow(index(text, at));
+    count(denimrasp::denimrasp_abtm_tile_kind(meta));
+}
+
+fn abtm_tile_base_col(text: &[u8], at: &mut usize) {
+    let meta = hybit_core::narrow(index(text, at));
+    let r = denimrasp::denimrasp_abtm_tile_base_col(meta);
+    refusal(0, 0, 0);
+    size(r);
+}
+
+fn abtm_row_tiles(text: &[u8], at: &mut usize) {
+    let mut row_tile_ptr_room = [0u32; ROOM];
+    let mut masks_room = [0u64; ROOM];
+    let mut value_offsets_room = [0u32; ROOM];
+    let mut metas_room = [0u32; ROOM];
+    let mut values_room = [0.0f64; ROOM];
+    let nrows = index(text, at);
+    let ncols = index(text, at);
+    let row_tile_ptr = read_u32(text, at, &mut row_tile_ptr_room);
+    let masks = read_u64(text, at, &mut masks_room);
+    let value_offsets = read_u32(text, at, &mut value_offsets_room);
+    let metas = read_u32(text, at, &mut metas_room);
+    let values = read_f64(text, at, &mut values_room);
+    let matrix_nnz = index(text, at);
+    let row = index(text, at);
+    let r = denimrasp::denimrasp_abtm_row_tiles(
+        nrows,
+        ncols,
+        row_tile_ptr,
+        masks,
+        value_offsets,
+        metas,
+        values,
+        matrix_nnz,
+        row,
+    );
+    part(r);
+}
+
+fn abtm_stats(text: &[u8], at: &mut usize) {
+    let mut row_tile_ptr_room = [0u32; ROOM];
+    let mut masks_room = [0u64; ROOM];
+    let mut value_offsets_room = [0u32; ROOM];
+    let mut metas_room = [0u32; ROOM];
+    let mut values_room = [0.0f64; ROOM];
+    let nrows = index(text, at);
+    let ncols = index(text, at);
+    let row_tile_ptr = read_u32(text, at, &mut row_tile_ptr_room);
+    let masks = read_u64(text, at, &mut masks_room);
+    let value_offsets = read_u32(text, at, &mut value_offsets_room);
+    let metas = read_u32(text, at, &mut metas_room);
+    let values = read_f64(text, at, &mut values_room);
+    let matrix_nnz = index(text, at);
+    let r = denimrasp::denimrasp_abtm_stats(
+        nrows,
+        ncols,
+        row_tile_ptr,
+        masks,
+        value_offsets,
+        metas,
+        values,
+        matrix_nnz,
+    );
+    tile_figures(r);
+}
+
+fn abtm_metadata_bytes_per_nnz(text: &[u8], at: &mut usize) {
+    let metadata_bytes = index(text, at);
+    let matrix_nnz = index(text, at);
+    let r = denimrasp::denimrasp_abtm_metadata_bytes_per_nnz(metadata_bytes, matrix_nnz);
+    refusal(0, 0, 0);
+    float(r);
+}
+
+fn abtm_total_estimated_bytes(text: &[u8], at: &mut usize) {
+    let metadata_bytes = index(text, at);
+    let value_slots = index(text, at);
+    let r = denimrasp::denimrasp_abtm_total_estimated_bytes(metadata_bytes, value_slots);
+    refusal(0, 0, 0);
+    size(r);
+}
+
+fn abtm_apply(text: &[u8], at: &mut usize) {
+    let mut row_tile_ptr_room = [0u32; ROOM];
+    let mut masks_room = [0u64; ROOM];
+    let mut value_offsets_room = [0u32; ROOM];
+    let mut metas_room = [0u32; ROOM];
+    let mut values_room = [0.0f64; ROOM];
+    let mut x_room = [0.0f64; ROOM];
+    let mut y_room = [0.0f64; ROOM];
+    let nrows = index(text, at);
+    let ncols = index(text, at);
+    let row_tile_ptr = read_u32(text, at, &mut row_tile_ptr_room);
+    let masks = read_u64(text, at, &mut masks_room);
+    let value_offsets = read_u32(text, at, &mut value_offsets_room);
+    let metas = read_u32(text, at, &mut metas_room);
+    let values = read_f64(text, at, &mut values_room);
+    let matrix_nnz = index(text, at);
+    let x = read_f64(text, at, &mut x_room);
+    let y = read_f64(text, at, &mut y_room);
+    let r = denimrasp::denimrasp_abtm_apply(
+        nrows,
+        ncols,
+        row_tile_ptr,
+        masks,
+        value_offsets,
+        metas,
+        values,
+        matrix_nnz,
+        x,
+        y,
+    );
+    verdict(r);
+    show_f64(y);
+}
+
+fn abtm_expand_mask_one_hop(text: &[u8], at: &mut usize) {
+    let mut row_tile_ptr_room = [0u32; ROOM];
+    let mut masks_room = [0u64; ROOM];
+    let mut value_offsets_room = [0u32; ROOM];
+    let mut metas_room = [0u32; ROOM];
+    let mut values_room = [0.0f64; ROOM];
+    let mut mask_room = [0u64; ROOM];
+    let mut out_room = [0u64; ROOM];
+    let nrows = index(text, at);
+    let ncols = index(text, at);
+    let row_tile_ptr = read_u32(text, at, &mut row_tile_ptr_room);
+    let masks = read_u64(text, at, &mut masks_room);
+    let value_offsets = read_u32(text, at, &mut value_offsets_room);
+    let metas = read_u32(text, at, &mut metas_room);
+    let values = read_f64(text, at, &mut values_room);
+    let matrix_nnz = index(text, at);
+    let mask_len = index(text, at);
+    let mask = read_u64(text, at, &mut mask_room);
+    let out = read_u64(text, at, &mut out_room);
+    let r = denimrasp::denimrasp_abtm_expand_mask_one_hop(
+        nrows,
+        ncols,
+        row_tile_ptr,
+        masks,
+        value_offsets,
+        metas,
+        values,
+        matrix_nnz,
+        mask_len,
+        mask,
+        out,
+    );
+    verdict(r);
+    show_u64(out);
+}
+
 // The calls from here on are those of the crates below that the C interface doesn't export.
 
 // Document 01's refusal of a number; its expected and actual under 6 alone.
@@ -1514,6 +1766,22 @@ fn value_calls(call: u64, text: &[u8], at: &mut usize) {
     }
 }
 
+fn tile_calls(call: u64, text: &[u8], at: &mut usize) {
+    match call {
+        49 => abtm_validate(text, at),
+        50 => abtm_check(text, at),
+        51 => abtm_from_csr32(text, at),
+        52 => abtm_tile_kind(text, at),
+        53 => abtm_tile_base_col(text, at),
+        54 => abtm_row_tiles(text, at),
+        55 => abtm_stats(text, at),
+        56 => abtm_metadata_bytes_per_nnz(text, at),
+        57 => abtm_total_estimated_bytes(text, at),
+        58 => abtm_apply(text, at),
+        _ => abtm_expand_mask_one_hop(text, at),
+    }
+}
+
 fn core_calls(call: u64, text: &[u8], at: &mut usize) {
     match call {
         200 => core_refusal(text, at),
@@ -1567,8 +1835,10 @@ fn replay(call: u64, text: &[u8], at: &mut usize) {
         topology_calls(call, text, at);
     } else if call < 37 {
         metadata_first_calls(call, text, at);
-    } else {
+    } else if call < 49 {
         value_calls(call, text, at);
+    } else {
+        tile_calls(call, text, at);
     }
 }
 

@@ -1,5 +1,3 @@
-pub mod MetaLaws
-pub mod TilesLaws
 pub mod SumLaws
 pub mod TileLaws
 pub mod RowLaws

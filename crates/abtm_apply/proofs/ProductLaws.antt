@@ -16,7 +16,7 @@ use Rattle.lent.proofs.LentLaws.{Filled, filled-none, filled-length, filled-mor
 use Rattle.csr32.proofs.FrameLaws.{RowIn}
 use Rattle.topology.specs.Words.{wordRule}
 use Rattle.abtm.specs.Tiles.{Tiles, Listed, wordIn, tileAt, rowTiles, tilesAnswer}
-use Rattle.abtm_apply.proofs.TilesLaws.{AcceptedTiles, tiles-facts, slotsInside, rowListed, masks-row, metas-row, offsets-row, metas-same, offsets-same, row-inside, row-words}
+use Rattle.abtm_check.proofs.TilesLaws.{AcceptedTiles, tiles-facts, slotsInside, rowListed, masks-row, metas-row, offsets-row, metas-same, offsets-same, row-inside, row-words}
 use Rattle.abtm_apply.specs.Product.{sumTiles, tilesProduct, applyTilesAnswer}
 use Rattle.abtm_apply.specs.Ready.{tileInside}
 

@@ -52,7 +52,6 @@ module _ (nv nx mask offset meta w n : ℕ) (e : tileInside nv nx (mask, (offset
 
 -- what it adds
 module _ (vals x : List Float) (mask offset meta w n k : ℕ) (ew : w ≡ wordIn meta) (en : n ≡ length (places mask meta)) (ek : k ≡ kindIn meta) where
-
   pub part-long : offset + n ≤ length vals → length (take (offset + n - offset) (drop offset vals)) ≡ n
   part-long h = ap length (slice-lent offset (offset + n) vals) ∙ length-slice offset (offset + n) vals h ∙ omega arith
 

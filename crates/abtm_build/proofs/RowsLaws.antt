@@ -28,7 +28,7 @@ use Rattle.abtm_build.proofs.WroteLaws.{slots-append, masks-append, off
 
 -- ---- a tile takes at most 64 values
 
-places-few : (kind mask : ℕ) → length (placesOf kind mask) ≤ 64
+pub places-few : (kind mask : ℕ) → length (placesOf kind mask) ≤ 64
 unfolding placesOf members
 places-few kind mask = go (eqb kind 2) where
   go : (t : Bool) → length (cond t (below (λ i. true) 64) (below (has mask) 64)) ≤ 64

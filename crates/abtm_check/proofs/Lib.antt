@@ -3,3 +3,4 @@ pub mod TilesLaws
 pub mod ValueLaws
 pub mod SlotLaws
 pub mod RuleLaws
+pub mod RecordLaws

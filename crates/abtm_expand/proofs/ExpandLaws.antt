@@ -24,7 +24,7 @@ use Rattle.csr32.proofs.FrameLaws.{RowIn}
 use Rattle.topology.specs.Words.{wordRule}
 use Rattle.topology.proofs.RowLaws.{small, small-is, word-inside}
 use Rattle.abtm.specs.Tiles.{Tile, Tiles, Listed, wordIn, tileAt, rowTiles, inTile, inTiles, tileSizes, tilesRules}
-use Rattle.abtm_expand.proofs.TilesLaws.{AcceptedTiles, rules-facts, rowListed, masks-row, metas-row, metas-same, offsets-same, row-words}
+use Rattle.abtm_check.proofs.TilesLaws.{AcceptedTiles, rules-facts, rowListed, masks-row, metas-row, metas-same, offsets-same, row-words}
 use Rattle.abtm_expand.specs.Expand.{reached, expanded, expandAnswer}
 use Rattle.abtm_expand.proofs.JoinLaws.{inWord, joinedTo}
 

@@ -15,7 +15,7 @@ use Rattle.lent.proofs.LentLaws.{Filled, filled-none, filled-length, filled-mor
 use Rattle.word.specs.Bits.{has, wordOf}
 use Rattle.word.proofs.OpLaws.{word-is, has-word, word-cong}
 use Rattle.abtm.specs.Tiles.{wordIn}
-use Rattle.abtm_expand.proofs.MetaLaws.{getD-zip, length-zip}
+use Rattle.abtm_check.proofs.MetaLaws.{getD-zip, length-zip}
 
 -- ---- words copied: the first k
 
@@ -90,9 +90,9 @@ module _ (masks metas old : List ℕ) where
         this-word b u q =
             q ∙ word-cong (λ i. has (getD new index 0) i || has (getD masks k 0) i) (λ i. has (getD old index 0) i || inWord (take (k + 1) (zip masks metas)) index i)
             (λ i l.
-                ap (λ (t : Bool). t || has (getD masks k 0) i) (before i l)
-                ∙ or-assoc (has (getD old index 0) i) (inWord (take k (zip masks metas)) index i) (has (getD masks k 0) i)
-                ∙ sym (ap (λ (t : Bool). has (getD old index 0) i || t) (bit-more index i ∙ ap (λ (t : Bool). inWord (take k (zip masks metas)) index i || (t && has (getD masks k 0) i)) (eq-eqb index index refl))))
+            ap (λ (t : Bool). t || has (getD masks k 0) i) (before i l)
+            ∙ or-assoc (has (getD old index 0) i) (inWord (take k (zip masks metas)) index i) (has (getD masks k 0) i)
+            ∙ sym (ap (λ (t : Bool). has (getD old index 0) i || t) (bit-more index i ∙ ap (λ (t : Bool). inWord (take k (zip masks metas)) index i || (t && has (getD masks k 0) i)) (eq-eqb index index refl))))
           where
             or-assoc : (s t v : Bool) → ((s || t) || v) ≡ (s || (t || v))
             or-assoc true t v = refl

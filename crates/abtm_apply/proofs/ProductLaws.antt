@@ -1,16 +1,15 @@
 -- The product of accepted tiles, row after row. Assumes nothing.
-use mathlib.Core.Bool.{Bool, true, _&&_}
+use mathlib.Core.Bool.{true}
 use mathlib.Core.List.{List, map, zip}
-use mathlib.Core.Path.{_≡_, refl, sym, ap, _∙_}
+use mathlib.Core.Path.{_≡_, sym, ap, _∙_}
 use Prim.Native.Nat.{ℕ, _+_, _-_, _≤_, _<_, _^_}
 use native.Mathlib.Omega.{arith}
-use lib.Dec.{leb}
 use lib.ListN.{length, getD, take, drop, set}
 use lib.Ieee.{Float}
-use Rattle.hybit_core.specs.Answer.{Answer, accepted, lengthIs, _andThen_}
+use Rattle.hybit_core.specs.Answer.{accepted, lengthIs, _andThen_}
 use Rattle.hybit_core.proofs.BoolLaws.{and-both}
 use Rattle.hybit_core.proofs.AnswerLaws.{then-first, then-second, length-accepted}
-use Rattle.lent.specs.Lists.{each, part, every}
+use Rattle.lent.specs.Lists.{part, every}
 use Rattle.lent.proofs.ListLaws.{part-lent, every-by}
 use Rattle.lent.proofs.LentLaws.{Filled, filled-none, filled-length, filled-more, filled-done}
 use Rattle.csr32.proofs.FrameLaws.{RowIn}

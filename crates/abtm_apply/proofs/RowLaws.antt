@@ -1,6 +1,6 @@
 -- A row's number on the way, tile after tile. Assumes nothing.
-use mathlib.Core.Bool.{Bool, true}
-use mathlib.Core.List.{List, [], _∷_, map, zip, foldl}
+use mathlib.Core.Bool.{true}
+use mathlib.Core.List.{List, _∷_, map, zip, foldl}
 use mathlib.Core.Path.{_≡_, refl, sym, ap, _∙_}
 use Prim.Native.Nat.{ℕ, _+_, _≤_, _<_}
 use native.Mathlib.Numerals.{add-one}
@@ -11,7 +11,7 @@ use lib.Ieee.{Float}
 use Rattle.hybit_core.specs.Floats.{zero64}
 use Rattle.lent.specs.Lists.{every}
 use Rattle.lent.proofs.ListLaws.{every-getD}
-use Rattle.abtm.specs.Tiles.{Tile, Listed, tileAt}
+use Rattle.abtm.specs.Tiles.{Listed, tileAt}
 use Rattle.abtm_check.proofs.MetaLaws.{getD-zip, length-zip}
 use Rattle.abtm_apply.specs.Product.{addTile, sumTiles}
 use Rattle.abtm_apply.specs.Ready.{tileInside}

@@ -1,10 +1,9 @@
 -- One tile's products on the way: those of a Sparse or Bitmap tile, whose values stand in the order of its columns, and those of
 -- the places of a Dense tile. Assumes nothing.
-use mathlib.Core.Bool.{Bool, true, false}
+use mathlib.Core.Bool.{Bool, true}
 use mathlib.Core.List.{List, [], _∷_, map, zip, zipWith}
-use mathlib.Core.Path.{_≡_, refl, sym, ap, ap₂, _∙_}
+use mathlib.Core.Path.{_≡_, refl, sym, ap, _∙_}
 use Prim.Native.Nat.{ℕ, zero, suc, min, _+_, _-_, _≤_, _<_, _^_}
-use native.Mathlib.Nat.{add-suc}
 use native.Mathlib.Decide.{decLt}
 use native.Mathlib.Numerals.{add-one}
 use native.Mathlib.Omega.{arith}

@@ -1,5 +1,5 @@
 -- One tile by its place in the lists: its values are there, its columns have an x, and what it adds. Assumes nothing.
-use mathlib.Core.Bool.{Bool, true, false, cond, not, _&&_, true≢false}
+use mathlib.Core.Bool.{Bool, true, cond, not}
 use mathlib.Core.List.{List, [], _∷_, map, zip}
 use mathlib.Core.Path.{_≡_, refl, sym, ap, ap₂, _∙_}
 use Prim.Native.Nat.{ℕ, _+_, _-_, _*_, _≤_, _<_, _^_}
@@ -18,7 +18,7 @@ use Rattle.word.proofs.WalkLaws.{some-members}
 use Rattle.csr32.specs.Csr.{Entry, rowProduct}
 use Rattle.csr32.specs.Sums.{addedTo}
 use Rattle.topology.specs.Words.{wordRule}
-use Rattle.abtm.specs.Tiles.{wordIn, kindIn, isDense, places, stored, tileAt}
+use Rattle.abtm.specs.Tiles.{wordIn, kindIn, places, stored, tileAt}
 use Rattle.abtm.proofs.KindLaws.{dense-places, compact-places, dense-count}
 use Rattle.abtm_apply.specs.Product.{denseEntries, addTile}
 use Rattle.abtm_apply.specs.Ready.{columnsInside, tileInside}

@@ -8,7 +8,7 @@ ghost use lib.ListN.{length};
 ghost use Rattle.hybit_core.specs.Answer.{accepted};
 ghost use Rattle.hybit_core.specs.Floats.{zero64};
 ghost use Rattle.hybit_core.specs.Table.{told};
-ghost use Rattle.lent.specs.Lists.{each, only, every};
+ghost use Rattle.lent.specs.Lists.{only, every};
 ghost use Rattle.lent.specs.Lent.{kept};
 ghost use Rattle.word.specs.Bits.{below, members};
 ghost use Rattle.csr32.specs.Csr.{Entry};

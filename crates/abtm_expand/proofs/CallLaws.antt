@@ -6,6 +6,7 @@ use Prim.Native.Nat.{ℕ, _≤_, _<_}
 use native.Mathlib.Omega.{arith}
 use lib.Dec.{eqb, leb}
 use lib.ListN.{length, take, drop}
+use lib.Seq.{length-take-le}
 use Rattle.hybit_core.specs.Answer.{Answer, accepted, refused, plain, lengthsDiffer, demand, lengthIs, _andThen_}
 use Rattle.hybit_core.specs.Domain.{few}
 use Rattle.hybit_core.specs.Table.{paper, told}
@@ -18,7 +19,7 @@ use Rattle.lent.specs.Lent.{padded}
 use Rattle.lent.specs.Lists.{each}
 use Rattle.lent.proofs.LentLaws.{cleared-front}
 use Rattle.word.specs.Bits.{maskOf, ceil64}
-use Rattle.mask.specs.Mask.{Mask, asMask, maskWords, maskRules, maskAnswer}
+use Rattle.mask.specs.Mask.{asMask, maskWords, maskRules, maskAnswer}
 use Rattle.mask.proofs.MaskLaws.{checked}
 use Rattle.abtm.specs.Tiles.{Tiles, tileSizes, tilesRules, tilesAnswer}
 use Rattle.abtm_expand.specs.Expand.{expandAnswer}
@@ -86,3 +87,7 @@ pub mask-built : (p : ℕ → Bool) (n used : ℕ) (front old last : List ℕ) �
 unfolding maskWords
 mask-built p n used front old last u e h q =
     cleared-front 0 used (maskOf p n) front old last (e ∙ ap (each (maskOf p n)) (sym u)) h q ∙ ap (λ (k : ℕ). padded 0 (length old) (each (maskOf p n) k)) u
+
+-- its front that is lent has the mask's words
+pub front-long : (n : ℕ) (ws out : List ℕ) → length ws ≡ ceil64 n → ceil64 n ≤ length out → length (take (length ws) out) ≡ length ws
+front-long n ws out e h = length-take-le (length ws) out (omega arith)

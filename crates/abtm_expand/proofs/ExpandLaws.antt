@@ -13,7 +13,7 @@ use Rattle.hybit_core.specs.Domain.{few}
 use Rattle.hybit_core.proofs.BoolLaws.{and-left, and-right, and-both}
 use Rattle.hybit_core.proofs.AnswerLaws.{demand-accepted, then-first, then-second, length-accepted}
 use Rattle.lent.specs.Lists.{each, part, every, some}
-use Rattle.lent.proofs.ListLaws.{part-lent, each-cong, length-each, every-part, some-every, some-none, some-snoc}
+use Rattle.lent.proofs.ListLaws.{part-lent, each-cong, every-part, some-every, some-none, some-snoc}
 use Rattle.word.specs.Bits.{has, below, within, members, wordOf, maskOf, ceil64}
 use Rattle.word.proofs.BelowLaws.{below-snoc, below-zero}
 use Rattle.word.proofs.BitLaws.{within-cong, has-mask-of, every-below-at}
@@ -23,7 +23,7 @@ use Rattle.mask.proofs.MaskLaws.{Valid, rules-valid, words-are, length-words, w
 use Rattle.csr32.proofs.FrameLaws.{RowIn}
 use Rattle.topology.specs.Words.{wordRule}
 use Rattle.topology.proofs.RowLaws.{small, small-is, word-inside}
-use Rattle.abtm.specs.Tiles.{Tile, Tiles, Listed, wordIn, tileAt, rowTiles, inTile, inTiles, tileSizes, tilesRules}
+use Rattle.abtm.specs.Tiles.{Tiles, Listed, wordIn, tileAt, rowTiles, inTile, inTiles, tileSizes, tilesRules}
 use Rattle.abtm_check.proofs.TilesLaws.{AcceptedTiles, rules-facts, rowListed, masks-row, metas-row, metas-same, offsets-same, row-words}
 use Rattle.abtm_expand.specs.Expand.{reached, expanded, expandAnswer}
 use Rattle.abtm_expand.proofs.JoinLaws.{inWord, joinedTo}

@@ -1,16 +1,16 @@
 -- Words copied, and words that tile masks are joined into, on the way. Assumes nothing.
 use mathlib.Core.Bool.{Bool, true, false, _&&_, _||_, or-false}
 use mathlib.Core.List.{List, [], _∷_, _++_, zip}
-use mathlib.Core.Path.{_≡_, refl, sym, ap, ap₂, _∙_}
-use Prim.Native.Nat.{ℕ, suc, _+_, _≤_, _<_, _^_}
+use mathlib.Core.Path.{_≡_, refl, sym, ap, _∙_}
+use Prim.Native.Nat.{ℕ, _+_, _≤_, _<_, _^_}
 use native.Mathlib.Numerals.{add-one}
 use native.Mathlib.Omega.{arith}
 use lib.Dec.{eqb, ltb}
-use lib.ListN.{length, getD, take, set, length-set}
+use lib.ListN.{length, getD, take, set}
 use lib.Seq.{take-suc, take-all}
 use borrow.Author.Tests.{ltb-true, eq-eqb, ne-eqb}
 use Rattle.lent.specs.Lists.{each, every, some}
-use Rattle.lent.proofs.ListLaws.{length-each, getD-each, each-is, each-set, each-cong, every-getD, some-none, some-snoc}
+use Rattle.lent.proofs.ListLaws.{length-each, getD-each, each-is, each-set, every-getD, some-none, some-snoc}
 use Rattle.lent.proofs.LentLaws.{Filled, filled-none, filled-length, filled-more, filled-done}
 use Rattle.word.specs.Bits.{has, wordOf}
 use Rattle.word.proofs.OpLaws.{word-is, has-word, word-cong}

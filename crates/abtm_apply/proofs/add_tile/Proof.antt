@@ -37,10 +37,14 @@ part-add-dense-end : tie.Need-part-add-dense-end
 part-add-dense-end c = omega (arith, tile-end _ _ _ _ _ _ _ (c .before .before .before .before .before .before .before .pre) (c .before .before .before .wide .ensures ∙ c .before .before .before .before .word-in .ensures) (c .before .before .slot-count .ensures))
 
 add-dense-requires : tie.Need-add-dense-requires
-add-dense-requires c κs = let s = c .before .before .before .before .before .before .before .before in (tile-base _ _ _ _ _ _ _ (s .pre) (c .before .before .before .before .wide .ensures ∙ c .before .before .before .before .before .word-in .ensures) (c .before .before .before .slot-count .ensures) (s .fits .mask .fits), dense-long (s .args .values .now) (s .args .x .now) (s .args .mask) (s .args .offset) (s .args .meta) _ _ _ (c .before .before .before .before .wide .ensures ∙ c .before .before .before .before .before .word-in .ensures) (c .before .before .before .slot-count .ensures) (c .before .before .kind-in .ensures) (tile-end _ _ _ _ _ _ _ (s .pre) (c .before .before .before .before .wide .ensures ∙ c .before .before .before .before .before .word-in .ensures) (c .before .before .before .slot-count .ensures)) (c .before .if1 .taken))
+add-dense-requires c κs =
+    let s = c .before .before .before .before .before .before .before .before in
+    (tile-base _ _ _ _ _ _ _ (s .pre) (c .before .before .before .before .wide .ensures ∙ c .before .before .before .before .before .word-in .ensures) (c .before .before .before .slot-count .ensures) (s .fits .mask .fits), dense-long (s .args .values .now) (s .args .x .now) (s .args .mask) (s .args .offset) (s .args .meta) _ _ _ (c .before .before .before .before .wide .ensures ∙ c .before .before .before .before .before .word-in .ensures) (c .before .before .before .slot-count .ensures) (c .before .before .kind-in .ensures) (tile-end _ _ _ _ _ _ _ (s .pre) (c .before .before .before .before .wide .ensures ∙ c .before .before .before .before .before .word-in .ensures) (c .before .before .before .slot-count .ensures)) (c .before .if1 .taken))
 
 returns : tie.Need-returns
-returns c = let s = c .before .before .before .before .before .before .before .before .before in dense-adds (s .args .values .now) (s .args .x .now) (s .args .mask) (s .args .offset) (s .args .meta) _ _ _ (c .before .before .before .before .before .wide .ensures ∙ c .before .before .before .before .before .before .word-in .ensures) (c .before .before .before .before .slot-count .ensures) (c .before .before .before .kind-in .ensures) _ _ (c .before .before .if1 .taken) (c .add-dense .ensures)
+returns c =
+    let s = c .before .before .before .before .before .before .before .before .before in
+    dense-adds (s .args .values .now) (s .args .x .now) (s .args .mask) (s .args .offset) (s .args .meta) _ _ _ (c .before .before .before .before .before .wide .ensures ∙ c .before .before .before .before .before .before .word-in .ensures) (c .before .before .before .before .slot-count .ensures) (c .before .before .before .kind-in .ensures) _ _ (c .before .before .if1 .taken) (c .add-dense .ensures)
 
 mul-compact-sum : tie.Need-mul-compact-sum
 mul-compact-sum c = omega (arith, tile-end _ _ _ _ _ _ _ (c .before .before .before .before .before .before .before .pre) (c .before .before .before .wide .ensures ∙ c .before .before .before .before .word-in .ensures) (c .before .before .slot-count .ensures))
@@ -55,10 +59,14 @@ part-compact-sum-end : tie.Need-part-compact-sum-end
 part-compact-sum-end c = omega (arith, tile-end _ _ _ _ _ _ _ (c .before .before .before .before .before .before .before .pre) (c .before .before .before .wide .ensures ∙ c .before .before .before .before .word-in .ensures) (c .before .before .slot-count .ensures))
 
 compact-sum-requires : tie.Need-compact-sum-requires
-compact-sum-requires c κs = let s = c .before .before .before .before .before .before .before .before in (omega arith, (compact-long (s .args .values .now) (s .args .x .now) (s .args .mask) (s .args .offset) (s .args .meta) _ _ _ (c .before .before .before .before .wide .ensures ∙ c .before .before .before .before .before .word-in .ensures) (c .before .before .before .slot-count .ensures) (c .before .before .kind-in .ensures) (tile-end _ _ _ _ _ _ _ (s .pre) (c .before .before .before .before .wide .ensures ∙ c .before .before .before .before .before .word-in .ensures) (c .before .before .before .slot-count .ensures)) (c .before .if1 .left), tile-columns _ _ _ _ _ _ _ (s .pre) (c .before .before .before .before .wide .ensures ∙ c .before .before .before .before .before .word-in .ensures) (c .before .before .before .slot-count .ensures)))
+compact-sum-requires c κs =
+    let s = c .before .before .before .before .before .before .before .before in
+    (omega arith, (compact-long (s .args .values .now) (s .args .x .now) (s .args .mask) (s .args .offset) (s .args .meta) _ _ _ (c .before .before .before .before .wide .ensures ∙ c .before .before .before .before .before .word-in .ensures) (c .before .before .before .slot-count .ensures) (c .before .before .kind-in .ensures) (tile-end _ _ _ _ _ _ _ (s .pre) (c .before .before .before .before .wide .ensures ∙ c .before .before .before .before .before .word-in .ensures) (c .before .before .before .slot-count .ensures)) (c .before .if1 .left), tile-columns _ _ _ _ _ _ _ (s .pre) (c .before .before .before .before .wide .ensures ∙ c .before .before .before .before .before .word-in .ensures) (c .before .before .before .slot-count .ensures)))
 
 returns-2 : tie.Need-returns-2
-returns-2 c = let s = c .before .before .before .before .before .before .before .before .before in compact-adds (s .args .values .now) (s .args .x .now) (s .args .mask) (s .args .offset) (s .args .meta) _ _ _ (c .before .before .before .before .before .wide .ensures ∙ c .before .before .before .before .before .before .word-in .ensures) (c .before .before .before .before .slot-count .ensures) (c .before .before .before .kind-in .ensures) _ _ (c .before .before .if1 .left) (c .compact-sum .ensures)
+returns-2 c =
+    let s = c .before .before .before .before .before .before .before .before .before in
+    compact-adds (s .args .values .now) (s .args .x .now) (s .args .mask) (s .args .offset) (s .args .meta) _ _ _ (c .before .before .before .before .before .wide .ensures ∙ c .before .before .before .before .before .before .word-in .ensures) (c .before .before .before .before .slot-count .ensures) (c .before .before .before .kind-in .ensures) _ _ (c .before .before .if1 .left) (c .compact-sum .ensures)
 
 pub add-tile-spec : {M : Type 1} → statement M
 add-tile-spec =

@@ -37,7 +37,9 @@ shared-slice-read-add-tile-2 : tie.Need-shared-slice-read-add-tile-2 Inv-loop μ
 shared-slice-read-add-tile-2 c = search needs
 
 add-tile-requires : tie.Need-add-tile-requires Inv-loop μ-loop
-add-tile-requires c κs = let s = c .before .before .before .before .before .before .before .before .before .before .before in tile-in (s .args .masks .now) (s .args .value-offsets .now) (s .args .metas .now) (s .args .values .now) (s .args .x .now) (s .pre .0 .0) (s .pre .0 .1) (s .pre .1) _ _ (c .before .before .before .before .loop-test .taken) (c .before .wide .ensures)
+add-tile-requires c κs =
+    let s = c .before .before .before .before .before .before .before .before .before .before .before in
+    tile-in (s .args .masks .now) (s .args .value-offsets .now) (s .args .metas .now) (s .args .values .now) (s .args .x .now) (s .pre .0 .0) (s .pre .0 .1) (s .pre .1) _ _ (c .before .before .before .before .loop-test .taken) (c .before .wide .ensures)
 
 add-i : tie.Need-add-i Inv-loop μ-loop
 add-i c = search needs

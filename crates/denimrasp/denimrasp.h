@@ -3,7 +3,8 @@
  * Every call checks its own input and refuses by number, and no input stops it: what a caller owes is that each list's pointer
  * is not null, is aligned, and leads to as many places as the length after it says (for an empty list any such address will
  * do), that a list which a call writes to overlaps no other list of that call, and that the thread has stack left: 136 KiB
- * for building words, 456 KiB for packing and for the check of merged values, 4 KiB for any other call.
+ * for building words, 268 KiB for building tiles, 456 KiB for packing and for the check of merged values, 4 KiB for any other
+ * call.
  *
  * number in an answer: 0 accepted, 1 over size, 2 bad frame, 3 outside column, 4 not finite, 5 bad mask, 6 lengths differ,
  * 7 no such place, 8 frames differ, 9 bad thresholds, 10 not square, 11 bad words, 12 bad store, 13 short list. Under 6
@@ -405,9 +406,9 @@ DenimraspVerdict denimrasp_abtm_check(size_t nrows, size_t ncols,
     const uint32_t *value_offsets, size_t value_offsets_len, const uint32_t *metas, size_t metas_len,
     const double *values, size_t values_len, size_t matrix_nnz);
 
-/* The tiles of a plot list: nrows + 1 pointers, as many masks, offsets and metas as the answer's tiles, as many values as its
- * value_slots. There are at most as many tiles as entries, and at most 64 value slots for each tile. 13 exactly where they do not
- * fit. */
+/* The tiles of a plot list: nrows + 1 pointers, as many masks, offsets and metas as the answer's tiles, as many values
+ * as its value_slots. There are at most as many tiles as entries, and at most 64 * entries / dense_min_nnz value slots.
+ * 13 exactly where they do not fit. */
 DenimraspTiles denimrasp_abtm_from_csr32(size_t nrows, size_t ncols,
     const uint32_t *row_ptr, size_t row_ptr_len, const uint32_t *col_idx, size_t col_idx_len,
     const double *values, size_t values_len, uint8_t sparse_max_nnz, uint8_t dense_min_nnz,

@@ -3,7 +3,7 @@
 
 use super::{
     Made, Reason, accepted, csr_of, csr_within, filled, mask_of, mask_within, numbers, ones,
-    refused, told, wide, with_lists, within, zeros,
+    refused, told, with_lists, within, zeros,
 };
 use calls::{Call, Csr, Mask, Outcome, Tiles, TilesRoom, bits};
 use hybit_core::{HybitError, LinearOperator};
@@ -77,15 +77,27 @@ fn lists(m: &AbtmMatrix) -> [Vec<u64>; 5] {
 
 /// Whether the Rust's object has the same lists, the values by their bits.
 fn shows(m: &AbtmMatrix, t: &Tiles) -> bool {
-    let same = [
-        wide(&t.row_tile_ptr),
-        t.masks.clone(),
-        wide(&t.value_offsets),
-        wide(&t.metas),
-        numbers(&t.values),
-    ];
-    (m.rows(), m.cols(), m.stats().matrix_nnz) == (t.nrows, t.ncols, t.matrix_nnz)
-        && lists(m) == same
+    let stats = m.stats();
+    let figures = [stats.nrows, stats.ncols, stats.matrix_nnz, stats.tiles];
+    figures == [t.nrows, t.ncols, t.matrix_nnz, t.masks.len()]
+        && same_bits(m.values(), &t.values)
+        && (0..t.nrows).all(|row| shows_row(m, t, row))
+}
+
+/// The row's tiles stand between its pointers, which `plot_list` has looked at.
+fn shows_row(m: &AbtmMatrix, t: &Tiles, row: usize) -> bool {
+    let places = t.row_tile_ptr[row] as usize..t.row_tile_ptr[row + 1] as usize;
+    let tiles = m.row_tiles(row).expect("a row below the row count");
+    let same = |(place, tile): (usize, &TileDesc)| {
+        (tile.mask, tile.value_offset) == (t.masks[place], t.value_offsets[place])
+            && meta(tile) == t.metas[place]
+    };
+    places.len() == tiles.len() && places.zip(tiles).all(same)
+}
+
+fn same_bits(a: &[f64], b: &[f64]) -> bool {
+    let same = |(p, q): (&f64, &f64)| p.to_bits() == q.to_bits();
+    a.len() == b.len() && a.iter().zip(b).all(same)
 }
 
 /// Thresholds under which each tile has its kind by its count.
@@ -164,14 +176,12 @@ thread_local! {
 
 /// Equal by the bits of the values, since 0.0 == -0.0 and no NaN equals another.
 fn same_tiles(a: &Tiles, b: &Tiles) -> bool {
-    let same = |(p, q): (&f64, &f64)| p.to_bits() == q.to_bits();
     (a.nrows, a.ncols, a.matrix_nnz) == (b.nrows, b.ncols, b.matrix_nnz)
         && a.row_tile_ptr == b.row_tile_ptr
         && a.masks == b.masks
         && a.value_offsets == b.value_offsets
         && a.metas == b.metas
-        && a.values.len() == b.values.len()
-        && a.values.iter().zip(&b.values).all(same)
+        && same_bits(&a.values, &b.values)
 }
 
 fn tiles_of(t: &Tiles) -> Made<AbtmMatrix> {

@@ -346,8 +346,10 @@ fn dropped(call: &Call, drop: Drop) -> Call {
     if let Some(s) = store_in(&mut copy) {
         drop_store(s, drop);
     }
+    let expansion = matches!(copy, Call::AbtmExpandMaskOneHop(..));
     if let Some(t) = tiles_in(&mut copy) {
-        drop_tiles(t, drop);
+        let square = expansion && t.nrows == t.ncols;
+        drop_tiles(t, drop, square);
     }
     let (mut words_before, mut ones_before) = (0, 0);
     for w in words_in(&mut copy) {

@@ -27,8 +27,9 @@ pub fn extent(t: &Tiles) -> (usize, usize, usize, usize) {
     }
 }
 
-/// Drops from tiles whose lists lead to them. What no tile shows stays: absent values, a wrong total, values past the last.
-pub fn drop_tiles(t: &mut Tiles, drop: Drop) {
+/// Drops from tiles whose lists lead to them; where `square`, the columns go with their rows. A wrong total stays wrong; absent
+/// values and values past the last are lost.
+pub fn drop_tiles(t: &mut Tiles, drop: Drop, square: bool) {
     let Some(mut rows) = rows_of(t) else { return };
     let ones: usize = t.masks.iter().map(|m| m.count_ones() as usize).sum();
     let mut ncols = t.ncols;
@@ -45,6 +46,7 @@ pub fn drop_tiles(t: &mut Tiles, drop: Drop) {
         }
         Drop::ColumnsFrom(n) => {
             ncols = n;
+            rows.truncate(if square { n } else { t.nrows });
             rows.iter_mut().flatten().for_each(|tile| cut(tile, n));
         }
     }

@@ -16,12 +16,11 @@ use Rattle.lent.proofs.LentLaws.{appended-none, appended-snoc}
 use Rattle.word.specs.Bits.{has, below, between, count, wordOf}
 use Rattle.word.proofs.BelowLaws.{length-below-le, between-none, between-cons, between-block}
 use Rattle.word.proofs.OpLaws.{word-cong}
-use Rattle.topology.specs.Words.{setBits}
 use Rattle.topology.proofs.ScanLaws.{bits-one}
 use Rattle.topology.proofs.CallLaws.{bits-le}
 use Rattle.abtm.specs.declared.AbtmConfig.{AbtmConfig}
 use Rattle.abtm.specs.Values.{isZero}
-use Rattle.abtm.specs.Tiles.{Tile, placesOf, places, kindOf, metaOf, tileOf, laid, masksOf, metasOf, offsetsOf, slotsOf}
+use Rattle.abtm.specs.Tiles.{Tile, placesOf, places, kindOf, metaOf, tileOf, laid, masksOf}
 use Rattle.abtm_build.specs.declared.Cursor.{Cursor}
 use Rattle.abtm_build.specs.Window.{maskAt, hitAt, tilesBetween, windowValue, Marked}
 use Rattle.abtm_build.specs.Written.{Laid, Wrote, Bounded, Lists}

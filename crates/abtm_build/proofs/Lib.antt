@@ -1,6 +1,7 @@
 pub mod WindowLaws
 pub mod WordLaws
 pub mod EmitLaws
+pub mod FillLaws
 pub mod WroteLaws
 pub mod RowsLaws
 pub mod FewLaws

@@ -2,7 +2,7 @@
 use mathlib.Core.Bool.{Bool, true, false, not, _&&_, _||_, and-false}
 use mathlib.Core.List.{List, [], _∷_, _++_, zip, zipWith, append-nil}
 use mathlib.Core.Path.{_≡_, refl, sym, ap, ap₂, subst, _∙_}
-use Prim.Native.Nat.{ℕ, zero, suc, min, _+_, _-_, _*_, _/_, _≤_, _<_}
+use Prim.Native.Nat.{ℕ, zero, suc, min, _+_, _-_, _/_, _≤_, _<_}
 use native.Mathlib.Nat.{not-suc-le-zero}
 use native.Mathlib.Numerals.{add-one}
 use native.Mathlib.Decide.{decLt}
@@ -14,7 +14,7 @@ use lib.Ieee.{Float, nan, binary64, add}
 use borrow.Author.Tests.{eq-eqb, ne-eqb}
 use Rattle.hybit_core.specs.Floats.{zero64}
 use Rattle.lent.specs.Lists.{consIf, each, only, some}
-use Rattle.lent.proofs.ListLaws.{length-each, getD-each, each-set, each-cong, each-is, only-append, some-none}
+use Rattle.lent.proofs.ListLaws.{getD-each, each-set, each-cong, each-is, only-append, some-none}
 use Rattle.csr32.specs.Csr.{Entry, merged}
 use Rattle.csr32.proofs.MergedLaws.{addIf, merged-none, merged-snoc, firsts-all}
 use Rattle.abtm.specs.Values.{isZero, mergedNonzero}
@@ -51,7 +51,7 @@ marked-set size sums marks i v h inv = record { zeros = λ j b m. go j (decLt (j
 abbrev nonzero : Entry → Bool
 nonzero e = not (isZero (e .1))
 
-pub nonzero-none : (c : ℕ) → mergedNonzero [] c ≡ zero64
+nonzero-none : (c : ℕ) → mergedNonzero [] c ≡ zero64
 unfolding mergedNonzero only
 nonzero-none c = merged-none c
 

@@ -2,7 +2,7 @@
 use mathlib.Core.Bool.{Bool, true, false, not, cond, _&&_, _||_, or-false, and-true, and-false}
 use mathlib.Core.List.{List, [], _∷_, _++_, map, map-append}
 use mathlib.Core.Path.{_≡_, refl, sym, ap, ap₂, subst, _∙_}
-use Prim.Native.Nat.{ℕ, zero, suc, _+_, _*_, _≤_, _<_, _^_}
+use Prim.Native.Nat.{ℕ, zero, suc, _+_, _≤_, _<_}
 use native.Mathlib.Numerals.{add-one}
 use native.Mathlib.Decide.{decLt}
 use native.Mathlib.Omega.{arith}
@@ -24,10 +24,7 @@ use Rattle.abtm.proofs.KindLaws.{dense-places, compact-places}
 
 -- ---- the mask of the first i places
 
--- a bit set where the value is not zero, none otherwise
-pub marks-zero : (v : Float) (mask r : ℕ) (p : ℕ → Bool) → isZero v ≡ true → r ≡ mask → r ≡ cond (isZero v) mask (wordOf p)
-marks-zero v mask r p z e = e ∙ ap (λ (t : Bool). cond t mask (wordOf p)) (sym z)
-
+-- a bit set where the value is not zero
 pub marks-bit : (v : Float) (mask r : ℕ) (p : ℕ → Bool) → isZero v ≡ false → r ≡ wordOf p → r ≡ cond (isZero v) mask (wordOf p)
 marks-bit v mask r p z e = e ∙ ap (λ (t : Bool). cond t mask (wordOf p)) (sym z)
 

@@ -9,7 +9,9 @@ use Rattle.abtm_build.proofs.emit_block.Statement.{statement}
 use Rattle.abtm_build.proofs.emit_block.Tie as tie
 
 abbrev Inv-loop : tie.InvT-loop
-Inv-loop first block sums words config masks₀ value-offsets₀ metas₀ values₀ at₀ end next₀ masks value-offsets metas values at next = Emitting config (windowValue (64 * first) sums) (first + 64 * block) (first + next) at₀ at masks₀ masks value-offsets₀ value-offsets metas₀ metas values₀ values × (end ≡ 64 * block + 64) × (64 * block ≤ next) × (next ≤ end)
+Inv-loop first block sums words config masks₀ value-offsets₀ metas₀ values₀ at₀ end next₀ masks value-offsets metas values at next =
+    Emitting config (windowValue (64 * first) sums) (first + 64 * block) (first + next) at₀ at masks₀ masks value-offsets₀ value-offsets metas₀ metas values₀ values
+    × (end ≡ 64 * block + 64) × (64 * block ≤ next) × (next ≤ end)
 
 abbrev μ-loop : tie.MeasureT-loop
 μ-loop first block sums words config masks₀ value-offsets₀ metas₀ values₀ at₀ end next₀ masks value-offsets metas values at next = end - next
@@ -62,8 +64,13 @@ part-emit-word-end c = search needs
 emit-word-requires : tie.Need-emit-word-requires Inv-loop μ-loop
 emit-word-requires c κs =
     let l = c .before .before .before .before .before .before .before .before .loop in
-    let s = c .before .before .before .before .before .before .before .before .before .before .before .before .before .before .before in
-    (lent-length (s .args .first) (s .args .sums .now) (l .next) (omega (arith, s .pre .0, c .before .before .before .before .before .before .before .loop-test .taken)), (omega (arith, s .pre .0), (emitting-bounded _ _ _ _ _ _ _ _ _ _ _ _ _ _ (l .inv .0) (2 ^ 39) (2 ^ 40) (s .pre .1 .1 .0) (omega arith), emitting-lists _ _ _ _ _ _ _ _ _ _ _ _ _ _ (l .inv .0) (s .pre .1 .1 .1))))
+    let s = c .before .before .before .before .before .before .before .before .before .before .before .before .before .before .before in (
+      lent-length (s .args .first) (s .args .sums .now) (l .next) (omega (arith, s .pre .0, c .before .before .before .before .before .before .before .loop-test .taken)),
+      (
+        omega (arith, s .pre .0),
+        (emitting-bounded _ _ _ _ _ _ _ _ _ _ _ _ _ _ (l .inv .0) (2 ^ 39) (2 ^ 40) (s .pre .1 .1 .0) (omega arith), emitting-lists _ _ _ _ _ _ _ _ _ _ _ _ _ _ (l .inv .0) (s .pre .1 .1 .1)),
+      ),
+    )
 
 loop-less : tie.Need-loop-less Inv-loop μ-loop
 loop-less c = search needs
@@ -72,8 +79,14 @@ loop-again : tie.Need-loop-again Inv-loop μ-loop
 loop-again c =
     let l = c .before .before .before .before .before .before .before .before .before .before .before .before .before .before .before .before .before .loop in
     let e = c .before .before .before .before .before .before .before .before .emit-word in
+    let m = e .kept .1 .1 .1 .1 in
     let s = c .before .before .before .before .before .before .before .before .before .before .before .before .before .before .before .before .before .before .before .before .before .before .before .before in
-    (emitting-more _ _ _ _ _ _ _ _ _ _ _ _ _ _ (l .inv .0) _ _ _ _ _ _ _ _ _ refl (omega arith) (omega arith) (lent-value (s .args .first) (s .args .sums .now) (l .next)) (e .kept .1 .1 .1 .1 .0) (e .kept .1 .1 .1 .1 .1 .0) (e .kept .1 .1 .1 .1 .1 .1 .0) (e .kept .1 .1 .1 .1 .1 .1 .1 .0) (e .ensures), l .inv .1, omega (arith, l .inv .2), omega (arith, l .inv .1, c .before .before .before .before .before .before .before .before .before .before .before .before .before .before .before .before .loop-test .taken))
+    let r = lent-value (s .args .first) (s .args .sums .now) (l .next) in (
+      emitting-more _ _ _ _ _ _ _ _ _ _ _ _ _ _ (l .inv .0) _ _ _ _ _ _ _ _ _ refl (omega arith) (omega arith) r (m .0) (m .1 .0) (m .1 .1 .0) (m .1 .1 .1 .0) (e .ensures),
+      l .inv .1,
+      omega (arith, l .inv .2),
+      omega (arith, l .inv .1, c .before .before .before .before .before .before .before .before .before .before .before .before .before .before .before .before .loop-test .taken),
+    )
 
 loop-less-2 : tie.Need-loop-less-2 Inv-loop μ-loop
 loop-less-2 c = search needs

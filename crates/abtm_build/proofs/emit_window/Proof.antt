@@ -10,7 +10,9 @@ use Rattle.abtm_build.proofs.emit_window.Statement.{statement}
 use Rattle.abtm_build.proofs.emit_window.Tie as tie
 
 abbrev Inv-loop : tie.InvT-loop
-Inv-loop first sums words blocks config masks₀ value-offsets₀ metas₀ values₀ at₀ next₀ masks value-offsets metas values at next = Emitting config (windowValue (64 * first) sums) first (first + 64 * next) at₀ at masks₀ masks value-offsets₀ value-offsets metas₀ metas values₀ values × (next ≤ length blocks)
+Inv-loop first sums words blocks config masks₀ value-offsets₀ metas₀ values₀ at₀ next₀ masks value-offsets metas values at next =
+    Emitting config (windowValue (64 * first) sums) first (first + 64 * next) at₀ at masks₀ masks value-offsets₀ value-offsets metas₀ metas values₀ values
+    × (next ≤ length blocks)
 
 abbrev μ-loop : tie.MeasureT-loop
 μ-loop first sums words blocks config masks₀ value-offsets₀ metas₀ values₀ at₀ next₀ masks value-offsets metas values at next = length blocks - next
@@ -31,8 +33,13 @@ emit-block-requires : tie.Need-emit-block-requires Inv-loop μ-loop
 emit-block-requires c κs =
     let l = c .before .before .before .before .before .before .before .loop in
     let s = c .before .before .before .before .before .before .before .before .before .before .before .before .before .before .before in
-    let z = s .pre .0 in
-    ((omega (arith, z), omega (arith, z, c .before .before .before .before .before .before .loop-test .taken), omega (arith, z, s .pre .1 .0)), (s .pre .1 .1 .0, (emitting-bounded _ _ _ _ _ _ _ _ _ _ _ _ _ _ (l .inv .0) (2 ^ 38) (2 ^ 39) (s .pre .1 .1 .1 .1 .0) (omega (arith, z, l .inv .1)), emitting-lists _ _ _ _ _ _ _ _ _ _ _ _ _ _ (l .inv .0) (s .pre .1 .1 .1 .1 .1))))
+    let z = s .pre .0 in (
+      (omega (arith, z), omega (arith, z, c .before .before .before .before .before .before .loop-test .taken), omega (arith, z, s .pre .1 .0)),
+      (
+        s .pre .1 .1 .0,
+        (emitting-bounded _ _ _ _ _ _ _ _ _ _ _ _ _ _ (l .inv .0) (2 ^ 38) (2 ^ 39) (s .pre .1 .1 .1 .1 .0) (omega (arith, z, l .inv .1)), emitting-lists _ _ _ _ _ _ _ _ _ _ _ _ _ _ (l .inv .0) (s .pre .1 .1 .1 .1 .1)),
+      ),
+    )
 
 loop-less : tie.Need-loop-less Inv-loop μ-loop
 loop-less c = search needs
@@ -41,7 +48,10 @@ loop-again : tie.Need-loop-again Inv-loop μ-loop
 loop-again c =
     let l = c .before .before .before .before .before .before .before .before .before .before .before .before .before .before .before .before .loop in
     let e = c .before .before .before .before .before .before .before .before .emit-block in
-    (emitting-more _ _ _ _ _ _ _ _ _ _ _ _ _ _ (l .inv .0) _ _ _ _ _ _ _ _ _ refl (omega arith) (omega arith) (λ x a b. refl) (e .kept .1 .1 .1 .1 .1 .1 .0) (e .kept .1 .1 .1 .1 .1 .1 .1 .0) (e .kept .1 .1 .1 .1 .1 .1 .1 .1 .0) (e .kept .1 .1 .1 .1 .1 .1 .1 .1 .1 .0) (e .ensures), omega (arith, c .before .before .before .before .before .before .before .before .before .before .before .before .before .before .before .loop-test .taken))
+    let m = e .kept .1 .1 .1 .1 .1 .1 in (
+      emitting-more _ _ _ _ _ _ _ _ _ _ _ _ _ _ (l .inv .0) _ _ _ _ _ _ _ _ _ refl (omega arith) (omega arith) (λ x a b. refl) (m .0) (m .1 .0) (m .1 .1 .0) (m .1 .1 .1 .0) (e .ensures),
+      omega (arith, c .before .before .before .before .before .before .before .before .before .before .before .before .before .before .before .loop-test .taken),
+    )
 
 loop-less-2 : tie.Need-loop-less-2 Inv-loop μ-loop
 loop-less-2 c = search needs

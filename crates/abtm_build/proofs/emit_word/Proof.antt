@@ -42,10 +42,24 @@ add-t21 : tie.Need-add-t21
 add-t21 c = omega (arith, c .before .before .before .before .before .before .before .before .before .before .before .before .before .before .pre .1 .1 .0 .nnz-in, c .before .before .before .before .before .before .popcount .ensures, length-below-le (has (c .before .before .before .before .before .before .before .before .word-mask .result)) 64)
 
 returns-2 : tie.Need-returns-2
-returns-2 c = word-full _ _ (c .before .before .before .before .before .before .before .before .before .before .before .before .before .before .before .before .args .sums .now) _ (c .before .before .before .before .before .before .before .before .before .before .word-mask .ensures) (c .before .before .before .before .before .before .before .before .before .if1 .left) (c .before .before .before .before .before .before .before .before .before .before .before .before .before .before .before .before .pre .1 .0) _ _ _ _ (c .before .before .before .before .before .before .before .before .popcount .ensures) (c .before .before .before .before .before .before .before .kind-of .ensures) (c .before .before .before .before .before .before .narrow .ensures) (c .before .before .before .before .slot-count .ensures) (c .before .before .before .before .before .before .before .before .before .before .before .before .before .before .before .before .args .at) _ refl refl refl _ _ _ _ (λ a b. omega (arith, c .if2 .taken))
+returns-2 c =
+    let s = c .before .before .before .before .before .before .before .before .before .before .before .before .before .before .before .before in
+    let m = c .before .before .before .before .before .before .before .before .before .before .word-mask .ensures in
+    let b = c .before .before .before .before .before .before .before .before .popcount .ensures in
+    let k = c .before .before .before .before .before .before .before .kind-of .ensures in
+    let o = c .before .before .before .before .before .before .narrow .ensures in
+    let r = c .before .before .before .before .slot-count .ensures in
+    word-full _ _ (s .args .sums .now) _ m (c .before .before .before .before .before .before .before .before .before .if1 .left) (s .pre .1 .0) _ _ _ _ b k o r (s .args .at) _ refl refl refl _ _ _ _ (λ a b. omega (arith, c .if2 .taken))
 
 returns-3 : tie.Need-returns-3
-returns-3 c = word-full _ _ (c .before .before .before .before .before .before .before .before .before .before .before .before .before .before .before .before .before .before .args .sums .now) _ (c .before .before .before .before .before .before .before .before .before .before .before .before .word-mask .ensures) (c .before .before .before .before .before .before .before .before .before .before .before .if1 .left) (c .before .before .before .before .before .before .before .before .before .before .before .before .before .before .before .before .before .before .pre .1 .0) _ _ _ _ (c .before .before .before .before .before .before .before .before .before .before .popcount .ensures) (c .before .before .before .before .before .before .before .before .before .kind-of .ensures) (c .before .before .before .before .before .before .before .before .narrow .ensures) (c .before .before .before .before .before .before .slot-count .ensures) (c .before .before .before .before .before .before .before .before .before .before .before .before .before .before .before .before .before .before .args .at) _ refl refl refl _ _ _ _ (λ a b. omega (arith, c .if3 .taken))
+returns-3 c =
+    let s = c .before .before .before .before .before .before .before .before .before .before .before .before .before .before .before .before .before .before in
+    let m = c .before .before .before .before .before .before .before .before .before .before .before .before .word-mask .ensures in
+    let b = c .before .before .before .before .before .before .before .before .before .before .popcount .ensures in
+    let k = c .before .before .before .before .before .before .before .before .before .kind-of .ensures in
+    let o = c .before .before .before .before .before .before .before .before .narrow .ensures in
+    let r = c .before .before .before .before .before .before .slot-count .ensures in
+    word-full _ _ (s .args .sums .now) _ m (c .before .before .before .before .before .before .before .before .before .before .before .if1 .left) (s .pre .1 .0) _ _ _ _ b k o r (s .args .at) _ refl refl refl _ _ _ _ (λ a b. omega (arith, c .if3 .taken))
 
 mul-masks : tie.Need-mul-masks
 mul-masks c = search needs
@@ -69,7 +83,14 @@ slice-write-metas : tie.Need-slice-write-metas
 slice-write-metas c = omega (arith, c .before .before .before .if2 .left, c .before .before .before .before .before .before .before .before .before .before .before .before .before .before .before .before .before .before .before .pre .1 .1 .1 .metas-same)
 
 write-slots-requires : tie.Need-write-slots-requires
-write-slots-requires c κs = (c .before .before .before .before .before .before .before .before .before .before .before .before .before .before .before .before .before .before .before .before .pre .0, (c .before .before .before .before .before .before .before .before .before .before .before .before .before .before .word-mask .ensures, word-room _ _ (c .before .before .before .before .before .before .before .before .before .before .before .before .before .before .before .before .before .before .before .before .args .sums .now) _ (c .before .before .before .before .before .before .before .before .before .before .before .before .before .before .word-mask .ensures) (c .before .before .before .before .before .before .before .before .before .before .before .before .before .if1 .left) (c .before .before .before .before .before .before .before .before .before .before .before .before .before .before .before .before .before .before .before .before .pre .1 .0) _ _ _ _ (c .before .before .before .before .before .before .before .before .before .before .before .before .popcount .ensures) (c .before .before .before .before .before .before .before .before .before .before .before .kind-of .ensures) (c .before .before .before .before .before .before .before .before .before .before .narrow .ensures) (c .before .before .before .before .before .before .before .before .slot-count .ensures) (c .before .before .before .before .before .before .before .before .before .before .before .before .before .before .before .before .before .before .before .before .args .at) _ refl refl refl _ (omega (arith, c .before .before .if3 .left))))
+write-slots-requires c κs =
+    let s = c .before .before .before .before .before .before .before .before .before .before .before .before .before .before .before .before .before .before .before .before in
+    let m = c .before .before .before .before .before .before .before .before .before .before .before .before .before .before .word-mask .ensures in
+    let b = c .before .before .before .before .before .before .before .before .before .before .before .before .popcount .ensures in
+    let k = c .before .before .before .before .before .before .before .before .before .before .before .kind-of .ensures in
+    let o = c .before .before .before .before .before .before .before .before .before .before .narrow .ensures in
+    let r = c .before .before .before .before .before .before .before .before .slot-count .ensures in
+    (s .pre .0, (m, word-room _ _ (s .args .sums .now) _ m (c .before .before .before .before .before .before .before .before .before .before .before .before .before .if1 .left) (s .pre .1 .0) _ _ _ _ b k o r (s .args .at) _ refl refl refl _ (omega (arith, c .before .before .if3 .left))))
 
 same-length : tie.Need-same-length
 same-length c = search needs
@@ -84,7 +105,14 @@ same-length-4 : tie.Need-same-length-4
 same-length-4 c = search needs
 
 returns-4 : tie.Need-returns-4
-returns-4 c = word-some _ _ (c .before .before .before .before .before .before .before .before .before .before .before .before .before .before .before .before .before .before .before .before .before .before .before .args .sums .now) _ (c .before .before .before .before .before .before .before .before .before .before .before .before .before .before .before .before .before .word-mask .ensures) (c .before .before .before .before .before .before .before .before .before .before .before .before .before .before .before .before .if1 .left) (c .before .before .before .before .before .before .before .before .before .before .before .before .before .before .before .before .before .before .before .before .before .before .before .pre .1 .0) _ _ _ _ (c .before .before .before .before .before .before .before .before .before .before .before .before .before .before .before .popcount .ensures) (c .before .before .before .before .before .before .before .before .before .before .before .before .before .before .kind-of .ensures) (c .before .before .before .before .before .before .before .before .before .before .before .before .before .narrow .ensures) (c .before .before .before .before .before .before .before .before .before .before .before .slot-count .ensures) (c .before .before .before .before .before .before .before .before .before .before .before .before .before .before .before .before .before .before .before .before .before .before .before .args .at) _ refl refl refl _ _ _ _ _ _ (c .before .before .before .before .before .before .before .before .before .before .before .before .before .before .before .before .before .before .before .before .before .before .before .pre .1 .1 .1) (omega (arith, c .before .before .before .before .before .before .before .if2 .left)) (omega (arith, c .before .before .before .before .before .if3 .left)) (c .before .before .before .before .narrow2 .ensures) (c .before .before .write-slots .ensures)
+returns-4 c =
+    let s = c .before .before .before .before .before .before .before .before .before .before .before .before .before .before .before .before .before .before .before .before .before .before .before in
+    let m = c .before .before .before .before .before .before .before .before .before .before .before .before .before .before .before .before .before .word-mask .ensures in
+    let b = c .before .before .before .before .before .before .before .before .before .before .before .before .before .before .before .popcount .ensures in
+    let k = c .before .before .before .before .before .before .before .before .before .before .before .before .before .before .kind-of .ensures in
+    let o = c .before .before .before .before .before .before .before .before .before .before .before .before .before .narrow .ensures in
+    let r = c .before .before .before .before .before .before .before .before .before .before .before .slot-count .ensures in
+    word-some _ _ (s .args .sums .now) _ m (c .before .before .before .before .before .before .before .before .before .before .before .before .before .before .before .before .if1 .left) (s .pre .1 .0) _ _ _ _ b k o r (s .args .at) _ refl refl refl _ _ _ _ _ _ (s .pre .1 .1 .1) (omega (arith, c .before .before .before .before .before .before .before .if2 .left)) (omega (arith, c .before .before .before .before .before .if3 .left)) (c .before .before .before .before .narrow2 .ensures) (c .before .before .write-slots .ensures)
 
 pub emit-word-spec : {M : Type 1} → statement M
 emit-word-spec =

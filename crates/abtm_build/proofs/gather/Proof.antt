@@ -11,7 +11,9 @@ use Rattle.abtm_build.proofs.gather.Statement.{statement}
 use Rattle.abtm_build.proofs.gather.Tie as tie
 
 abbrev Inv-loop : tie.InvT-loop
-Inv-loop cols vals base past sums₀ words₀ blocks₀ width next₀ k₀ sums words blocks next k = (width ≡ length sums₀) × (length sums ≡ length sums₀) × (length words ≡ length words₀) × (length blocks ≡ length blocks₀) × (next ≤ past) × Marked 64 sums words × Marked 4096 sums blocks × Gathered cols vals base (length sums₀) k sums next
+Inv-loop cols vals base past sums₀ words₀ blocks₀ width next₀ k₀ sums words blocks next k =
+    (width ≡ length sums₀) × (length sums ≡ length sums₀) × (length words ≡ length words₀) × (length blocks ≡ length blocks₀) × (next ≤ past)
+    × Marked 64 sums words × Marked 4096 sums blocks × Gathered cols vals base (length sums₀) k sums next
 
 abbrev μ-loop : tie.MeasureT-loop
 μ-loop cols vals base past sums₀ words₀ blocks₀ width next₀ k₀ sums words blocks next k = length cols - k
@@ -52,10 +54,13 @@ loop-less c = search needs
 
 loop-again : tie.Need-loop-again Inv-loop μ-loop
 loop-again c =
-    let l = c .before .before .before .before .before .before .before .before .before .before .before .before .before .before .before .before .before .before .loop in
     let a = c .before .before .before .before .before .before .add-at in
+    let m = a .kept .1 .1 in
+    let l = c .before .before .before .before .before .before .before .before .before .before .before .before .before .before .before .before .before .before .loop in
+    let i = l .inv in
     let z = sym (flag-off _ _ (c .before .before .before .before .before .before .before .before .before .before .before .before .before .is-zero .ensures) (c .before .before .before .before .before .before .before .before .before .before .before .before .if1 .taken)) in
-    (l .inv .0, a .kept .1 .1 .0 ∙ l .inv .1, a .kept .1 .1 .1 .0 ∙ l .inv .2, a .kept .1 .1 .1 .1 .0 ∙ l .inv .3, l .inv .4, a .ensures .1 .0, a .ensures .1 .1, gathered-as _ _ _ _ _ _ _ _ (a .ensures .0) (gathered-in _ _ _ _ _ _ _ (l .inv .7) _ _ (omega arith) (c .before .before .before .before .before .before .before .before .before .before .before .before .before .before .before .before .before .before .before .before .before .before .before .before .pre .0) (c .before .before .before .before .before .before .before .before .before .before .before .before .before .before .before .wide .ensures) refl z (omega arith) (omega arith)))
+    let g = gathered-in _ _ _ _ _ _ _ (i .7) _ _ (omega arith) (c .before .before .before .before .before .before .before .before .before .before .before .before .before .before .before .before .before .before .before .before .before .before .before .before .pre .0) (c .before .before .before .before .before .before .before .before .before .before .before .before .before .before .before .wide .ensures) refl z (omega arith) (omega arith) in
+    (i .0, m .0 ∙ i .1, m .1 .0 ∙ i .2, m .1 .1 .0 ∙ i .3, i .4, a .ensures .1 .0, a .ensures .1 .1, gathered-as _ _ _ _ _ _ _ _ (a .ensures .0) g)
 
 smaller-requires : tie.Need-smaller-requires Inv-loop μ-loop
 smaller-requires c κs = search needs

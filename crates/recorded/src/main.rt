@@ -284,12 +284,16 @@ fn show_f64(s: &[f64]) {
     }
 }
 
-fn mask_check(text: &[u8], at: &mut usize) {
+// The calls that are handed a mask alone.
+fn mask_question(call: u64, text: &[u8], at: &mut usize) {
     let mut words_room = [0u64; MASK_ROOM];
     let len = index(text, at);
     let words = read_u64(text, at, &mut words_room);
-    let r = denimrasp::denimrasp_mask_check(len, words);
-    verdict(r);
+    match call {
+        0 => verdict(denimrasp::denimrasp_mask_check(len, words)),
+        2 => count(denimrasp::denimrasp_mask_count_ones(len, words)),
+        _ => answer(denimrasp::denimrasp_mask_is_empty(len, words)),
+    }
 }
 
 fn mask_contains(text: &[u8], at: &mut usize) {
@@ -298,22 +302,6 @@ fn mask_contains(text: &[u8], at: &mut usize) {
     let words = read_u64(text, at, &mut words_room);
     let index = index(text, at);
     let r = denimrasp::denimrasp_mask_contains(len, words, index);
-    answer(r);
-}
-
-fn mask_count_ones(text: &[u8], at: &mut usize) {
-    let mut words_room = [0u64; MASK_ROOM];
-    let len = index(text, at);
-    let words = read_u64(text, at, &mut words_room);
-    let r = denimrasp::denimrasp_mask_count_ones(len, words);
-    count(r);
-}
-
-fn mask_is_empty(text: &[u8], at: &mut usize) {
-    let mut words_room = [0u64; MASK_ROOM];
-    let len = index(text, at);
-    let words = read_u64(text, at, &mut words_room);
-    let r = denimrasp::denimrasp_mask_is_empty(len, words);
     answer(r);
 }
 
@@ -370,54 +358,27 @@ fn mask_indices(text: &[u8], at: &mut usize) {
     show_usize(out);
 }
 
-fn mask_union_assign(text: &[u8], at: &mut usize) {
+// The calls that are handed two masks; all but the last change the first.
+fn mask_pair(call: u64, text: &[u8], at: &mut usize) {
     let mut words_room = [0u64; MASK_ROOM];
     let mut other_room = [0u64; MASK_ROOM];
     let len = index(text, at);
     let words = read_u64(text, at, &mut words_room);
     let other_len = index(text, at);
     let other = read_u64(text, at, &mut other_room);
-    let r = denimrasp::denimrasp_mask_union_assign(len, words, other_len, other);
-    verdict(r);
-    show_u64(words);
+    match call {
+        9 => verdict(denimrasp::denimrasp_mask_union_assign(len, words, other_len, other)),
+        10 => verdict(denimrasp::denimrasp_mask_intersect_assign(len, words, other_len, other)),
+        11 => verdict(denimrasp::denimrasp_mask_and_not_assign(len, words, other_len, other)),
+        _ => answer(denimrasp::denimrasp_mask_intersects(len, words, other_len, other)),
+    }
+    if call < 12 {
+        show_u64(words);
+    }
 }
 
-fn mask_intersect_assign(text: &[u8], at: &mut usize) {
-    let mut words_room = [0u64; MASK_ROOM];
-    let mut other_room = [0u64; MASK_ROOM];
-    let len = index(text, at);
-    let words = read_u64(text, at, &mut words_room);
-    let other_len = index(text, at);
-    let other = read_u64(text, at, &mut other_room);
-    let r = denimrasp::denimrasp_mask_intersect_assign(len, words, other_len, other);
-    verdict(r);
-    show_u64(words);
-}
-
-fn mask_and_not_assign(text: &[u8], at: &mut usize) {
-    let mut words_room = [0u64; MASK_ROOM];
-    let mut other_room = [0u64; MASK_ROOM];
-    let len = index(text, at);
-    let words = read_u64(text, at, &mut words_room);
-    let other_len = index(text, at);
-    let other = read_u64(text, at, &mut other_room);
-    let r = denimrasp::denimrasp_mask_and_not_assign(len, words, other_len, other);
-    verdict(r);
-    show_u64(words);
-}
-
-fn mask_intersects(text: &[u8], at: &mut usize) {
-    let mut words_room = [0u64; MASK_ROOM];
-    let mut other_room = [0u64; MASK_ROOM];
-    let len = index(text, at);
-    let words = read_u64(text, at, &mut words_room);
-    let other_len = index(text, at);
-    let other = read_u64(text, at, &mut other_room);
-    let r = denimrasp::denimrasp_mask_intersects(len, words, other_len, other);
-    answer(r);
-}
-
-fn csr32_check(text: &[u8], at: &mut usize) {
+// The calls that are handed a plot list alone.
+fn csr32_question(call: u64, text: &[u8], at: &mut usize) {
     let mut row_ptr_room = [0u32; ROOM];
     let mut col_idx_room = [0u32; ROOM];
     let mut values_room = [0.0f64; ROOM];
@@ -426,8 +387,30 @@ fn csr32_check(text: &[u8], at: &mut usize) {
     let row_ptr = read_u32(text, at, &mut row_ptr_room);
     let col_idx = read_u32(text, at, &mut col_idx_room);
     let values = read_f64(text, at, &mut values_room);
-    let r = denimrasp::denimrasp_csr32_check(nrows, ncols, row_ptr, col_idx, values);
-    verdict(r);
+    match call {
+        13 => verdict(denimrasp::denimrasp_csr32_check(nrows, ncols, row_ptr, col_idx, values)),
+        15 => count(denimrasp::denimrasp_csr32_metadata_bytes(
+            nrows,
+            ncols,
+            row_ptr,
+            col_idx,
+            values,
+        )),
+        16 => count(denimrasp::denimrasp_csr32_storage_bytes(
+            nrows,
+            ncols,
+            row_ptr,
+            col_idx,
+            values,
+        )),
+        _ => verdict(denimrasp::denimrasp_metadata_first_check_merge(
+            nrows,
+            ncols,
+            row_ptr,
+            col_idx,
+            values,
+        )),
+    }
 }
 
 fn csr32_apply(text: &[u8], at: &mut usize) {
@@ -448,51 +431,28 @@ fn csr32_apply(text: &[u8], at: &mut usize) {
     show_f64(y);
 }
 
-fn csr32_metadata_bytes(text: &[u8], at: &mut usize) {
-    let mut row_ptr_room = [0u32; ROOM];
-    let mut col_idx_room = [0u32; ROOM];
-    let mut values_room = [0.0f64; ROOM];
-    let nrows = index(text, at);
-    let ncols = index(text, at);
-    let row_ptr = read_u32(text, at, &mut row_ptr_room);
-    let col_idx = read_u32(text, at, &mut col_idx_room);
-    let values = read_f64(text, at, &mut values_room);
-    let r = denimrasp::denimrasp_csr32_metadata_bytes(nrows, ncols, row_ptr, col_idx, values);
-    count(r);
-}
-
-fn csr32_storage_bytes(text: &[u8], at: &mut usize) {
-    let mut row_ptr_room = [0u32; ROOM];
-    let mut col_idx_room = [0u32; ROOM];
-    let mut values_room = [0.0f64; ROOM];
-    let nrows = index(text, at);
-    let ncols = index(text, at);
-    let row_ptr = read_u32(text, at, &mut row_ptr_room);
-    let col_idx = read_u32(text, at, &mut col_idx_room);
-    let values = read_f64(text, at, &mut values_room);
-    let r = denimrasp::denimrasp_csr32_storage_bytes(nrows, ncols, row_ptr, col_idx, values);
-    count(r);
-}
-
-fn topology_check(text: &[u8], at: &mut usize) {
+// The calls that are handed words alone.
+fn topology_question(call: u64, text: &[u8], at: &mut usize) {
     let mut row_word_ptr_room = [0u32; ROOM];
     let mut word_indices_room = [0u32; ROOM];
     let mut masks_room = [0u64; ROOM];
     let nrows = index(text, at);
     let ncols = index(text, at);
-    let row_word_ptr = read_u32(text, at, &mut row_word_ptr_room);
-    let word_indices = read_u32(text, at, &mut word_indices_room);
+    let ptr = read_u32(text, at, &mut row_word_ptr_room);
+    let words = read_u32(text, at, &mut word_indices_room);
     let masks = read_u64(text, at, &mut masks_room);
-    let structural_nnz = index(text, at);
-    let r = denimrasp::denimrasp_topology_check(
-        nrows,
-        ncols,
-        row_word_ptr,
-        word_indices,
-        masks,
-        structural_nnz,
-    );
-    verdict(r);
+    let nnz = index(text, at);
+    match call {
+        17 => verdict(denimrasp::denimrasp_topology_check(nrows, ncols, ptr, words, masks, nnz)),
+        _ => word_figures(denimrasp::denimrasp_topology_stats(
+            nrows,
+            ncols,
+            ptr,
+            words,
+            masks,
+            nnz,
+        )),
+    }
 }
 
 fn topology_from_csr32(text: &[u8], at: &mut usize) {
@@ -526,169 +486,94 @@ fn topology_from_csr32(text: &[u8], at: &mut usize) {
     show_u64(masks);
 }
 
-fn topology_row_words(text: &[u8], at: &mut usize) {
+// The questions to a row.
+fn topology_row(call: u64, text: &[u8], at: &mut usize) {
     let mut row_word_ptr_room = [0u32; ROOM];
     let mut word_indices_room = [0u32; ROOM];
     let mut masks_room = [0u64; ROOM];
     let nrows = index(text, at);
     let ncols = index(text, at);
-    let row_word_ptr = read_u32(text, at, &mut row_word_ptr_room);
-    let word_indices = read_u32(text, at, &mut word_indices_room);
+    let ptr = read_u32(text, at, &mut row_word_ptr_room);
+    let words = read_u32(text, at, &mut word_indices_room);
     let masks = read_u64(text, at, &mut masks_room);
-    let structural_nnz = index(text, at);
+    let nnz = index(text, at);
     let row = index(text, at);
-    let r = denimrasp::denimrasp_topology_row_words(
-        nrows,
-        ncols,
-        row_word_ptr,
-        word_indices,
-        masks,
-        structural_nnz,
-        row,
-    );
-    part(r);
+    match call {
+        19 => part(denimrasp::denimrasp_topology_row_words(
+            nrows,
+            ncols,
+            ptr,
+            words,
+            masks,
+            nnz,
+            row,
+        )),
+        20 => count(denimrasp::denimrasp_topology_row_nonempty_words(
+            nrows,
+            ncols,
+            ptr,
+            words,
+            masks,
+            nnz,
+            row,
+        )),
+        _ => count(denimrasp::denimrasp_topology_row_popcount(
+            nrows,
+            ncols,
+            ptr,
+            words,
+            masks,
+            nnz,
+            row,
+        )),
+    }
 }
 
-fn topology_row_nonempty_words(text: &[u8], at: &mut usize) {
+// The questions to a row at a column or an ordinal.
+fn topology_row_place(call: u64, text: &[u8], at: &mut usize) {
     let mut row_word_ptr_room = [0u32; ROOM];
     let mut word_indices_room = [0u32; ROOM];
     let mut masks_room = [0u64; ROOM];
     let nrows = index(text, at);
     let ncols = index(text, at);
-    let row_word_ptr = read_u32(text, at, &mut row_word_ptr_room);
-    let word_indices = read_u32(text, at, &mut word_indices_room);
+    let ptr = read_u32(text, at, &mut row_word_ptr_room);
+    let words = read_u32(text, at, &mut word_indices_room);
     let masks = read_u64(text, at, &mut masks_room);
-    let structural_nnz = index(text, at);
+    let nnz = index(text, at);
     let row = index(text, at);
-    let r = denimrasp::denimrasp_topology_row_nonempty_words(
-        nrows,
-        ncols,
-        row_word_ptr,
-        word_indices,
-        masks,
-        structural_nnz,
-        row,
-    );
-    count(r);
-}
-
-fn topology_row_popcount(text: &[u8], at: &mut usize) {
-    let mut row_word_ptr_room = [0u32; ROOM];
-    let mut word_indices_room = [0u32; ROOM];
-    let mut masks_room = [0u64; ROOM];
-    let nrows = index(text, at);
-    let ncols = index(text, at);
-    let row_word_ptr = read_u32(text, at, &mut row_word_ptr_room);
-    let word_indices = read_u32(text, at, &mut word_indices_room);
-    let masks = read_u64(text, at, &mut masks_room);
-    let structural_nnz = index(text, at);
-    let row = index(text, at);
-    let r = denimrasp::denimrasp_topology_row_popcount(
-        nrows,
-        ncols,
-        row_word_ptr,
-        word_indices,
-        masks,
-        structural_nnz,
-        row,
-    );
-    count(r);
-}
-
-fn topology_row_contains(text: &[u8], at: &mut usize) {
-    let mut row_word_ptr_room = [0u32; ROOM];
-    let mut word_indices_room = [0u32; ROOM];
-    let mut masks_room = [0u64; ROOM];
-    let nrows = index(text, at);
-    let ncols = index(text, at);
-    let row_word_ptr = read_u32(text, at, &mut row_word_ptr_room);
-    let word_indices = read_u32(text, at, &mut word_indices_room);
-    let masks = read_u64(text, at, &mut masks_room);
-    let structural_nnz = index(text, at);
-    let row = index(text, at);
-    let col = index(text, at);
-    let r = denimrasp::denimrasp_topology_row_contains(
-        nrows,
-        ncols,
-        row_word_ptr,
-        word_indices,
-        masks,
-        structural_nnz,
-        row,
-        col,
-    );
-    answer(r);
-}
-
-fn topology_row_rank(text: &[u8], at: &mut usize) {
-    let mut row_word_ptr_room = [0u32; ROOM];
-    let mut word_indices_room = [0u32; ROOM];
-    let mut masks_room = [0u64; ROOM];
-    let nrows = index(text, at);
-    let ncols = index(text, at);
-    let row_word_ptr = read_u32(text, at, &mut row_word_ptr_room);
-    let word_indices = read_u32(text, at, &mut word_indices_room);
-    let masks = read_u64(text, at, &mut masks_room);
-    let structural_nnz = index(text, at);
-    let row = index(text, at);
-    let col = index(text, at);
-    let r = denimrasp::denimrasp_topology_row_rank(
-        nrows,
-        ncols,
-        row_word_ptr,
-        word_indices,
-        masks,
-        structural_nnz,
-        row,
-        col,
-    );
-    count(r);
-}
-
-fn topology_row_select(text: &[u8], at: &mut usize) {
-    let mut row_word_ptr_room = [0u32; ROOM];
-    let mut word_indices_room = [0u32; ROOM];
-    let mut masks_room = [0u64; ROOM];
-    let nrows = index(text, at);
-    let ncols = index(text, at);
-    let row_word_ptr = read_u32(text, at, &mut row_word_ptr_room);
-    let word_indices = read_u32(text, at, &mut word_indices_room);
-    let masks = read_u64(text, at, &mut masks_room);
-    let structural_nnz = index(text, at);
-    let row = index(text, at);
-    let ordinal = index(text, at);
-    let r = denimrasp::denimrasp_topology_row_select(
-        nrows,
-        ncols,
-        row_word_ptr,
-        word_indices,
-        masks,
-        structural_nnz,
-        row,
-        ordinal,
-    );
-    selection(r);
-}
-
-fn topology_stats(text: &[u8], at: &mut usize) {
-    let mut row_word_ptr_room = [0u32; ROOM];
-    let mut word_indices_room = [0u32; ROOM];
-    let mut masks_room = [0u64; ROOM];
-    let nrows = index(text, at);
-    let ncols = index(text, at);
-    let row_word_ptr = read_u32(text, at, &mut row_word_ptr_room);
-    let word_indices = read_u32(text, at, &mut word_indices_room);
-    let masks = read_u64(text, at, &mut masks_room);
-    let structural_nnz = index(text, at);
-    let r = denimrasp::denimrasp_topology_stats(
-        nrows,
-        ncols,
-        row_word_ptr,
-        word_indices,
-        masks,
-        structural_nnz,
-    );
-    word_figures(r);
+    let n = index(text, at);
+    match call {
+        22 => answer(denimrasp::denimrasp_topology_row_contains(
+            nrows,
+            ncols,
+            ptr,
+            words,
+            masks,
+            nnz,
+            row,
+            n,
+        )),
+        23 => count(denimrasp::denimrasp_topology_row_rank(
+            nrows,
+            ncols,
+            ptr,
+            words,
+            masks,
+            nnz,
+            row,
+            n,
+        )),
+        _ => selection(denimrasp::denimrasp_topology_row_select(
+            nrows,
+            ncols,
+            ptr,
+            words,
+            masks,
+            nnz,
+            row,
+            n,
+        )),
+    }
 }
 
 // The set operation of that number.
@@ -835,7 +720,8 @@ fn topology_operation(call: u64, text: &[u8], at: &mut usize) {
     show_u64(out_masks);
 }
 
-fn metadata_first_check(text: &[u8], at: &mut usize) {
+// The calls that are handed a store alone.
+fn metadata_first_question(call: u64, text: &[u8], at: &mut usize) {
     let mut row_word_ptr_room = [0u32; ROOM];
     let mut word_indices_room = [0u32; ROOM];
     let mut masks_room = [0u64; ROOM];
@@ -843,36 +729,34 @@ fn metadata_first_check(text: &[u8], at: &mut usize) {
     let mut values_room = [0.0f64; ROOM];
     let nrows = index(text, at);
     let ncols = index(text, at);
-    let row_word_ptr = read_u32(text, at, &mut row_word_ptr_room);
-    let word_indices = read_u32(text, at, &mut word_indices_room);
+    let ptr = read_u32(text, at, &mut row_word_ptr_room);
+    let words = read_u32(text, at, &mut word_indices_room);
     let masks = read_u64(text, at, &mut masks_room);
-    let structural_nnz = index(text, at);
-    let row_value_ptr = read_u32(text, at, &mut row_value_ptr_room);
-    let values = read_f64(text, at, &mut values_room);
-    let r = denimrasp::denimrasp_metadata_first_check(
-        nrows,
-        ncols,
-        row_word_ptr,
-        word_indices,
-        masks,
-        structural_nnz,
-        row_value_ptr,
-        values,
-    );
-    verdict(r);
-}
-
-fn metadata_first_check_merge(text: &[u8], at: &mut usize) {
-    let mut row_ptr_room = [0u32; ROOM];
-    let mut col_idx_room = [0u32; ROOM];
-    let mut values_room = [0.0f64; ROOM];
-    let nrows = index(text, at);
-    let ncols = index(text, at);
-    let row_ptr = read_u32(text, at, &mut row_ptr_room);
-    let col_idx = read_u32(text, at, &mut col_idx_room);
-    let values = read_f64(text, at, &mut values_room);
-    let r = denimrasp::denimrasp_metadata_first_check_merge(nrows, ncols, row_ptr, col_idx, values);
-    verdict(r);
+    let nnz = index(text, at);
+    let value_ptr = read_u32(text, at, &mut row_value_ptr_room);
+    let vals = read_f64(text, at, &mut values_room);
+    match call {
+        30 => verdict(denimrasp::denimrasp_metadata_first_check(
+            nrows,
+            ncols,
+            ptr,
+            words,
+            masks,
+            nnz,
+            value_ptr,
+            vals,
+        )),
+        _ => store_figures(denimrasp::denimrasp_metadata_first_stats(
+            nrows,
+            ncols,
+            ptr,
+            words,
+            masks,
+            nnz,
+            value_ptr,
+            vals,
+        )),
+    }
 }
 
 fn metadata_first_from_csr32(text: &[u8], at: &mut usize) {
@@ -941,33 +825,6 @@ fn metadata_first_row_values(text: &[u8], at: &mut usize) {
         row,
     );
     part(r);
-}
-
-fn metadata_first_stats(text: &[u8], at: &mut usize) {
-    let mut row_word_ptr_room = [0u32; ROOM];
-    let mut word_indices_room = [0u32; ROOM];
-    let mut masks_room = [0u64; ROOM];
-    let mut row_value_ptr_room = [0u32; ROOM];
-    let mut values_room = [0.0f64; ROOM];
-    let nrows = index(text, at);
-    let ncols = index(text, at);
-    let row_word_ptr = read_u32(text, at, &mut row_word_ptr_room);
-    let word_indices = read_u32(text, at, &mut word_indices_room);
-    let masks = read_u64(text, at, &mut masks_room);
-    let structural_nnz = index(text, at);
-    let row_value_ptr = read_u32(text, at, &mut row_value_ptr_room);
-    let values = read_f64(text, at, &mut values_room);
-    let r = denimrasp::denimrasp_metadata_first_stats(
-        nrows,
-        ncols,
-        row_word_ptr,
-        word_indices,
-        masks,
-        structural_nnz,
-        row_value_ptr,
-        values,
-    );
-    store_figures(r);
 }
 
 fn metadata_first_sparse_dot_row(text: &[u8], at: &mut usize) {
@@ -1064,66 +921,32 @@ fn word_popcount(text: &[u8], at: &mut usize) {
     size(r);
 }
 
-fn word_contains_offset(text: &[u8], at: &mut usize) {
+// The questions to a word at an offset or an ordinal.
+fn word_place(call: u64, text: &[u8], at: &mut usize) {
     let mask = numeral(text, at);
-    let offset = index(text, at);
-    let r = denimrasp::denimrasp_word_contains_offset(mask, offset);
+    let n = index(text, at);
+    match call {
+        39 => {
+            refusal(0, 0, 0);
+            truth(denimrasp::denimrasp_word_contains_offset(mask, n));
+        }
+        40 => count(denimrasp::denimrasp_word_rank(mask, n)),
+        _ => selection(denimrasp::denimrasp_word_select(mask, n)),
+    }
+}
+
+// The ratios of two counts.
+fn ratio(call: u64, text: &[u8], at: &mut usize) {
+    let a = index(text, at);
+    let b = index(text, at);
     refusal(0, 0, 0);
-    truth(r);
-}
-
-fn word_rank(text: &[u8], at: &mut usize) {
-    let mask = numeral(text, at);
-    let offset = index(text, at);
-    let r = denimrasp::denimrasp_word_rank(mask, offset);
-    count(r);
-}
-
-fn word_select(text: &[u8], at: &mut usize) {
-    let mask = numeral(text, at);
-    let ordinal = index(text, at);
-    let r = denimrasp::denimrasp_word_select(mask, ordinal);
-    selection(r);
-}
-
-fn topology_average_word_nnz(text: &[u8], at: &mut usize) {
-    let structural_nnz = index(text, at);
-    let nonempty_words = index(text, at);
-    let r = denimrasp::denimrasp_topology_average_word_nnz(structural_nnz, nonempty_words);
-    refusal(0, 0, 0);
-    float(r);
-}
-
-fn topology_word_fill_ratio(text: &[u8], at: &mut usize) {
-    let structural_nnz = index(text, at);
-    let nonempty_words = index(text, at);
-    let r = denimrasp::denimrasp_topology_word_fill_ratio(structural_nnz, nonempty_words);
-    refusal(0, 0, 0);
-    float(r);
-}
-
-fn topology_metadata_bytes_per_nnz(text: &[u8], at: &mut usize) {
-    let metadata_bytes = index(text, at);
-    let structural_nnz = index(text, at);
-    let r = denimrasp::denimrasp_topology_metadata_bytes_per_nnz(metadata_bytes, structural_nnz);
-    refusal(0, 0, 0);
-    float(r);
-}
-
-fn metadata_first_pruning_ratio(text: &[u8], at: &mut usize) {
-    let skipped_products = index(text, at);
-    let candidate_products = index(text, at);
-    let r = denimrasp::denimrasp_metadata_first_pruning_ratio(skipped_products, candidate_products);
-    refusal(0, 0, 0);
-    float(r);
-}
-
-fn metadata_first_empty_word_ratio(text: &[u8], at: &mut usize) {
-    let topology_words = index(text, at);
-    let active_words = index(text, at);
-    let r = denimrasp::denimrasp_metadata_first_empty_word_ratio(topology_words, active_words);
-    refusal(0, 0, 0);
-    float(r);
+    match call {
+        42 => float(denimrasp::denimrasp_topology_average_word_nnz(a, b)),
+        43 => float(denimrasp::denimrasp_topology_word_fill_ratio(a, b)),
+        44 => float(denimrasp::denimrasp_topology_metadata_bytes_per_nnz(a, b)),
+        45 => float(denimrasp::denimrasp_metadata_first_pruning_ratio(a, b)),
+        _ => float(denimrasp::denimrasp_metadata_first_empty_word_ratio(a, b)),
+    }
 }
 
 fn metadata_first_total_estimated_bytes(text: &[u8], at: &mut usize) {
@@ -1697,55 +1520,53 @@ fn metadata_first_report(text: &[u8], at: &mut usize) {
 
 fn mask_calls(call: u64, text: &[u8], at: &mut usize) {
     match call {
-        0 => mask_check(text, at),
         1 => mask_contains(text, at),
-        2 => mask_count_ones(text, at),
-        3 => mask_is_empty(text, at),
         4 => mask_new(text, at),
         5 => mask_from_indices(text, at),
         6 => mask_set(text, at),
         7 => mask_or_word(text, at),
         8 => mask_indices(text, at),
-        9 => mask_union_assign(text, at),
-        10 => mask_intersect_assign(text, at),
-        11 => mask_and_not_assign(text, at),
-        _ => mask_intersects(text, at),
+        _ => mask_records(call, text, at),
+    }
+}
+
+fn mask_records(call: u64, text: &[u8], at: &mut usize) {
+    if call < 9 {
+        mask_question(call, text, at);
+    } else {
+        mask_pair(call, text, at);
     }
 }
 
 fn csr32_calls(call: u64, text: &[u8], at: &mut usize) {
     match call {
-        13 => csr32_check(text, at),
         14 => csr32_apply(text, at),
-        15 => csr32_metadata_bytes(text, at),
-        _ => csr32_storage_bytes(text, at),
+        _ => csr32_question(call, text, at),
     }
 }
 
 fn topology_calls(call: u64, text: &[u8], at: &mut usize) {
-    match call {
-        17 => topology_check(text, at),
-        18 => topology_from_csr32(text, at),
-        19 => topology_row_words(text, at),
-        20 => topology_row_nonempty_words(text, at),
-        21 => topology_row_popcount(text, at),
-        22 => topology_row_contains(text, at),
-        23 => topology_row_rank(text, at),
-        24 => topology_row_select(text, at),
-        25 => topology_stats(text, at),
-        _ => topology_operation(call, text, at),
+    if call == 18 {
+        topology_from_csr32(text, at);
+    } else if call == 17 || call == 25 {
+        topology_question(call, text, at);
+    } else if call < 22 {
+        topology_row(call, text, at);
+    } else if call < 25 {
+        topology_row_place(call, text, at);
+    } else {
+        topology_operation(call, text, at);
     }
 }
 
 fn metadata_first_calls(call: u64, text: &[u8], at: &mut usize) {
     match call {
-        30 => metadata_first_check(text, at),
-        31 => metadata_first_check_merge(text, at),
+        31 => csr32_question(call, text, at),
         32 => metadata_first_from_csr32(text, at),
         33 => metadata_first_row_values(text, at),
-        34 => metadata_first_stats(text, at),
         35 => metadata_first_sparse_dot_row(text, at),
-        _ => metadata_first_sparse_dot_rows(text, at),
+        36 => metadata_first_sparse_dot_rows(text, at),
+        _ => metadata_first_question(call, text, at),
     }
 }
 
@@ -1753,16 +1574,12 @@ fn value_calls(call: u64, text: &[u8], at: &mut usize) {
     match call {
         37 => word_base_col(text, at),
         38 => word_popcount(text, at),
-        39 => word_contains_offset(text, at),
-        40 => word_rank(text, at),
-        41 => word_select(text, at),
-        42 => topology_average_word_nnz(text, at),
-        43 => topology_word_fill_ratio(text, at),
-        44 => topology_metadata_bytes_per_nnz(text, at),
-        45 => metadata_first_pruning_ratio(text, at),
-        46 => metadata_first_empty_word_ratio(text, at),
+        39 => word_place(call, text, at),
+        40 => word_place(call, text, at),
+        41 => word_place(call, text, at),
         47 => metadata_first_total_estimated_bytes(text, at),
-        _ => metadata_first_accumulate(text, at),
+        48 => metadata_first_accumulate(text, at),
+        _ => ratio(call, text, at),
     }
 }
 

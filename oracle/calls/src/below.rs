@@ -1,5 +1,5 @@
 //! Calls of the crates below the C interface that it doesn't export. The program `recorded` replays them under numbers from 200
-//! on; the model alone judges them, since hybit has no such functions, or none that can be reached.
+//! on. The model alone judges them: hybit has few of them, and those are judged through C calls that rest on the same functions.
 
 use crate::{Counts, Mask, Store, Words, WordsRoom};
 

@@ -75,6 +75,7 @@ pub fn calls() -> Vec<Call> {
         }
         pairs(&mut all, len);
     }
+    meetings(&mut all);
     over_size(&mut all);
     all
 }
@@ -161,6 +162,22 @@ fn pairs(all: &mut Vec<Call>, len: usize) {
         for b in others.iter().flatten() {
             both(all, &a, b);
             both(all, b, &a);
+        }
+    }
+}
+
+/// Three words that have one bit each, in the first, the middle or the last: masks that meet in one word only, and masks that
+/// have bits in one word and don't meet.
+fn meetings(all: &mut Vec<Call>) {
+    let single = |word: usize, bits: u64| {
+        let mut words = [0; 3];
+        words[word] = bits;
+        mask(190, &words)
+    };
+    for word in 0..3 {
+        for other in 0..3 {
+            both(all, &single(word, 6), &single(other, 3));
+            both(all, &single(word, 6), &single(other, 8));
         }
     }
 }

@@ -99,7 +99,8 @@ fn small_numbers() -> Vec<Row> {
 /// Overflow, and numbers just below it.
 fn large_numbers() -> Vec<Row> {
     let largest = [f64::MAX, f64::MAX, f64::MIN];
-    let near_tie = [9.979201547673598e291, 9.979201547673599e291, 1.0];
+    // Half a unit in the last place of the largest value is 2^970; the number just below it, and it.
+    let near_tie = [9.979201547673598e291, 9.9792015476736e291, 1.0];
     let huge = [1e200, -1e200, 1e108];
     vec![
         (largest, [1.0; 3]),

@@ -2,6 +2,7 @@
 
 mod abtm;
 mod any_input;
+mod below;
 mod combine;
 mod csr32;
 mod dot;

@@ -80,6 +80,11 @@ fn index(text: &[u8], at: &mut usize) -> usize {
 }
 
 // The next list of the input, in the first places of the room for it.
+// A number below 256.
+fn byte(text: &[u8], at: &mut usize) -> u8 {
+    (numeral(text, at) % 256) as u8
+}
+
 fn read_u32<'a>(text: &[u8], at: &mut usize, room: &'a mut [u32]) -> &'a mut [u32] {
     let used = places(numeral(text, at), room.len());
     let mut k: usize = 0;
@@ -989,8 +994,8 @@ fn metadata_first_accumulate(text: &[u8], at: &mut usize) {
 }
 
 fn abtm_validate(text: &[u8], at: &mut usize) {
-    let sparse_max_nnz = (numeral(text, at) & 255) as u8;
-    let dense_min_nnz = (numeral(text, at) & 255) as u8;
+    let sparse_max_nnz = byte(text, at);
+    let dense_min_nnz = byte(text, at);
     verdict(denimrasp::denimrasp_abtm_validate(sparse_max_nnz, dense_min_nnz));
 }
 
@@ -1035,8 +1040,8 @@ fn abtm_from_csr32(text: &[u8], at: &mut usize) {
     let row_ptr = read_u32(text, at, &mut row_ptr_room);
     let col_idx = read_u32(text, at, &mut col_idx_room);
     let values = read_f64(text, at, &mut values_room);
-    let sparse_max_nnz = (numeral(text, at) & 255) as u8;
-    let dense_min_nnz = (numeral(text, at) & 255) as u8;
+    let sparse_max_nnz = byte(text, at);
+    let dense_min_nnz = byte(text, at);
     let row_tile_ptr = read_u32(text, at, &mut row_tile_ptr_room);
     let masks = read_u64(text, at, &mut masks_room);
     let value_offsets = read_u32(text, at, &mut value_offsets_room);

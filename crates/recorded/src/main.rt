@@ -999,7 +999,8 @@ fn abtm_validate(text: &[u8], at: &mut usize) {
     verdict(denimrasp::denimrasp_abtm_validate(sparse_max_nnz, dense_min_nnz));
 }
 
-fn abtm_check(text: &[u8], at: &mut usize) {
+// The calls that are handed tiles alone, or with a row.
+fn tile_question(call: u64, text: &[u8], at: &mut usize) {
     let mut row_tile_ptr_room = [0u32; ROOM];
     let mut masks_room = [0u64; ROOM];
     let mut value_offsets_room = [0u32; ROOM];
@@ -1007,23 +1008,45 @@ fn abtm_check(text: &[u8], at: &mut usize) {
     let mut values_room = [0.0f64; ROOM];
     let nrows = index(text, at);
     let ncols = index(text, at);
-    let row_tile_ptr = read_u32(text, at, &mut row_tile_ptr_room);
+    let ptr = read_u32(text, at, &mut row_tile_ptr_room);
     let masks = read_u64(text, at, &mut masks_room);
-    let value_offsets = read_u32(text, at, &mut value_offsets_room);
+    let offsets = read_u32(text, at, &mut value_offsets_room);
     let metas = read_u32(text, at, &mut metas_room);
     let values = read_f64(text, at, &mut values_room);
-    let matrix_nnz = index(text, at);
-    let r = denimrasp::denimrasp_abtm_check(
-        nrows,
-        ncols,
-        row_tile_ptr,
-        masks,
-        value_offsets,
-        metas,
-        values,
-        matrix_nnz,
-    );
-    verdict(r);
+    let nnz = index(text, at);
+    match call {
+        50 => verdict(denimrasp::denimrasp_abtm_check(
+            nrows,
+            ncols,
+            ptr,
+            masks,
+            offsets,
+            metas,
+            values,
+            nnz,
+        )),
+        55 => tile_figures(denimrasp::denimrasp_abtm_stats(
+            nrows,
+            ncols,
+            ptr,
+            masks,
+            offsets,
+            metas,
+            values,
+            nnz,
+        )),
+        _ => part(denimrasp::denimrasp_abtm_row_tiles(
+            nrows,
+            ncols,
+            ptr,
+            masks,
+            offsets,
+            metas,
+            values,
+            nnz,
+            index(text, at),
+        )),
+    }
 }
 
 fn abtm_from_csr32(text: &[u8], at: &mut usize) {
@@ -1079,62 +1102,6 @@ fn abtm_tile_base_col(text: &[u8], at: &mut usize) {
     let r = denimrasp::denimrasp_abtm_tile_base_col(meta);
     refusal(0, 0, 0);
     size(r);
-}
-
-fn abtm_row_tiles(text: &[u8], at: &mut usize) {
-    let mut row_tile_ptr_room = [0u32; ROOM];
-    let mut masks_room = [0u64; ROOM];
-    let mut value_offsets_room = [0u32; ROOM];
-    let mut metas_room = [0u32; ROOM];
-    let mut values_room = [0.0f64; ROOM];
-    let nrows = index(text, at);
-    let ncols = index(text, at);
-    let row_tile_ptr = read_u32(text, at, &mut row_tile_ptr_room);
-    let masks = read_u64(text, at, &mut masks_room);
-    let value_offsets = read_u32(text, at, &mut value_offsets_room);
-    let metas = read_u32(text, at, &mut metas_room);
-    let values = read_f64(text, at, &mut values_room);
-    let matrix_nnz = index(text, at);
-    let row = index(text, at);
-    let r = denimrasp::denimrasp_abtm_row_tiles(
-        nrows,
-        ncols,
-        row_tile_ptr,
-        masks,
-        value_offsets,
-        metas,
-        values,
-        matrix_nnz,
-        row,
-    );
-    part(r);
-}
-
-fn abtm_stats(text: &[u8], at: &mut usize) {
-    let mut row_tile_ptr_room = [0u32; ROOM];
-    let mut masks_room = [0u64; ROOM];
-    let mut value_offsets_room = [0u32; ROOM];
-    let mut metas_room = [0u32; ROOM];
-    let mut values_room = [0.0f64; ROOM];
-    let nrows = index(text, at);
-    let ncols = index(text, at);
-    let row_tile_ptr = read_u32(text, at, &mut row_tile_ptr_room);
-    let masks = read_u64(text, at, &mut masks_room);
-    let value_offsets = read_u32(text, at, &mut value_offsets_room);
-    let metas = read_u32(text, at, &mut metas_room);
-    let values = read_f64(text, at, &mut values_room);
-    let matrix_nnz = index(text, at);
-    let r = denimrasp::denimrasp_abtm_stats(
-        nrows,
-        ncols,
-        row_tile_ptr,
-        masks,
-        value_offsets,
-        metas,
-        values,
-        matrix_nnz,
-    );
-    tile_figures(r);
 }
 
 fn abtm_metadata_bytes_per_nnz(text: &[u8], at: &mut usize) {
@@ -1591,16 +1558,14 @@ fn value_calls(call: u64, text: &[u8], at: &mut usize) {
 fn tile_calls(call: u64, text: &[u8], at: &mut usize) {
     match call {
         49 => abtm_validate(text, at),
-        50 => abtm_check(text, at),
         51 => abtm_from_csr32(text, at),
         52 => abtm_tile_kind(text, at),
         53 => abtm_tile_base_col(text, at),
-        54 => abtm_row_tiles(text, at),
-        55 => abtm_stats(text, at),
         56 => abtm_metadata_bytes_per_nnz(text, at),
         57 => abtm_total_estimated_bytes(text, at),
         58 => abtm_apply(text, at),
-        _ => abtm_expand_mask_one_hop(text, at),
+        59 => abtm_expand_mask_one_hop(text, at),
+        _ => tile_question(call, text, at),
     }
 }
 

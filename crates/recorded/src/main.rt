@@ -4,6 +4,7 @@
 // expected and actual, the result, and every list that was lent to be written. The expected output is what the Rust or the model
 // of document 01 answered (oracle/record).
 ghost use Prim.Native.Nat.{_≤_};
+use abtm::AbtmConfig;
 use denimrasp_answers::DenimraspBool;
 use denimrasp_answers::DenimraspCount;
 use denimrasp_answers::DenimraspDot;
@@ -1490,6 +1491,90 @@ fn metadata_first_report(text: &[u8], at: &mut usize) {
     float(report.empty_word_ratio());
 }
 
+fn tile_parts(text: &[u8], at: &mut usize) {
+    let mut row_tile_ptr_room = [0u32; ROOM];
+    let mut masks_room = [0u64; ROOM];
+    let mut value_offsets_room = [0u32; ROOM];
+    let mut metas_room = [0u32; ROOM];
+    let mut values_room = [0.0f64; ROOM];
+    let nrows = index(text, at);
+    let ncols = index(text, at);
+    let ptr = read_u32(text, at, &mut row_tile_ptr_room);
+    let masks = read_u64(text, at, &mut masks_room);
+    let offsets = read_u32(text, at, &mut value_offsets_room);
+    let metas = read_u32(text, at, &mut metas_room);
+    let values = read_f64(text, at, &mut values_room);
+    let nnz = index(text, at);
+    let row = index(text, at);
+    let mut a: u32 = 99;
+    let mut b: u32 = 99;
+    let mut c: u32 = 99;
+    let of_masks = abtm_rows::row_tile_masks(
+        nrows,
+        ncols,
+        ptr,
+        masks,
+        offsets,
+        metas,
+        values,
+        nnz,
+        row,
+        &mut a,
+    );
+    let of_offsets = abtm_rows::row_tile_value_offsets(
+        nrows,
+        ncols,
+        ptr,
+        masks,
+        offsets,
+        metas,
+        values,
+        nnz,
+        row,
+        &mut b,
+    );
+    let of_metas = abtm_rows::row_tile_metas(
+        nrows,
+        ncols,
+        ptr,
+        masks,
+        offsets,
+        metas,
+        values,
+        nnz,
+        row,
+        &mut c,
+    );
+    refusal(a, 0, 0);
+    size(hybit_core::wide(b));
+    size(hybit_core::wide(c));
+    show_u64(of_masks);
+    show_u32(of_offsets);
+    show_u32(of_metas);
+}
+
+fn tile_value(text: &[u8], at: &mut usize) {
+    let meta = hybit_core::narrow(index(text, at));
+    let mask = numeral(text, at);
+    let sparse_max_nnz = byte(text, at);
+    let dense_min_nnz = byte(text, at);
+    let nnz = index(text, at);
+    let x = float_of(numeral(text, at));
+    let thresholds = AbtmConfig {
+        sparse_max_nnz,
+        dense_min_nnz,
+    };
+    let default = abtm::default_config();
+    refusal(0, 0, 0);
+    size(hybit_core::wide(abtm::word_in(meta)));
+    size(hybit_core::wide(abtm::kind_in(meta)));
+    size(abtm::slot_count(mask, meta));
+    size(hybit_core::wide(thresholds.kind_of(nnz)));
+    number(default.sparse_max_nnz as u64);
+    number(default.dense_min_nnz as u64);
+    truth(abtm::is_zero(x));
+}
+
 fn mask_calls(call: u64, text: &[u8], at: &mut usize) {
     match call {
         1 => mask_contains(text, at),
@@ -1595,7 +1680,9 @@ fn record_calls(call: u64, text: &[u8], at: &mut usize) {
         247 => topology_row_masks(text, at),
         248 => metadata_first_row_part(text, at),
         249 => metadata_first_report(text, at),
-        _ => topology_word(text, at),
+        250 => topology_word(text, at),
+        251 => tile_parts(text, at),
+        _ => tile_value(text, at),
     }
 }
 

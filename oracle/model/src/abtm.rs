@@ -213,13 +213,32 @@ pub fn judge_tile_base_col(meta: u32) -> Outcome {
     count(Ok(base_col(word_number(meta))))
 }
 
+/// The word number and the kind of a meta, the slots of its tile, the kind of a count; and the thresholds that the Rust takes
+/// where none are given, which document 01 doesn't name.
+pub fn judge_value(meta: u32, mask: u64, [sparse, dense]: [u8; 2], count: usize) -> Outcome {
+    let slots = Kind::of_meta(meta).map_or(0, |kind| kind.slots(mask).len());
+    answer(Ok([
+        word_number(meta).into(),
+        (meta >> 30).into(),
+        slots as u64,
+        kind_by_count(count, sparse, dense) as u64,
+        8,
+        40,
+    ]))
+}
+
 pub fn judge_row_tiles(tiles: &Tiles, row: usize) -> Outcome {
     answer(row_tiles(tiles, row))
 }
 
-fn row_tiles(tiles: &Tiles, row: usize) -> Checked<[u64; 2]> {
+/// The check that every question to a row makes.
+pub fn check_row(tiles: &Tiles, row: usize) -> Checked {
     check(tiles)?;
-    need(row < tiles.nrows, NO_SUCH_PLACE)?;
+    need(row < tiles.nrows, NO_SUCH_PLACE)
+}
+
+fn row_tiles(tiles: &Tiles, row: usize) -> Checked<[u64; 2]> {
+    check_row(tiles, row)?;
     let places = part(&tiles.row_tile_ptr, row);
     Ok([places.start as u64, places.end as u64])
 }

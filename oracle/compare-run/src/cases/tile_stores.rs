@@ -36,7 +36,7 @@ fn tile(meta: u32, mask: u64, present: &[f64]) -> Tile {
 
 /// Three rows of 130 columns, the second empty: Sparse 3, Dense 64 and 127; Bitmap 0 and 63, Sparse 128, which is the last tile
 /// and has a column past it.
-fn trial() -> Tiles {
+pub fn trial() -> Tiles {
     let rows = [
         vec![
             tile(SPARSE, 8, &[1.5]),
@@ -81,7 +81,7 @@ fn handed(all: &mut Vec<Call>, t: &Tiles) {
     all.push(Call::AbtmExpandMaskOneHop(t.clone(), bad, vec![77; 2]));
 }
 
-fn damaged() -> Vec<Tiles> {
+pub fn damaged() -> Vec<Tiles> {
     [damaged_lists(), damaged_tiles(), damaged_slots()].concat()
 }
 

@@ -3,14 +3,16 @@ use mathlib.Core.Bool.{Bool, true, false, not, _||_, false≢true}
 use mathlib.Core.List.{List, [], _∷_, zip}
 use mathlib.Core.Path.{_≡_, refl, sym, ap, _∙_}
 use Prim.Native.Nat.{ℕ, _+_, _-_, _*_, _/_, _≤_, _<_}
+use native.Mathlib.Nat.{le-refl}
 use native.Mathlib.Omega.{arith}
 use lib.Dec.{eqb, ltb}
-use lib.ListN.{length, getD, replicate}
+use lib.ListN.{length, getD, take, replicate, length-replicate}
+use lib.Seq.{length-take-le}
 use lib.Ieee.{Float, nan}
 use borrow.Author.Tests.{ltb-true}
 use Rattle.hybit_core.specs.Floats.{zero64}
 use Rattle.lent.specs.Lists.{consIf, each, every, only, some}
-use Rattle.lent.proofs.ListLaws.{length-each, getD-each, every-at}
+use Rattle.lent.proofs.ListLaws.{length-each, getD-each, every-at, zeros-front}
 use Rattle.csr32.specs.Csr.{Entry, ofColumn, present}
 use Rattle.csr32.proofs.CsrLaws.{present-columns}
 use Rattle.csr32.proofs.MergedLaws.{merged-absent}
@@ -18,7 +20,7 @@ use Rattle.abtm.specs.declared.AbtmConfig.{AbtmConfig}
 use Rattle.abtm.specs.Values.{isZero, mergedNonzero}
 use Rattle.abtm.specs.Tiles.{rowTilesOf}
 use Rattle.abtm_build.specs.declared.Cursor.{Cursor}
-use Rattle.abtm_build.specs.Window.{tilesBetween, windowValue, Next, Outside}
+use Rattle.abtm_build.specs.Window.{tilesBetween, windowValue, Sized, Next, Outside}
 use Rattle.abtm_build.specs.Written.{Wrote}
 use Rattle.abtm_build.proofs.WroteLaws.{wrote-as, tiles-row}
 use Rattle.abtm_build.proofs.EmitLaws.{Emitting, emitting-skip, emitting-more}
@@ -99,3 +101,17 @@ module _ (h : AbtmConfig) (cs : List ℕ) (vs : List Float) (same : length vs �
       let v : ℕ → Float = mergedNonzero (zip cs vs) in
       wrote-as (tilesBetween h v 0 (next / 64)) (rowTilesOf h cols (λ c. not (isZero (v c))) v) from at ms₀ ms os₀ os ks₀ ks vals₀ vals
       (tiles-row h v cols (past-columns cs vs same cols inside) (next / 64) (λ c l u. p .zeros c l (omega arith))) (inv .wrote)
+
+-- ---- the window at the start: the first places of arrays of zeros
+
+pub start-sized : (a b c : ℕ) → a ≡ 64 * b → b ≡ 64 * c → 0 < c → c ≤ 16 → Sized (length (take a (replicate a zero64))) (length {A = ℕ} (take b (replicate b 0))) (length {A = ℕ} (take c (replicate c 0)))
+start-sized a b c e f g h =
+    let i : length (take a (replicate a zero64)) ≡ a = length-take-le a (replicate a zero64) (omega (arith, length-replicate a zero64)) in
+    let j : length {A = ℕ} (take b (replicate b 0)) ≡ b = length-take-le {A = ℕ} b (replicate b 0) (omega (arith, length-replicate {A = ℕ} b 0)) in
+    let k : length {A = ℕ} (take c (replicate c 0)) ≡ c = length-take-le {A = ℕ} c (replicate c 0) (omega (arith, length-replicate {A = ℕ} c 0)) in
+    record { words-are = omega (arith, i, j, e); blocks-are = omega (arith, j, k, f); some-block = omega (arith, k, g); few-blocks = omega (arith, k, h) }
+
+pub start-zeros : (a : ℕ) → take a (replicate a zero64) ≡ replicate (length (take a (replicate a zero64))) zero64
+start-zeros a =
+    let i : length (take a (replicate a zero64)) ≡ a = length-take-le a (replicate a zero64) (omega (arith, length-replicate a zero64)) in
+    zeros-front zero64 a a (le-refl a) ∙ ap (λ (n : ℕ). replicate n zero64) (sym i)

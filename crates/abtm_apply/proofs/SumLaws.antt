@@ -95,10 +95,10 @@ module _ (vals x : List Float) (base : ℕ) (start : Float) where
       ∙ none-left d (suc j) vs (omega arith)
 
   module _ (limit j : ℕ) (s : Float) (inv : Dense limit j s) (e : limit ≡ min 64 (length x - base)) (h : base ≤ length x) (v : length vals ≡ 64) where
-    pub dense-value : j < limit → j < length vals
+    dense-value : j < limit → j < length vals
     dense-value l = omega arith
 
-    pub dense-column : j < limit → base + j < length x
+    dense-column : j < limit → base + j < length x
     dense-column l = omega arith
 
     pub dense-more : j < limit → Dense limit (j + 1) (add binary64 s (mul binary64 (getD vals j nan) (at x (base + j))))

@@ -1,5 +1,5 @@
 -- One tile by its place in the lists: its values are there, its columns have an x, and what it adds. Assumes nothing.
-use mathlib.Core.Bool.{Bool, true, cond, not}
+use mathlib.Core.Bool.{Bool, true, false, cond, not}
 use mathlib.Core.List.{List, [], _∷_, map, zip}
 use mathlib.Core.Path.{_≡_, refl, sym, ap, ap₂, _∙_}
 use Prim.Native.Nat.{ℕ, _+_, _-_, _*_, _≤_, _<_, _^_}
@@ -50,6 +50,13 @@ module _ (nv nx mask offset meta w n : ℕ) (e : tileInside nv nx (mask, (offset
       let in-x : 64 * w + low < nx = ltb-true (64 * w + low) nx (every-getD (λ i. ltb (64 * w + i) nx) (members mask) 0 64 tile-columns (some-members mask f some)) in
       omega arith
 
+-- the arm that a test picks
+pick-first : {A : Type 0} (b : Bool) (u v : A) → true ≡ b → u ≡ cond b u v
+pick-first b u v e = ap (λ (t : Bool). cond t u v) e
+
+pick-second : {A : Type 0} (b : Bool) (u v : A) → false ≡ b → v ≡ cond b u v
+pick-second b u v e = ap (λ (t : Bool). cond t u v) e
+
 -- what it adds
 module _ (vals x : List Float) (mask offset meta w n k : ℕ) (ew : w ≡ wordIn meta) (en : n ≡ length (places mask meta)) (ek : k ≡ kindIn meta) where
   pub part-long : offset + n ≤ length vals → length (take (offset + n - offset) (drop offset vals)) ≡ n
@@ -73,7 +80,7 @@ module _ (vals x : List Float) (mask offset meta w n k : ℕ) (ew : w ≡ wordIn
       e
       ∙ ap₂ (λ (u : ℕ) (t : List Float). addedTo s (only (λ (e : Entry). ltb (e .0) (length x)) (zip (map (λ i. 64 * u + i) (below (λ i. true) 64)) t)) x) ew slots-are
       ∙ ap (λ (t : List ℕ). addedTo s (only (λ (e : Entry). ltb (e .0) (length x)) (zip (map (λ i. 64 * wordIn meta + i) t) (slice offset (offset + length (places mask meta)) vals))) x) (sym (dense-places (kindIn meta) mask kind))
-      ∙ ap (λ (b : Bool). cond b (addedTo s (denseEntries (length x) (tileAt vals (mask, (offset, meta)))) x) (add binary64 s (rowProduct (stored (tileAt vals (mask, (offset, meta)))) x))) (is-equal (kindIn meta) 2 kind)
+      ∙ pick-first _ _ _ (is-equal (kindIn meta) 2 kind)
 
   pub compact-adds : (s r : Float) → (k ≡ 2 → ⊥)
       → r ≡ addedTo zero64 (zip (map (λ i. 64 * w + i) (members mask)) (take (offset + n - offset) (drop offset vals))) x
@@ -85,4 +92,4 @@ module _ (vals x : List Float) (mask offset meta w n k : ℕ) (ew : w ≡ wordIn
       (e
       ∙ ap₂ (λ (u : ℕ) (t : List Float). addedTo zero64 (zip (map (λ i. 64 * u + i) (members mask)) t) x) ew slots-are
       ∙ ap (λ (t : List ℕ). addedTo zero64 (zip (map (λ i. 64 * wordIn meta + i) t) (slice offset (offset + length (places mask meta)) vals)) x) (sym (compact-places (kindIn meta) mask kind)))
-      ∙ ap (λ (b : Bool). cond b (addedTo s (denseEntries (length x) (tileAt vals (mask, (offset, meta)))) x) (add binary64 s (rowProduct (stored (tileAt vals (mask, (offset, meta)))) x))) (is-unequal (kindIn meta) 2 kind)
+      ∙ pick-second _ _ _ (is-unequal (kindIn meta) 2 kind)

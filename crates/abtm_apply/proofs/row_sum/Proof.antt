@@ -1,6 +1,7 @@
 -- `abtm_apply::row_sum` meets its contract. Assumes nothing.
 use borrow.Author.Needs.{needs}
 use Prim.Native.Nat.{_-_}
+use native.Mathlib.Omega.{arith}
 use lib.ListN.{length}
 use Rattle.abtm_apply.proofs.RowLaws.{tile-in, Summing, summing-none, summing-more, summing-done}
 use Rattle.abtm_apply.proofs.row_sum.Statement.{statement}
@@ -39,7 +40,7 @@ shared-slice-read-add-tile-2 c = search needs
 add-tile-requires : tie.Need-add-tile-requires Inv-loop μ-loop
 add-tile-requires c κs =
     let s = c .before .before .before .before .before .before .before .before .before .before .before in
-    tile-in (s .args .masks .now) (s .args .value-offsets .now) (s .args .metas .now) (s .args .values .now) (s .args .x .now) (s .pre .0 .0) (s .pre .0 .1) (s .pre .1) _ _ (c .before .before .before .before .loop-test .taken) (c .before .wide .ensures)
+    tile-in (s .args .masks .now) (s .args .value-offsets .now) (s .args .metas .now) (s .args .values .now) (s .args .x .now) (s .pre .0 .0) (s .pre .0 .1) (s .pre .1) _ _ (omega arith) (c .before .wide .ensures)
 
 add-i : tie.Need-add-i Inv-loop μ-loop
 add-i c = search needs
@@ -48,10 +49,10 @@ loop-less : tie.Need-loop-less Inv-loop μ-loop
 loop-less c = search needs
 
 loop-again : tie.Need-loop-again Inv-loop μ-loop
-loop-again c = summing-more _ _ _ _ _ (c .before .before .before .before .before .before .before .before .before .before .before .before .pre .0 .0) (c .before .before .before .before .before .before .before .before .before .before .before .before .pre .0 .1) _ _ (c .before .before .before .before .before .before .loop .inv) _ _ (c .before .before .before .before .before .loop-test .taken) (c .before .before .wide .ensures) (c .add-tile .ensures)
+loop-again c = summing-more _ _ _ _ _ (c .before .before .before .before .before .before .before .before .before .before .before .before .pre .0 .0) (c .before .before .before .before .before .before .before .before .before .before .before .before .pre .0 .1) _ _ (c .before .before .before .before .before .before .loop .inv) _ _ (omega arith) (c .before .before .wide .ensures) (c .add-tile .ensures)
 
 returns : tie.Need-returns Inv-loop μ-loop
-returns c = summing-done _ _ _ _ _ (c .before .before .before .before .before .before .before .pre .0 .0) (c .before .before .before .before .before .before .before .pre .0 .1) _ _ (c .before .loop .inv) (c .loop-test .left)
+returns c = summing-done _ _ _ _ _ (c .before .before .before .before .before .before .before .pre .0 .0) (c .before .before .before .before .before .before .before .pre .0 .1) _ _ (c .before .loop .inv) (omega arith)
 
 pub row-sum-spec : {M : Type 1} → statement M
 row-sum-spec =

@@ -16,7 +16,7 @@ slice-aggregate-fill-rows-3 c = search needs
 
 fill-rows-requires : tie.Need-fill-rows-requires
 fill-rows-requires c κs =
-    let p = c .before .before .before .before .before .before .before .before .before .before .before .before .before .before .before .before .before .pre in
+    let p = c .before .before .before .before .before .before .before .before .before .before .before .before .before .before .before .before .pre in
     (p .0, (start-sized 32768 512 8 (omega arith) (omega arith) (omega arith) (omega arith), (start-zeros 32768, p .1)))
 
 same-length : tie.Need-same-length

@@ -35,13 +35,13 @@ loop-less : tie.Need-loop-less Inv-loop μ-loop
 loop-less c = search needs
 
 loop-again : tie.Need-loop-again Inv-loop μ-loop
-loop-again c = copied-more _ _ _ _ (c .before .before .loop .inv) (c .before .before .before .pre) (c .before .loop-test .taken)
+loop-again c = copied-more _ _ _ _ (c .before .before .loop .inv) (c .before .before .before .pre) (omega arith)
 
 same-length : tie.Need-same-length Inv-loop μ-loop
 same-length c = copied-long _ _ _ _ (c .before .loop .inv) (c .before .before .pre)
 
 returns : tie.Need-returns Inv-loop μ-loop
-returns c = copied-done _ _ _ _ (c .before .loop .inv) (c .before .before .pre) (c .loop-test .left)
+returns c = copied-done _ _ _ _ (c .before .loop .inv) (c .before .before .pre) (omega arith)
 
 pub copy-words-spec : {M : Type 1} → statement M
 copy-words-spec =

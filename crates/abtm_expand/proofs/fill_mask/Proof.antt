@@ -36,7 +36,7 @@ mul-wide c =
 shared-slice-read-wide : tie.Need-shared-slice-read-wide Inv-loop μ-loop
 shared-slice-read-wide c =
     let s = c .before .before .before .before .before .before .before .before .before .before .before .before .before .before .before .before in
-    omega (arith, row-places _ _ _ _ (s .pre .0) _ _ _ (c .before .before .before .loop-test .taken) refl refl .here)
+    omega (arith, row-places _ _ _ _ (s .pre .0) (c .before .before .before .before .loop .next) _ _ (omega arith) refl refl .here)
 
 wide-requires : tie.Need-wide-requires Inv-loop μ-loop
 wide-requires c κs = search needs
@@ -54,7 +54,7 @@ mul-wide-2 c =
 shared-slice-read-wide-2 : tie.Need-shared-slice-read-wide-2 Inv-loop μ-loop
 shared-slice-read-wide-2 c =
     let s = c .before .before .before .before .before .before .before .before .before .before .before .before .before .before .before .before .before .before in
-    omega (arith, row-places _ _ _ _ (s .pre .0) _ _ _ (c .before .before .before .before .before .loop-test .taken) refl refl .next)
+    omega (arith, row-places _ _ _ _ (s .pre .0) (c .before .before .before .before .before .before .loop .next) _ _ (omega arith) refl refl .next)
 
 wide-requires-2 : tie.Need-wide-requires-2 Inv-loop μ-loop
 wide-requires-2 c κs = search needs
@@ -62,55 +62,55 @@ wide-requires-2 c κs = search needs
 mul-join-tiles : tie.Need-mul-join-tiles Inv-loop μ-loop
 mul-join-tiles c =
     let s = c .before .before .before .before .before .before .before .before .before .before .before .before .before .before .before .before .before .before .before in
-    let p = row-places _ _ _ _ (s .pre .0) _ _ _ (c .before .before .before .before .before .before .loop-test .taken) (c .before .before .wide .ensures) (c .wide2 .ensures) in
+    let p = row-places _ _ _ _ (s .pre .0) (c .before .before .before .before .before .before .before .loop .next) _ _ (omega arith) (c .before .before .wide .ensures) (c .wide2 .ensures) in
     omega (arith, p .order, p .in-masks)
 
 sub-join-tiles : tie.Need-sub-join-tiles Inv-loop μ-loop
 sub-join-tiles c =
     let s = c .before .before .before .before .before .before .before .before .before .before .before .before .before .before .before .before .before .before .before in
-    let p = row-places _ _ _ _ (s .pre .0) _ _ _ (c .before .before .before .before .before .before .loop-test .taken) (c .before .before .wide .ensures) (c .wide2 .ensures) in
+    let p = row-places _ _ _ _ (s .pre .0) (c .before .before .before .before .before .before .before .loop .next) _ _ (omega arith) (c .before .before .wide .ensures) (c .wide2 .ensures) in
     omega (arith, p .order, p .in-masks)
 
 part-join-tiles-start : tie.Need-part-join-tiles-start Inv-loop μ-loop
 part-join-tiles-start c =
     let s = c .before .before .before .before .before .before .before .before .before .before .before .before .before .before .before .before .before .before .before in
-    let p = row-places _ _ _ _ (s .pre .0) _ _ _ (c .before .before .before .before .before .before .loop-test .taken) (c .before .before .wide .ensures) (c .wide2 .ensures) in
+    let p = row-places _ _ _ _ (s .pre .0) (c .before .before .before .before .before .before .before .loop .next) _ _ (omega arith) (c .before .before .wide .ensures) (c .wide2 .ensures) in
     omega (arith, p .order, p .in-masks)
 
 part-join-tiles-end : tie.Need-part-join-tiles-end Inv-loop μ-loop
 part-join-tiles-end c =
     let s = c .before .before .before .before .before .before .before .before .before .before .before .before .before .before .before .before .before .before .before in
-    let p = row-places _ _ _ _ (s .pre .0) _ _ _ (c .before .before .before .before .before .before .loop-test .taken) (c .before .before .wide .ensures) (c .wide2 .ensures) in
+    let p = row-places _ _ _ _ (s .pre .0) (c .before .before .before .before .before .before .before .loop .next) _ _ (omega arith) (c .before .before .wide .ensures) (c .wide2 .ensures) in
     omega (arith, p .order, p .in-masks)
 
 mul-join-tiles-2 : tie.Need-mul-join-tiles-2 Inv-loop μ-loop
 mul-join-tiles-2 c =
     let s = c .before .before .before .before .before .before .before .before .before .before .before .before .before .before .before .before .before .before .before .before in
-    let p = row-places _ _ _ _ (s .pre .0) _ _ _ (c .before .before .before .before .before .before .before .loop-test .taken) (c .before .before .before .wide .ensures) (c .before .wide2 .ensures) in
+    let p = row-places _ _ _ _ (s .pre .0) (c .before .before .before .before .before .before .before .before .loop .next) _ _ (omega arith) (c .before .before .before .wide .ensures) (c .before .wide2 .ensures) in
     omega (arith, p .order, p .in-metas)
 
 sub-join-tiles-2 : tie.Need-sub-join-tiles-2 Inv-loop μ-loop
 sub-join-tiles-2 c =
     let s = c .before .before .before .before .before .before .before .before .before .before .before .before .before .before .before .before .before .before .before .before in
-    let p = row-places _ _ _ _ (s .pre .0) _ _ _ (c .before .before .before .before .before .before .before .loop-test .taken) (c .before .before .before .wide .ensures) (c .before .wide2 .ensures) in
+    let p = row-places _ _ _ _ (s .pre .0) (c .before .before .before .before .before .before .before .before .loop .next) _ _ (omega arith) (c .before .before .before .wide .ensures) (c .before .wide2 .ensures) in
     omega (arith, p .order, p .in-metas)
 
 part-join-tiles-start-2 : tie.Need-part-join-tiles-start-2 Inv-loop μ-loop
 part-join-tiles-start-2 c =
     let s = c .before .before .before .before .before .before .before .before .before .before .before .before .before .before .before .before .before .before .before .before in
-    let p = row-places _ _ _ _ (s .pre .0) _ _ _ (c .before .before .before .before .before .before .before .loop-test .taken) (c .before .before .before .wide .ensures) (c .before .wide2 .ensures) in
+    let p = row-places _ _ _ _ (s .pre .0) (c .before .before .before .before .before .before .before .before .loop .next) _ _ (omega arith) (c .before .before .before .wide .ensures) (c .before .wide2 .ensures) in
     omega (arith, p .order, p .in-metas)
 
 part-join-tiles-end-2 : tie.Need-part-join-tiles-end-2 Inv-loop μ-loop
 part-join-tiles-end-2 c =
     let s = c .before .before .before .before .before .before .before .before .before .before .before .before .before .before .before .before .before .before .before .before in
-    let p = row-places _ _ _ _ (s .pre .0) _ _ _ (c .before .before .before .before .before .before .before .loop-test .taken) (c .before .before .before .wide .ensures) (c .before .wide2 .ensures) in
+    let p = row-places _ _ _ _ (s .pre .0) (c .before .before .before .before .before .before .before .before .loop .next) _ _ (omega arith) (c .before .before .before .wide .ensures) (c .before .wide2 .ensures) in
     omega (arith, p .order, p .in-metas)
 
 join-tiles-requires : tie.Need-join-tiles-requires Inv-loop μ-loop
 join-tiles-requires c κs =
     let s = c .before .before .before .before .before .before .before .before .before .before .before .before .before .before .before .before .before .before .before .before .before .before in
-    (lent-metas _ _ _ _ (s .pre .0) _ _ _ (c .before .before .before .before .before .before .before .before .before .loop-test .taken) (c .before .before .before .before .before .wide .ensures) (c .before .before .before .wide2 .ensures), lent-words _ _ _ _ (s .pre .0) _ _ _ (c .before .before .before .before .before .before .before .before .before .loop-test .taken) (c .before .before .before .before .before .wide .ensures) (c .before .before .before .wide2 .ensures) _ (c .before .before .before .before .before .before .before .before .before .before .loop .inv) (λ k. c .before .before .before .before .before .before .before .before .before .before .before .before .before .before .before .before .before .before .before .before .shared-slice-known2 .given k .fits))
+    (lent-metas _ _ _ _ (s .pre .0) (c .before .before .before .before .before .before .before .before .before .before .loop .next) _ _ (omega arith) (c .before .before .before .before .before .wide .ensures) (c .before .before .before .wide2 .ensures), lent-words _ _ _ _ (s .pre .0) (c .before .before .before .before .before .before .before .before .before .before .loop .next) _ _ (omega arith) (c .before .before .before .before .before .wide .ensures) (c .before .before .before .wide2 .ensures) _ (c .before .before .before .before .before .before .before .before .before .before .loop .inv) (λ k. c .before .before .before .before .before .before .before .before .before .before .before .before .before .before .before .before .before .before .before .before .shared-slice-known2 .given k .fits))
 
 loop-less : tie.Need-loop-less Inv-loop μ-loop
 loop-less c = omega arith
@@ -118,7 +118,7 @@ loop-less c = omega arith
 loop-again : tie.Need-loop-again Inv-loop μ-loop
 loop-again c =
     let s = c .before .before .before .before .before .before .before .before .before .before .before .before .before .before .before .before .before .before .before .before .before .before .before .before .before in
-    expanding-member _ _ _ _ (s .pre .0) _ _ _ (c .before .before .before .before .before .before .before .before .before .before .before .before .loop-test .taken) (c .before .before .before .before .before .before .before .before .wide .ensures) (c .before .before .before .before .before .before .wide2 .ensures) _ (c .before .before .before .before .before .before .before .before .before .before .before .before .before .loop .inv) _ (sym (c .before .before .before .before .before .before .before .before .before .before .if1 .taken) ∙ c .before .before .before .before .before .before .before .before .before .before .before .is-member .ensures) (c .before .before .join-tiles .ensures)
+    expanding-member _ _ _ _ (s .pre .0) (c .before .before .before .before .before .before .before .before .before .before .before .before .before .loop .next) _ _ (omega arith) (c .before .before .before .before .before .before .before .before .wide .ensures) (c .before .before .before .before .before .before .wide2 .ensures) _ (c .before .before .before .before .before .before .before .before .before .before .before .before .before .loop .inv) _ (sym (c .before .before .before .before .before .before .before .before .before .before .if1 .taken) ∙ c .before .before .before .before .before .before .before .before .before .before .before .is-member .ensures) (c .before .before .join-tiles .ensures)
 
 loop-less-2 : tie.Need-loop-less-2 Inv-loop μ-loop
 loop-less-2 c = omega arith
@@ -126,7 +126,7 @@ loop-less-2 c = omega arith
 loop-again-2 : tie.Need-loop-again-2 Inv-loop μ-loop
 loop-again-2 c =
     let s = c .before .before .before .before .before .before .before .before .before .before .before .before .before .before .before in
-    expanding-other _ _ _ _ (s .pre .0) _ _ (c .before .before .before .loop .inv) (c .before .before .loop-test .taken) (sym (c .if1 .left) ∙ c .before .is-member .ensures)
+    expanding-other _ _ _ _ (s .pre .0) _ _ (c .before .before .before .loop .inv) (omega arith) (sym (c .if1 .left) ∙ c .before .is-member .ensures)
 
 same-length : tie.Need-same-length Inv-loop μ-loop
 same-length c =
@@ -136,7 +136,7 @@ same-length c =
 returns : tie.Need-returns Inv-loop μ-loop
 returns c =
     let s = c .before .before .before .before .before .before .before .before .before .before .before .before .before in
-    expanding-done _ _ _ _ (s .pre .0) _ _ (c .before .loop .inv) (c .loop-test .left)
+    expanding-done _ _ _ _ (s .pre .0) _ _ (c .before .loop .inv) (omega arith)
 
 pub fill-mask-spec : {M : Type 1} → statement M
 fill-mask-spec =

@@ -30,10 +30,10 @@ wide-requires : tie.Need-wide-requires Inv-loop μ-loop
 wide-requires c κs = search needs
 
 mul-union : tie.Need-mul-union Inv-loop μ-loop
-mul-union c = omega (arith, joined-index _ _ _ _ _ (c .before .before .before .before .loop .inv) (c .before .before .before .before .before .before .before .before .pre .0) (c .before .before .before .loop-test .taken) _ (c .wide .ensures ∙ c .before .word-in .ensures) (c .before .before .before .before .before .before .before .before .pre .1))
+mul-union c = omega (arith, joined-index _ _ _ _ _ (c .before .before .before .before .loop .inv) (c .before .before .before .before .before .before .before .before .pre .0) (omega arith) _ (c .wide .ensures ∙ c .before .word-in .ensures) (c .before .before .before .before .before .before .before .before .pre .1))
 
 slice-read-union : tie.Need-slice-read-union Inv-loop μ-loop
-slice-read-union c = joined-index _ _ _ _ _ (c .before .before .before .before .before .loop .inv) (c .before .before .before .before .before .before .before .before .before .pre .0) (c .before .before .before .before .loop-test .taken) _ (c .before .wide .ensures ∙ c .before .before .word-in .ensures) (c .before .before .before .before .before .before .before .before .before .pre .1)
+slice-read-union c = joined-index _ _ _ _ _ (c .before .before .before .before .before .loop .inv) (c .before .before .before .before .before .before .before .before .before .pre .0) (omega arith) _ (c .before .wide .ensures ∙ c .before .before .word-in .ensures) (c .before .before .before .before .before .before .before .before .before .pre .1)
 
 mul-union-2 : tie.Need-mul-union-2 Inv-loop μ-loop
 mul-union-2 c = search needs
@@ -45,10 +45,10 @@ union-requires : tie.Need-union-requires Inv-loop μ-loop
 union-requires c κs = search needs
 
 mul-words : tie.Need-mul-words Inv-loop μ-loop
-mul-words c = omega (arith, joined-index _ _ _ _ _ (c .before .before .before .before .before .before .before .loop .inv) (c .before .before .before .before .before .before .before .before .before .before .before .pre .0) (c .before .before .before .before .before .before .loop-test .taken) _ (c .before .before .before .wide .ensures ∙ c .before .before .before .before .word-in .ensures) (c .before .before .before .before .before .before .before .before .before .before .before .pre .1))
+mul-words c = omega (arith, joined-index _ _ _ _ _ (c .before .before .before .before .before .before .before .loop .inv) (c .before .before .before .before .before .before .before .before .before .before .before .pre .0) (omega arith) _ (c .before .before .before .wide .ensures ∙ c .before .before .before .before .word-in .ensures) (c .before .before .before .before .before .before .before .before .before .before .before .pre .1))
 
 slice-write-words : tie.Need-slice-write-words Inv-loop μ-loop
-slice-write-words c = joined-index _ _ _ _ _ (c .before .before .before .before .before .before .before .loop .inv) (c .before .before .before .before .before .before .before .before .before .before .before .pre .0) (c .before .before .before .before .before .before .loop-test .taken) _ (c .before .before .before .wide .ensures ∙ c .before .before .before .before .word-in .ensures) (c .before .before .before .before .before .before .before .before .before .before .before .pre .1)
+slice-write-words c = joined-index _ _ _ _ _ (c .before .before .before .before .before .before .before .loop .inv) (c .before .before .before .before .before .before .before .before .before .before .before .pre .0) (omega arith) _ (c .before .before .before .wide .ensures ∙ c .before .before .before .before .word-in .ensures) (c .before .before .before .before .before .before .before .before .before .before .before .pre .1)
 
 add-k : tie.Need-add-k Inv-loop μ-loop
 add-k c = search needs
@@ -57,13 +57,13 @@ loop-less : tie.Need-loop-less Inv-loop μ-loop
 loop-less c = search needs
 
 loop-again : tie.Need-loop-again Inv-loop μ-loop
-loop-again c = joined-more _ _ _ _ _ (c .before .before .before .before .before .before .before .loop .inv) (c .before .before .before .before .before .before .before .before .before .before .before .pre .0) (c .before .before .before .before .before .before .loop-test .taken) _ (c .before .before .before .wide .ensures ∙ c .before .before .before .before .word-in .ensures) (joined-index _ _ _ _ _ (c .before .before .before .before .before .before .before .loop .inv) (c .before .before .before .before .before .before .before .before .before .before .before .pre .0) (c .before .before .before .before .before .before .loop-test .taken) _ (c .before .before .before .wide .ensures ∙ c .before .before .before .before .word-in .ensures) (c .before .before .before .before .before .before .before .before .before .before .before .pre .1)) _ (c .union .ensures)
+loop-again c = joined-more _ _ _ _ _ (c .before .before .before .before .before .before .before .loop .inv) (c .before .before .before .before .before .before .before .before .before .before .before .pre .0) (omega arith) _ (c .before .before .before .wide .ensures ∙ c .before .before .before .before .word-in .ensures) (joined-index _ _ _ _ _ (c .before .before .before .before .before .before .before .loop .inv) (c .before .before .before .before .before .before .before .before .before .before .before .pre .0) (omega arith) _ (c .before .before .before .wide .ensures ∙ c .before .before .before .before .word-in .ensures) (c .before .before .before .before .before .before .before .before .before .before .before .pre .1)) _ (c .union .ensures)
 
 same-length : tie.Need-same-length Inv-loop μ-loop
 same-length c = joined-long _ _ _ _ _ (c .before .loop .inv)
 
 returns : tie.Need-returns Inv-loop μ-loop
-returns c = joined-done _ _ _ _ _ (c .before .loop .inv) (c .before .before .before .before .before .pre .0) (c .loop-test .left)
+returns c = joined-done _ _ _ _ _ (c .before .loop .inv) (c .before .before .before .before .before .pre .0) (omega arith)
 
 pub join-tiles-spec : {M : Type 1} → statement M
 join-tiles-spec =

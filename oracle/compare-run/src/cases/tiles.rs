@@ -6,6 +6,9 @@ use calls::{Call, Csr};
 
 pub fn calls() -> Vec<Call> {
     let mut all = Vec::new();
+    worked_thresholds(&mut all);
+    worked_largest_value_twice(&mut all);
+    worked_cancelling_column(&mut all);
     thresholds(&mut all);
     kinds_by_count(&mut all);
     merged(&mut all);
@@ -25,11 +28,34 @@ fn one_row(ncols: usize, cols: &[u32], values: &[f64]) -> Csr {
     csr(1, ncols, &[0, cols.len() as u32], cols, values)
 }
 
-/// Document 01's: dense 64 accepted, 65 refused, 4 and 4 refused. The default, and the borders of each rule, alone and in a
-/// build, where 9 comes before 13.
+/// Document 01's worked plot: thresholds 4 and 32: 4 entries Sparse, 5 and 31 Bitmap, 32 Dense. Dense 64 accepted, 65 refused; 4
+/// and 4 refused.
+fn worked_thresholds(all: &mut Vec<Call>) {
+    for n in [4, 5, 31, 32] {
+        all.push(build(&first_columns(n), (4, 32), [2, 1, 1, 1, 64]));
+    }
+    for (sparse, dense) in [(4, 32), (4, 64), (4, 65), (4, 4)] {
+        all.push(Call::AbtmValidate(sparse, dense));
+        all.push(build(&first_columns(4), (sparse, dense), [2, 1, 1, 1, 64]));
+    }
+}
+
+/// Document 01's worked plot: the largest finite value twice in one column: tiles accept.
+fn worked_largest_value_twice(all: &mut Vec<Call>) {
+    let c = one_row(6, &[5, 5], &[f64::MAX, f64::MAX]);
+    all.push(build(&c, (8, 40), [2, 1, 1, 1, 1]));
+}
+
+/// Document 01's worked plot: column 5 with 1.0 and -1.0: no tile.
+fn worked_cancelling_column(all: &mut Vec<Call>) {
+    let c = one_row(6, &[5, 5], &[1.0, -1.0]);
+    all.push(build(&c, (8, 40), [2, 0, 0, 0, 0]));
+    all.push(build(&c, (8, 40), [2, 1, 1, 1, 1]));
+}
+
+/// The default thresholds, and the borders of each rule, alone and in a build, where 9 comes before 13.
 fn thresholds(all: &mut Vec<Call>) {
-    let worked = [(4, 32), (4, 64), (4, 65), (4, 4)];
-    let others = [
+    let pairs = [
         (8, 40),
         (0, 32),
         (1, 2),
@@ -46,7 +72,7 @@ fn thresholds(all: &mut Vec<Call>) {
         (255, 64),
     ];
     let c = one_row(70, &[65, 3, 3, 64], &[2.0, 1.0, 0.5, 4.0]);
-    for (sparse, dense) in worked.into_iter().chain(others) {
+    for (sparse, dense) in pairs {
         all.push(Call::AbtmValidate(sparse, dense));
         all.push(build(&c, (sparse, dense), [2, 2, 2, 2, 66]));
         all.push(build(&c, (sparse, dense), [2, 2, 2, 2, 1]));
@@ -60,9 +86,9 @@ fn first_columns(n: u32) -> Csr {
     one_row(64, &cols, &values)
 }
 
-/// Document 01's under thresholds 4 and 32: 4 entries Sparse, 5 and 31 Bitmap, 32 Dense. All borders of these and of others.
+/// Other counts under 4 and 32, and the borders of other thresholds.
 fn kinds_by_count(all: &mut Vec<Call>) {
-    for n in [4, 5, 31, 32, 0, 1, 3, 33, 63, 64] {
+    for n in [0, 1, 3, 33, 63, 64] {
         all.push(build(&first_columns(n), (4, 32), [2, 1, 1, 1, 64]));
     }
     for (sparse, dense) in [(1, 2), (1, 64), (8, 40), (63, 64)] {
@@ -73,8 +99,8 @@ fn kinds_by_count(all: &mut Vec<Call>) {
     }
 }
 
-/// Document 01's largest finite value twice, which tiles accept, and its column 5 with 1.0 and -1.0, which has no tile. Stored
-/// zeros of either sign; copies in stored order, any number of them; an infinite sum that stays.
+/// Pairs that overflow or cancel; stored zeros of either sign; copies in stored order, any number of them; an infinite sum that
+/// stays.
 fn merged(all: &mut Vec<Call>) {
     let (most, least) = (f64::MAX, f64::MIN);
     let rows: [&[(u32, f64)]; 17] = [

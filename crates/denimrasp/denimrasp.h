@@ -3,14 +3,15 @@
  * Every call checks its own input and refuses by number, and no input stops it: what a caller owes is that each list's pointer
  * is not null, is aligned, and leads to as many places as the length after it says (for an empty list any such address will
  * do), that a list which a call writes to overlaps no other list of that call, and that the thread has stack left: 136 KiB
- * for building words, 456 KiB for packing and for the check of merged values, 4 KiB for any other call.
+ * for building words, 268 KiB for building tiles, 456 KiB for packing and for the check of merged values, 4 KiB for any other
+ * call.
  *
  * number in an answer: 0 accepted, 1 over size, 2 bad frame, 3 outside column, 4 not finite, 5 bad mask, 6 lengths differ,
  * 7 no such place, 8 frames differ, 9 bad thresholds, 10 not square, 11 bad words, 12 bad store, 13 short list. Under 6
  * expected and actual are the two lengths, otherwise 0. All other fields of a refused answer are 0.
  *
- * A build (new, from_indices, indices, from_csr32, the set operations, sparse_dot_rows) leaves zeros past the part that it used,
- * and zeros alone where it is refused. Any other refused call leaves what it was lent as it was.
+ * A build (new, from_indices, indices, from_csr32, the set operations, sparse_dot_rows, expand_mask_one_hop) leaves zeros past
+ * the part that it used, and zeros alone where it is refused. Any other refused call leaves what it was lent as it was.
  */
 #ifndef DENIMRASP_H
 #define DENIMRASP_H
@@ -117,6 +118,31 @@ typedef struct {
     size_t topology_words;
     size_t active_words;
 } DenimraspTotals;
+
+/* How much of the lent lists a build of tiles used, and how many values there are. */
+typedef struct {
+    uint32_t number;
+    size_t expected;
+    size_t actual;
+    size_t tiles;
+    size_t value_slots;
+    size_t matrix_nnz;
+} DenimraspTiles;
+
+typedef struct {
+    uint32_t number;
+    size_t expected;
+    size_t actual;
+    size_t nrows;
+    size_t ncols;
+    size_t matrix_nnz;
+    size_t tiles;
+    size_t sparse_tiles;
+    size_t bitmap_tiles;
+    size_t dense_tiles;
+    size_t value_slots;
+    size_t metadata_bytes;
+} DenimraspTileStats;
 
 /* 5 where the words are not those of a mask of that length. */
 DenimraspVerdict denimrasp_mask_check(size_t len, const uint64_t *words, size_t words_len);
@@ -370,6 +396,63 @@ DenimraspTotals denimrasp_metadata_first_accumulate(size_t candidate_products, s
     size_t skipped_products, size_t topology_words, size_t active_words, size_t other_candidate_products,
     size_t other_executed_products, size_t other_skipped_products, size_t other_topology_words,
     size_t other_active_words);
+
+/* 9 where the thresholds are bad: sparse at least 1, dense at most 64, sparse below dense. */
+DenimraspVerdict denimrasp_abtm_validate(uint8_t sparse_max_nnz, uint8_t dense_min_nnz);
+
+/* 12 where the tiles break a rule. */
+DenimraspVerdict denimrasp_abtm_check(size_t nrows, size_t ncols,
+    const uint32_t *row_tile_ptr, size_t row_tile_ptr_len, const uint64_t *masks, size_t masks_len,
+    const uint32_t *value_offsets, size_t value_offsets_len, const uint32_t *metas, size_t metas_len,
+    const double *values, size_t values_len, size_t matrix_nnz);
+
+/* The tiles of a plot list: nrows + 1 pointers, as many masks, offsets and metas as the answer's tiles, as many values
+ * as its value_slots. There are at most as many tiles as entries, and at most 64 * entries / dense_min_nnz value slots.
+ * 13 exactly where they do not fit. */
+DenimraspTiles denimrasp_abtm_from_csr32(size_t nrows, size_t ncols,
+    const uint32_t *row_ptr, size_t row_ptr_len, const uint32_t *col_idx, size_t col_idx_len,
+    const double *values, size_t values_len, uint8_t sparse_max_nnz, uint8_t dense_min_nnz,
+    uint32_t *row_tile_ptr, size_t row_tile_ptr_len, uint64_t *masks, size_t masks_len,
+    uint32_t *value_offsets, size_t value_offsets_len, uint32_t *metas, size_t metas_len,
+    double *tile_values, size_t tile_values_len);
+
+/* The kind of a tile: 0 Sparse, 1 Bitmap, 2 Dense; 12 for kind 3. */
+DenimraspCount denimrasp_abtm_tile_kind(uint32_t meta);
+
+/* The first column of a tile. */
+size_t denimrasp_abtm_tile_base_col(uint32_t meta);
+
+/* The places of the row's tiles in the lists of masks, offsets and metas: from start, below end. */
+DenimraspPart denimrasp_abtm_row_tiles(size_t nrows, size_t ncols,
+    const uint32_t *row_tile_ptr, size_t row_tile_ptr_len, const uint64_t *masks, size_t masks_len,
+    const uint32_t *value_offsets, size_t value_offsets_len, const uint32_t *metas, size_t metas_len,
+    const double *values, size_t values_len, size_t matrix_nnz, size_t row);
+
+/* The figures of tiles. */
+DenimraspTileStats denimrasp_abtm_stats(size_t nrows, size_t ncols,
+    const uint32_t *row_tile_ptr, size_t row_tile_ptr_len, const uint64_t *masks, size_t masks_len,
+    const uint32_t *value_offsets, size_t value_offsets_len, const uint32_t *metas, size_t metas_len,
+    const double *values, size_t values_len, size_t matrix_nnz);
+
+/* Bytes for each value; 0.0 where there is none. */
+double denimrasp_abtm_metadata_bytes_per_nnz(size_t metadata_bytes, size_t matrix_nnz);
+
+/* The bytes of the metadata and 8 for each value slot, at most SIZE_MAX. */
+size_t denimrasp_abtm_total_estimated_bytes(size_t metadata_bytes, size_t value_slots);
+
+/* The row products of tiles; a refused call leaves y as it was. */
+DenimraspVerdict denimrasp_abtm_apply(size_t nrows, size_t ncols,
+    const uint32_t *row_tile_ptr, size_t row_tile_ptr_len, const uint64_t *masks, size_t masks_len,
+    const uint32_t *value_offsets, size_t value_offsets_len, const uint32_t *metas, size_t metas_len,
+    const double *values, size_t values_len, size_t matrix_nnz,
+    const double *x, size_t x_len, double *y, size_t y_len);
+
+/* The mask joined with the columns of its rows' tiles, in out: as many words as the mask has. */
+DenimraspVerdict denimrasp_abtm_expand_mask_one_hop(size_t nrows, size_t ncols,
+    const uint32_t *row_tile_ptr, size_t row_tile_ptr_len, const uint64_t *masks, size_t masks_len,
+    const uint32_t *value_offsets, size_t value_offsets_len, const uint32_t *metas, size_t metas_len,
+    const double *values, size_t values_len, size_t matrix_nnz,
+    size_t mask_len, const uint64_t *mask, size_t mask_count, uint64_t *out, size_t out_len);
 
 #ifdef __cplusplus
 }

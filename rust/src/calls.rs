@@ -50,6 +50,28 @@ pub struct Room<'a> {
     pub masks: &'a mut [u64],
 }
 
+/// The lists of tiles.
+#[derive(Clone, Copy)]
+pub struct Tiles<'a> {
+    pub nrows: usize,
+    pub ncols: usize,
+    pub row_tile_ptr: &'a [u32],
+    pub masks: &'a [u64],
+    pub value_offsets: &'a [u32],
+    pub metas: &'a [u32],
+    pub values: &'a [f64],
+    pub matrix_nnz: usize,
+}
+
+/// The lists that a build of tiles fills.
+pub struct TileRoom<'a> {
+    pub row_tile_ptr: &'a mut [u32],
+    pub masks: &'a mut [u64],
+    pub value_offsets: &'a mut [u32],
+    pub metas: &'a mut [u32],
+    pub values: &'a mut [f64],
+}
+
 /// How much of a `Room` was used.
 pub struct Used {
     pub words: usize,
@@ -147,6 +169,32 @@ macro_rules! with_store {
             s.values.len()
             $(, $rest)*
         )
+    }};
+}
+
+/// Calls a function whose first parameters are those of tiles.
+macro_rules! with_tiles {
+    ($call:ident, $t:expr $(, $rest:expr)*) => {{
+        let t: Tiles<'_> = $t;
+        // SAFETY: every pointer and length is a slice's, and a written slice is borrowed alone.
+        unsafe {
+            sys::$call(
+                t.nrows,
+                t.ncols,
+                t.row_tile_ptr.as_ptr(),
+                t.row_tile_ptr.len(),
+                t.masks.as_ptr(),
+                t.masks.len(),
+                t.value_offsets.as_ptr(),
+                t.value_offsets.len(),
+                t.metas.as_ptr(),
+                t.metas.len(),
+                t.values.as_ptr(),
+                t.values.len(),
+                t.matrix_nnz
+                $(, $rest)*
+            )
+        }
     }};
 }
 
@@ -534,4 +582,78 @@ pub fn metadata_first_accumulate(a: [usize; 5], b: [usize; 5]) -> Answer<sys::To
         )
     };
     settle!(answer, |totals| totals)
+}
+
+pub fn abtm_from_csr32(
+    m: Csr<'_>,
+    (sparse_max_nnz, dense_min_nnz): (u8, u8),
+    room: TileRoom<'_>,
+) -> Answer<sys::Tiles> {
+    let answer = with_csr!(
+        denimrasp_abtm_from_csr32,
+        m,
+        sparse_max_nnz,
+        dense_min_nnz,
+        room.row_tile_ptr.as_mut_ptr(),
+        room.row_tile_ptr.len(),
+        room.masks.as_mut_ptr(),
+        room.masks.len(),
+        room.value_offsets.as_mut_ptr(),
+        room.value_offsets.len(),
+        room.metas.as_mut_ptr(),
+        room.metas.len(),
+        room.values.as_mut_ptr(),
+        room.values.len()
+    );
+    settle!(answer, |used| used)
+}
+
+pub fn abtm_stats(t: Tiles<'_>) -> Answer<sys::TileStats> {
+    settle!(with_tiles!(denimrasp_abtm_stats, t), |stats| stats)
+}
+
+pub fn abtm_apply(t: Tiles<'_>, x: &[f64], y: &mut [f64]) -> Answer<()> {
+    let answer = with_tiles!(
+        denimrasp_abtm_apply,
+        t,
+        x.as_ptr(),
+        x.len(),
+        y.as_mut_ptr(),
+        y.len()
+    );
+    settle!(answer, unit)
+}
+
+pub fn abtm_expand_mask_one_hop(t: Tiles<'_>, mask: Mask<'_>, out: &mut [u64]) -> Answer<()> {
+    let answer = with_tiles!(
+        denimrasp_abtm_expand_mask_one_hop,
+        t,
+        mask.len,
+        mask.words.as_ptr(),
+        mask.words.len(),
+        out.as_mut_ptr(),
+        out.len()
+    );
+    settle!(answer, unit)
+}
+
+pub fn abtm_tile_kind(meta: u32) -> Answer<usize> {
+    // SAFETY: numbers alone.
+    let answer = unsafe { sys::denimrasp_abtm_tile_kind(meta) };
+    settle!(answer, count)
+}
+
+pub fn abtm_tile_base_col(meta: u32) -> usize {
+    // SAFETY: numbers alone.
+    unsafe { sys::denimrasp_abtm_tile_base_col(meta) }
+}
+
+pub fn abtm_metadata_bytes_per_nnz(metadata_bytes: usize, matrix_nnz: usize) -> f64 {
+    // SAFETY: numbers alone.
+    unsafe { sys::denimrasp_abtm_metadata_bytes_per_nnz(metadata_bytes, matrix_nnz) }
+}
+
+pub fn abtm_total_estimated_bytes(metadata_bytes: usize, value_slots: usize) -> usize {
+    // SAFETY: numbers alone.
+    unsafe { sys::denimrasp_abtm_total_estimated_bytes(metadata_bytes, value_slots) }
 }

@@ -66,9 +66,12 @@ pub(crate) const RANK_COLUMN: &str = "ABTM topology row rank column out of range
 pub(crate) const TOPOLOGY_ROW: &str = "ABTM topology row index out of range";
 pub(crate) const STORE_ROW: &str = "ABTM G2 row index out of range";
 pub(crate) const FRAMES: &str = "ABTM topology dimensions differ";
+pub(crate) const THRESHOLDS: &str = "invalid ABTM density thresholds";
+pub(crate) const TILE_ROW: &str = "ABTM row index out of range";
+pub(crate) const NOT_SQUARE: &str = "mask expansion requires a square ABTM matrix";
 
 /// Each text with its number. The second part has document 01's words, for refusals that the types of this crate exclude.
-const TEXTS: [(u32, &str); 22] = [
+const TEXTS: [(u32, &str); 25] = [
     (2, POINTER_COUNT),
     (2, LISTS_UNEQUAL),
     (2, POINTER_START),
@@ -82,7 +85,10 @@ const TEXTS: [(u32, &str); 22] = [
     (7, RANK_COLUMN),
     (7, TOPOLOGY_ROW),
     (7, STORE_ROW),
+    (7, TILE_ROW),
     (8, FRAMES),
+    (9, THRESHOLDS),
+    (10, NOT_SQUARE),
     (2, "bad frame"),
     (3, "outside column"),
     (4, "not finite"),
@@ -96,10 +102,13 @@ const TEXTS: [(u32, &str); 22] = [
 /// The variant that a number other than 1 and 6 belongs to.
 fn of_kind(number: u32, text: &'static str) -> HybitError {
     match number {
-        2 | 3 | 4 | 11 | 12 => HybitError::InvalidMatrix(text),
+        2 | 3 | 4 | 10 | 11 | 12 => HybitError::InvalidMatrix(text),
         _ => HybitError::InvalidArgument(text),
     }
 }
+
+/// The number of a list that is too short for its result.
+pub(crate) const SHORT_LIST: u32 = 13;
 
 /// A refused answer of the C interface.
 #[derive(Clone, Copy, Debug)]

@@ -13,7 +13,8 @@
 //! them. A value of a type here has been checked or built by the library, and its fields are private, so the library does not
 //! refuse it later; if it did, the method would panic rather than return the zeros of a refusal.
 //!
-//! Building words takes up to 136 KiB of stack, packing up to 456 KiB: a thread that does it needs a stack of that size.
+//! Building words takes up to 136 KiB of stack, building tiles up to 268 KiB, packing up to 456 KiB: a thread that does it needs
+//! a stack of that size.
 //!
 //! What differs from hybit-matrix:
 //! - Sizes above document 01's domain are [`HybitError::SizeOverflow`]: rows, columns and mask lengths above 1,048,576, stored
@@ -22,14 +23,17 @@
 //! - Three and more copies of a column in a row are merged in stored order; hybit's order is that of an unstable sort.
 //! - [`AbtmProductPruningStats::accumulate`] leaves the counts unchanged where it fails.
 //! - [`AbtmProductPruningStats::empty_word_ratio`] is 0.0 where more words are active than there are; hybit subtracts below zero.
+//! - [`AbtmStats::total_estimated_bytes`] is at most `usize::MAX`; hybit's sum wraps round or stops.
 //! - `stats`, `storage_bytes` and `metadata_bytes` check their matrix on each call, so they take time in proportion to it.
 //! - [`AbtmMetadataFirstMatrix::sparse_dot_rows`], [`DofMask::try_new`], [`HybitError::number`] are not in hybit;
 //!   [`DofMask::and_not_assign`] and [`DofMask::or_word`] are private there.
 //!
 //! Left out: `diagonal`, solvers and the error variants that only these give, as in document 01; the parallel forms of `apply`;
-//! the trait `LinearOperator` (`apply` is a method of [`Csr32Matrix`] itself). Tiles, restricted lists and blocks are not here yet.
+//! the trait `LinearOperator` (`apply` is a method of [`Csr32Matrix`] and [`AbtmMatrix`], `rows` and `cols` of the latter).
+//! Restricted lists and blocks are not here yet.
 #![warn(missing_docs)]
 
+mod abtm;
 mod calls;
 mod csr32;
 mod error;
@@ -38,6 +42,7 @@ mod metadata_first;
 pub mod sys;
 mod topology;
 
+pub use abtm::{AbtmConfig, AbtmMatrix, AbtmStats, TILE_WIDTH, TileDesc, TileKind};
 pub use csr32::Csr32Matrix;
 pub use error::HybitError;
 pub use mask::DofMask;

@@ -2,7 +2,7 @@
 
 use crate::HybitError;
 use crate::calls;
-use crate::error::{MASK_INDEX, accepted};
+use crate::error::{MASK_INDEX, Refusal, accepted};
 
 /// The largest length of a mask.
 const LIMIT: usize = 1 << 20;
@@ -29,17 +29,13 @@ impl DofMask {
 
     /// The empty mask of that length; `SizeOverflow` for a length above 1,048,576.
     pub fn try_new(len: usize) -> Result<Self, HybitError> {
-        let mut words = room(len);
-        calls::mask_new(len, &mut words).map_err(|refusal| refusal.plain())?;
-        Ok(Self { len, words })
+        Self::built(len, |words| calls::mask_new(len, words)).map_err(|refusal| refusal.plain())
     }
 
     /// The mask of the listed members; `SizeOverflow` for a length above 1,048,576.
     pub fn from_indices(len: usize, indices: &[usize]) -> Result<Self, HybitError> {
-        let mut words = room(len);
-        calls::mask_from_indices(len, indices, &mut words)
-            .map_err(|refusal| refusal.named(MASK_INDEX))?;
-        Ok(Self { len, words })
+        Self::built(len, |words| calls::mask_from_indices(len, indices, words))
+            .map_err(|refusal| refusal.named(MASK_INDEX))
     }
 
     /// The length.
@@ -114,15 +110,21 @@ impl DofMask {
         ));
     }
 
+    /// Lends the words of a mask of that length to a build. A length above the limit is refused whatever list is lent, so no
+    /// more is allocated.
+    pub(crate) fn built(
+        len: usize,
+        build: impl FnOnce(&mut [u64]) -> Result<(), Refusal>,
+    ) -> Result<Self, Refusal> {
+        let mut words = vec![0; len.min(LIMIT).div_ceil(64)];
+        build(&mut words)?;
+        Ok(Self { len, words })
+    }
+
     pub(crate) fn view(&self) -> calls::Mask<'_> {
         calls::Mask {
             len: self.len,
             words: &self.words,
         }
     }
-}
-
-/// The words of a mask of that length. A length above the limit is refused whatever list is lent, so no more is allocated.
-fn room(len: usize) -> Vec<u64> {
-    vec![0; len.min(LIMIT).div_ceil(64)]
 }

@@ -116,6 +116,34 @@ pub struct Totals {
     pub active_words: usize,
 }
 
+#[repr(C)]
+#[derive(Clone, Copy, Debug, PartialEq)]
+pub struct Tiles {
+    pub number: u32,
+    pub expected: usize,
+    pub actual: usize,
+    pub tiles: usize,
+    pub value_slots: usize,
+    pub matrix_nnz: usize,
+}
+
+#[repr(C)]
+#[derive(Clone, Copy, Debug, PartialEq)]
+pub struct TileStats {
+    pub number: u32,
+    pub expected: usize,
+    pub actual: usize,
+    pub nrows: usize,
+    pub ncols: usize,
+    pub matrix_nnz: usize,
+    pub tiles: usize,
+    pub sparse_tiles: usize,
+    pub bitmap_tiles: usize,
+    pub dense_tiles: usize,
+    pub value_slots: usize,
+    pub metadata_bytes: usize,
+}
+
 unsafe extern "C" {
     pub fn denimrasp_mask_check(len: usize, words: *const u64, words_len: usize) -> Verdict;
     pub fn denimrasp_mask_contains(
@@ -606,4 +634,117 @@ unsafe extern "C" {
         other_topology_words: usize,
         other_active_words: usize,
     ) -> Totals;
+    pub fn denimrasp_abtm_validate(sparse_max_nnz: u8, dense_min_nnz: u8) -> Verdict;
+    pub fn denimrasp_abtm_check(
+        nrows: usize,
+        ncols: usize,
+        row_tile_ptr: *const u32,
+        row_tile_ptr_len: usize,
+        masks: *const u64,
+        masks_len: usize,
+        value_offsets: *const u32,
+        value_offsets_len: usize,
+        metas: *const u32,
+        metas_len: usize,
+        values: *const f64,
+        values_len: usize,
+        matrix_nnz: usize,
+    ) -> Verdict;
+    pub fn denimrasp_abtm_from_csr32(
+        nrows: usize,
+        ncols: usize,
+        row_ptr: *const u32,
+        row_ptr_len: usize,
+        col_idx: *const u32,
+        col_idx_len: usize,
+        values: *const f64,
+        values_len: usize,
+        sparse_max_nnz: u8,
+        dense_min_nnz: u8,
+        row_tile_ptr: *mut u32,
+        row_tile_ptr_len: usize,
+        masks: *mut u64,
+        masks_len: usize,
+        value_offsets: *mut u32,
+        value_offsets_len: usize,
+        metas: *mut u32,
+        metas_len: usize,
+        tile_values: *mut f64,
+        tile_values_len: usize,
+    ) -> Tiles;
+    pub fn denimrasp_abtm_tile_kind(meta: u32) -> Count;
+    pub fn denimrasp_abtm_tile_base_col(meta: u32) -> usize;
+    pub fn denimrasp_abtm_row_tiles(
+        nrows: usize,
+        ncols: usize,
+        row_tile_ptr: *const u32,
+        row_tile_ptr_len: usize,
+        masks: *const u64,
+        masks_len: usize,
+        value_offsets: *const u32,
+        value_offsets_len: usize,
+        metas: *const u32,
+        metas_len: usize,
+        values: *const f64,
+        values_len: usize,
+        matrix_nnz: usize,
+        row: usize,
+    ) -> Part;
+    pub fn denimrasp_abtm_stats(
+        nrows: usize,
+        ncols: usize,
+        row_tile_ptr: *const u32,
+        row_tile_ptr_len: usize,
+        masks: *const u64,
+        masks_len: usize,
+        value_offsets: *const u32,
+        value_offsets_len: usize,
+        metas: *const u32,
+        metas_len: usize,
+        values: *const f64,
+        values_len: usize,
+        matrix_nnz: usize,
+    ) -> TileStats;
+    pub fn denimrasp_abtm_metadata_bytes_per_nnz(metadata_bytes: usize, matrix_nnz: usize) -> f64;
+    pub fn denimrasp_abtm_total_estimated_bytes(metadata_bytes: usize, value_slots: usize)
+    -> usize;
+    pub fn denimrasp_abtm_apply(
+        nrows: usize,
+        ncols: usize,
+        row_tile_ptr: *const u32,
+        row_tile_ptr_len: usize,
+        masks: *const u64,
+        masks_len: usize,
+        value_offsets: *const u32,
+        value_offsets_len: usize,
+        metas: *const u32,
+        metas_len: usize,
+        values: *const f64,
+        values_len: usize,
+        matrix_nnz: usize,
+        x: *const f64,
+        x_len: usize,
+        y: *mut f64,
+        y_len: usize,
+    ) -> Verdict;
+    pub fn denimrasp_abtm_expand_mask_one_hop(
+        nrows: usize,
+        ncols: usize,
+        row_tile_ptr: *const u32,
+        row_tile_ptr_len: usize,
+        masks: *const u64,
+        masks_len: usize,
+        value_offsets: *const u32,
+        value_offsets_len: usize,
+        metas: *const u32,
+        metas_len: usize,
+        values: *const f64,
+        values_len: usize,
+        matrix_nnz: usize,
+        mask_len: usize,
+        mask: *const u64,
+        mask_count: usize,
+        out: *mut u64,
+        out_len: usize,
+    ) -> Verdict;
 }

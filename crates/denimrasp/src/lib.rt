@@ -1,8 +1,8 @@
-// The C interface: every public call of mask, csr32, topology and metadata_first under a name of its own, for programs in C and
-// Rust to link (denimrasp.h). A list crosses as a pointer and a length, an answer as one struct of denimrasp_answers.
+// The C interface: every public call of mask, csr32, topology, metadata_first and abtm under a name of its own, for programs in C
+// and Rust to link (denimrasp.h). A list crosses as a pointer and a length, an answer as one struct of denimrasp_answers.
 ghost use mathlib.Core.Path.{_≡_};
 ghost use mathlib.Core.Bool.{false, not, _&&_, _||_};
-ghost use Prim.Native.Nat.{_+_, _-_, _*_};
+ghost use Prim.Native.Nat.{min, _+_, _-_, _*_, _^_};
 ghost use lib.Dec.{eqb};
 ghost use lib.ListN.{length};
 ghost use lib.Ieee.{binary64, div};
@@ -23,13 +23,24 @@ ghost use Rattle.metadata_first.specs.Dot.{sparseDotRow, accumulated, accumulat
 ghost use Rattle.metadata_first_merge.specs.Merge.{mergeAnswer};
 ghost use Rattle.metadata_first_build.specs.Pack.{asStoreRoom, storeOf, packAnswer};
 ghost use Rattle.metadata_first_dot.specs.Rows.{rowsAnswer, rowSums, rowCounts};
-ghost use Rattle.denimrasp_answers.specs.Answers.{verdictOf, countOf, boolOf, selectOf, partOf, topologyOf, topologyStatsOf, storeStatsOf, dotOf, totalsOf, placesOf, countsFrom};
+ghost use Rattle.abtm.specs.Tiles.{wordIn, asTiles, tilesAnswer};
+ghost use Rattle.abtm.specs.Calls.{thresholdAnswer, kindAnswer};
+ghost use Rattle.abtm_build.specs.Build.{tilesFrom, asTileRoom, tileAnswer, usedTiles};
+ghost use Rattle.abtm_rows.specs.Rows.{tileRowAnswer, tileStats};
+ghost use Rattle.abtm_apply.specs.Product.{tilesProduct, applyTilesAnswer};
+ghost use Rattle.abtm_expand.specs.Expand.{expanded, expandAnswer};
+ghost use Rattle.denimrasp_answers.specs.Answers.{verdictOf, countOf, boolOf, selectOf, partOf, topologyAnswerOf, topologyStatsOf, storeStatsOf, dotAnswerOf, totalsOf, placesOf, countsFrom, tilesAnswerOf, tileStatsOf, thresholdsFrom};
+use abtm::AbtmConfig;
+use abtm::TileDesc;
+use abtm_rows::AbtmStats;
 use denimrasp_answers::DenimraspBool;
 use denimrasp_answers::DenimraspCount;
 use denimrasp_answers::DenimraspDot;
 use denimrasp_answers::DenimraspPart;
 use denimrasp_answers::DenimraspSelect;
 use denimrasp_answers::DenimraspStoreStats;
+use denimrasp_answers::DenimraspTileStats;
+use denimrasp_answers::DenimraspTiles;
 use denimrasp_answers::DenimraspTopology;
 use denimrasp_answers::DenimraspTopologyStats;
 use denimrasp_answers::DenimraspTotals;
@@ -286,7 +297,7 @@ pub extern "C" fn denimrasp_topology_from_csr32(
     word_indices: &mut [u32],
     masks: &mut [u64],
 ) -> DenimraspTopology
-    ensures answer { λ r. ⌜ r ≡ topologyOf (answers (buildAnswer (asCsr nrows ncols (now («row_ptr» .entry)) (now («col_idx» .entry)) (now (values .entry))) (asRoom (length (now («row_word_ptr» .entry))) (length (now («word_indices» .entry))) (length (now (masks .entry))))) (usedOf (topologyFrom (asCsr nrows ncols (now («row_ptr» .entry)) (now («col_idx» .entry)) (now (values .entry)))))) ⌝ }
+    ensures answer { λ r. ⌜ r ≡ topologyAnswerOf (answers (buildAnswer (asCsr nrows ncols (now («row_ptr» .entry)) (now («col_idx» .entry)) (now (values .entry))) (asRoom (length (now («row_word_ptr» .entry))) (length (now («word_indices» .entry))) (length (now (masks .entry))))) (usedOf (topologyFrom (asCsr nrows ncols (now («row_ptr» .entry)) (now («col_idx» .entry)) (now (values .entry)))))) ⌝ }
     ensures pointers { λ _. ⌜ now («row_word_ptr» .exit) ≡ built 0 (length (now («row_word_ptr» .entry))) (buildAnswer (asCsr nrows ncols (now («row_ptr» .entry)) (now («col_idx» .entry)) (now (values .entry))) (asRoom (length (now («row_word_ptr» .entry))) (length (now («word_indices» .entry))) (length (now (masks .entry))))) (topologyFrom (asCsr nrows ncols (now («row_ptr» .entry)) (now («col_idx» .entry)) (now (values .entry))) .ptr) ⌝ }
     ensures numbers { λ _. ⌜ now («word_indices» .exit) ≡ built 0 (length (now («word_indices» .entry))) (buildAnswer (asCsr nrows ncols (now («row_ptr» .entry)) (now («col_idx» .entry)) (now (values .entry))) (asRoom (length (now («row_word_ptr» .entry))) (length (now («word_indices» .entry))) (length (now (masks .entry))))) (topologyFrom (asCsr nrows ncols (now («row_ptr» .entry)) (now («col_idx» .entry)) (now (values .entry))) .word) ⌝ }
     ensures bits { λ _. ⌜ now (masks .exit) ≡ built 0 (length (now (masks .entry))) (buildAnswer (asCsr nrows ncols (now («row_ptr» .entry)) (now («col_idx» .entry)) (now (values .entry))) (asRoom (length (now («row_word_ptr» .entry))) (length (now («word_indices» .entry))) (length (now (masks .entry))))) (topologyFrom (asCsr nrows ncols (now («row_ptr» .entry)) (now («col_idx» .entry)) (now (values .entry))) .mask) ⌝ }
@@ -507,7 +518,7 @@ pub extern "C" fn denimrasp_topology_union(
     out_words: &mut [u32],
     out_masks: &mut [u64],
 ) -> DenimraspTopology
-    ensures answer { λ r. ⌜ r ≡ topologyOf (answers (combineAnswer Operation.Union (asWords nrows ncols (now («row_word_ptr» .entry)) (now («word_indices» .entry)) (now (masks .entry)) «structural_nnz») (asWords «other_nrows» «other_ncols» (now («other_row_word_ptr» .entry)) (now («other_word_indices» .entry)) (now («other_masks» .entry)) «other_structural_nnz») (asRoom (length (now («out_ptr» .entry))) (length (now («out_words» .entry))) (length (now («out_masks» .entry))))) (usedOf (combinedWords Operation.Union (asWords nrows ncols (now («row_word_ptr» .entry)) (now («word_indices» .entry)) (now (masks .entry)) «structural_nnz») (asWords «other_nrows» «other_ncols» (now («other_row_word_ptr» .entry)) (now («other_word_indices» .entry)) (now («other_masks» .entry)) «other_structural_nnz»)))) ⌝ }
+    ensures answer { λ r. ⌜ r ≡ topologyAnswerOf (answers (combineAnswer Operation.Union (asWords nrows ncols (now («row_word_ptr» .entry)) (now («word_indices» .entry)) (now (masks .entry)) «structural_nnz») (asWords «other_nrows» «other_ncols» (now («other_row_word_ptr» .entry)) (now («other_word_indices» .entry)) (now («other_masks» .entry)) «other_structural_nnz») (asRoom (length (now («out_ptr» .entry))) (length (now («out_words» .entry))) (length (now («out_masks» .entry))))) (usedOf (combinedWords Operation.Union (asWords nrows ncols (now («row_word_ptr» .entry)) (now («word_indices» .entry)) (now (masks .entry)) «structural_nnz») (asWords «other_nrows» «other_ncols» (now («other_row_word_ptr» .entry)) (now («other_word_indices» .entry)) (now («other_masks» .entry)) «other_structural_nnz»)))) ⌝ }
     ensures pointers { λ _. ⌜ now («out_ptr» .exit) ≡ built 0 (length (now («out_ptr» .entry))) (combineAnswer Operation.Union (asWords nrows ncols (now («row_word_ptr» .entry)) (now («word_indices» .entry)) (now (masks .entry)) «structural_nnz») (asWords «other_nrows» «other_ncols» (now («other_row_word_ptr» .entry)) (now («other_word_indices» .entry)) (now («other_masks» .entry)) «other_structural_nnz») (asRoom (length (now («out_ptr» .entry))) (length (now («out_words» .entry))) (length (now («out_masks» .entry))))) (combinedWords Operation.Union (asWords nrows ncols (now («row_word_ptr» .entry)) (now («word_indices» .entry)) (now (masks .entry)) «structural_nnz») (asWords «other_nrows» «other_ncols» (now («other_row_word_ptr» .entry)) (now («other_word_indices» .entry)) (now («other_masks» .entry)) «other_structural_nnz») .ptr) ⌝ }
     ensures numbers { λ _. ⌜ now («out_words» .exit) ≡ built 0 (length (now («out_words» .entry))) (combineAnswer Operation.Union (asWords nrows ncols (now («row_word_ptr» .entry)) (now («word_indices» .entry)) (now (masks .entry)) «structural_nnz») (asWords «other_nrows» «other_ncols» (now («other_row_word_ptr» .entry)) (now («other_word_indices» .entry)) (now («other_masks» .entry)) «other_structural_nnz») (asRoom (length (now («out_ptr» .entry))) (length (now («out_words» .entry))) (length (now («out_masks» .entry))))) (combinedWords Operation.Union (asWords nrows ncols (now («row_word_ptr» .entry)) (now («word_indices» .entry)) (now (masks .entry)) «structural_nnz») (asWords «other_nrows» «other_ncols» (now («other_row_word_ptr» .entry)) (now («other_word_indices» .entry)) (now («other_masks» .entry)) «other_structural_nnz») .word) ⌝ }
     ensures bits { λ _. ⌜ now («out_masks» .exit) ≡ built 0 (length (now («out_masks» .entry))) (combineAnswer Operation.Union (asWords nrows ncols (now («row_word_ptr» .entry)) (now («word_indices» .entry)) (now (masks .entry)) «structural_nnz») (asWords «other_nrows» «other_ncols» (now («other_row_word_ptr» .entry)) (now («other_word_indices» .entry)) (now («other_masks» .entry)) «other_structural_nnz») (asRoom (length (now («out_ptr» .entry))) (length (now («out_words» .entry))) (length (now («out_masks» .entry))))) (combinedWords Operation.Union (asWords nrows ncols (now («row_word_ptr» .entry)) (now («word_indices» .entry)) (now (masks .entry)) «structural_nnz») (asWords «other_nrows» «other_ncols» (now («other_row_word_ptr» .entry)) (now («other_word_indices» .entry)) (now («other_masks» .entry)) «other_structural_nnz») .mask) ⌝ }
@@ -552,7 +563,7 @@ pub extern "C" fn denimrasp_topology_intersection(
     out_words: &mut [u32],
     out_masks: &mut [u64],
 ) -> DenimraspTopology
-    ensures answer { λ r. ⌜ r ≡ topologyOf (answers (combineAnswer Operation.Intersection (asWords nrows ncols (now («row_word_ptr» .entry)) (now («word_indices» .entry)) (now (masks .entry)) «structural_nnz») (asWords «other_nrows» «other_ncols» (now («other_row_word_ptr» .entry)) (now («other_word_indices» .entry)) (now («other_masks» .entry)) «other_structural_nnz») (asRoom (length (now («out_ptr» .entry))) (length (now («out_words» .entry))) (length (now («out_masks» .entry))))) (usedOf (combinedWords Operation.Intersection (asWords nrows ncols (now («row_word_ptr» .entry)) (now («word_indices» .entry)) (now (masks .entry)) «structural_nnz») (asWords «other_nrows» «other_ncols» (now («other_row_word_ptr» .entry)) (now («other_word_indices» .entry)) (now («other_masks» .entry)) «other_structural_nnz»)))) ⌝ }
+    ensures answer { λ r. ⌜ r ≡ topologyAnswerOf (answers (combineAnswer Operation.Intersection (asWords nrows ncols (now («row_word_ptr» .entry)) (now («word_indices» .entry)) (now (masks .entry)) «structural_nnz») (asWords «other_nrows» «other_ncols» (now («other_row_word_ptr» .entry)) (now («other_word_indices» .entry)) (now («other_masks» .entry)) «other_structural_nnz») (asRoom (length (now («out_ptr» .entry))) (length (now («out_words» .entry))) (length (now («out_masks» .entry))))) (usedOf (combinedWords Operation.Intersection (asWords nrows ncols (now («row_word_ptr» .entry)) (now («word_indices» .entry)) (now (masks .entry)) «structural_nnz») (asWords «other_nrows» «other_ncols» (now («other_row_word_ptr» .entry)) (now («other_word_indices» .entry)) (now («other_masks» .entry)) «other_structural_nnz»)))) ⌝ }
     ensures pointers { λ _. ⌜ now («out_ptr» .exit) ≡ built 0 (length (now («out_ptr» .entry))) (combineAnswer Operation.Intersection (asWords nrows ncols (now («row_word_ptr» .entry)) (now («word_indices» .entry)) (now (masks .entry)) «structural_nnz») (asWords «other_nrows» «other_ncols» (now («other_row_word_ptr» .entry)) (now («other_word_indices» .entry)) (now («other_masks» .entry)) «other_structural_nnz») (asRoom (length (now («out_ptr» .entry))) (length (now («out_words» .entry))) (length (now («out_masks» .entry))))) (combinedWords Operation.Intersection (asWords nrows ncols (now («row_word_ptr» .entry)) (now («word_indices» .entry)) (now (masks .entry)) «structural_nnz») (asWords «other_nrows» «other_ncols» (now («other_row_word_ptr» .entry)) (now («other_word_indices» .entry)) (now («other_masks» .entry)) «other_structural_nnz») .ptr) ⌝ }
     ensures numbers { λ _. ⌜ now («out_words» .exit) ≡ built 0 (length (now («out_words» .entry))) (combineAnswer Operation.Intersection (asWords nrows ncols (now («row_word_ptr» .entry)) (now («word_indices» .entry)) (now (masks .entry)) «structural_nnz») (asWords «other_nrows» «other_ncols» (now («other_row_word_ptr» .entry)) (now («other_word_indices» .entry)) (now («other_masks» .entry)) «other_structural_nnz») (asRoom (length (now («out_ptr» .entry))) (length (now («out_words» .entry))) (length (now («out_masks» .entry))))) (combinedWords Operation.Intersection (asWords nrows ncols (now («row_word_ptr» .entry)) (now («word_indices» .entry)) (now (masks .entry)) «structural_nnz») (asWords «other_nrows» «other_ncols» (now («other_row_word_ptr» .entry)) (now («other_word_indices» .entry)) (now («other_masks» .entry)) «other_structural_nnz») .word) ⌝ }
     ensures bits { λ _. ⌜ now («out_masks» .exit) ≡ built 0 (length (now («out_masks» .entry))) (combineAnswer Operation.Intersection (asWords nrows ncols (now («row_word_ptr» .entry)) (now («word_indices» .entry)) (now (masks .entry)) «structural_nnz») (asWords «other_nrows» «other_ncols» (now («other_row_word_ptr» .entry)) (now («other_word_indices» .entry)) (now («other_masks» .entry)) «other_structural_nnz») (asRoom (length (now («out_ptr» .entry))) (length (now («out_words» .entry))) (length (now («out_masks» .entry))))) (combinedWords Operation.Intersection (asWords nrows ncols (now («row_word_ptr» .entry)) (now («word_indices» .entry)) (now (masks .entry)) «structural_nnz») (asWords «other_nrows» «other_ncols» (now («other_row_word_ptr» .entry)) (now («other_word_indices» .entry)) (now («other_masks» .entry)) «other_structural_nnz») .mask) ⌝ }
@@ -597,7 +608,7 @@ pub extern "C" fn denimrasp_topology_and_not(
     out_words: &mut [u32],
     out_masks: &mut [u64],
 ) -> DenimraspTopology
-    ensures answer { λ r. ⌜ r ≡ topologyOf (answers (combineAnswer Operation.AndNot (asWords nrows ncols (now («row_word_ptr» .entry)) (now («word_indices» .entry)) (now (masks .entry)) «structural_nnz») (asWords «other_nrows» «other_ncols» (now («other_row_word_ptr» .entry)) (now («other_word_indices» .entry)) (now («other_masks» .entry)) «other_structural_nnz») (asRoom (length (now («out_ptr» .entry))) (length (now («out_words» .entry))) (length (now («out_masks» .entry))))) (usedOf (combinedWords Operation.AndNot (asWords nrows ncols (now («row_word_ptr» .entry)) (now («word_indices» .entry)) (now (masks .entry)) «structural_nnz») (asWords «other_nrows» «other_ncols» (now («other_row_word_ptr» .entry)) (now («other_word_indices» .entry)) (now («other_masks» .entry)) «other_structural_nnz»)))) ⌝ }
+    ensures answer { λ r. ⌜ r ≡ topologyAnswerOf (answers (combineAnswer Operation.AndNot (asWords nrows ncols (now («row_word_ptr» .entry)) (now («word_indices» .entry)) (now (masks .entry)) «structural_nnz») (asWords «other_nrows» «other_ncols» (now («other_row_word_ptr» .entry)) (now («other_word_indices» .entry)) (now («other_masks» .entry)) «other_structural_nnz») (asRoom (length (now («out_ptr» .entry))) (length (now («out_words» .entry))) (length (now («out_masks» .entry))))) (usedOf (combinedWords Operation.AndNot (asWords nrows ncols (now («row_word_ptr» .entry)) (now («word_indices» .entry)) (now (masks .entry)) «structural_nnz») (asWords «other_nrows» «other_ncols» (now («other_row_word_ptr» .entry)) (now («other_word_indices» .entry)) (now («other_masks» .entry)) «other_structural_nnz»)))) ⌝ }
     ensures pointers { λ _. ⌜ now («out_ptr» .exit) ≡ built 0 (length (now («out_ptr» .entry))) (combineAnswer Operation.AndNot (asWords nrows ncols (now («row_word_ptr» .entry)) (now («word_indices» .entry)) (now (masks .entry)) «structural_nnz») (asWords «other_nrows» «other_ncols» (now («other_row_word_ptr» .entry)) (now («other_word_indices» .entry)) (now («other_masks» .entry)) «other_structural_nnz») (asRoom (length (now («out_ptr» .entry))) (length (now («out_words» .entry))) (length (now («out_masks» .entry))))) (combinedWords Operation.AndNot (asWords nrows ncols (now («row_word_ptr» .entry)) (now («word_indices» .entry)) (now (masks .entry)) «structural_nnz») (asWords «other_nrows» «other_ncols» (now («other_row_word_ptr» .entry)) (now («other_word_indices» .entry)) (now («other_masks» .entry)) «other_structural_nnz») .ptr) ⌝ }
     ensures numbers { λ _. ⌜ now («out_words» .exit) ≡ built 0 (length (now («out_words» .entry))) (combineAnswer Operation.AndNot (asWords nrows ncols (now («row_word_ptr» .entry)) (now («word_indices» .entry)) (now (masks .entry)) «structural_nnz») (asWords «other_nrows» «other_ncols» (now («other_row_word_ptr» .entry)) (now («other_word_indices» .entry)) (now («other_masks» .entry)) «other_structural_nnz») (asRoom (length (now («out_ptr» .entry))) (length (now («out_words» .entry))) (length (now («out_masks» .entry))))) (combinedWords Operation.AndNot (asWords nrows ncols (now («row_word_ptr» .entry)) (now («word_indices» .entry)) (now (masks .entry)) «structural_nnz») (asWords «other_nrows» «other_ncols» (now («other_row_word_ptr» .entry)) (now («other_word_indices» .entry)) (now («other_masks» .entry)) «other_structural_nnz») .word) ⌝ }
     ensures bits { λ _. ⌜ now («out_masks» .exit) ≡ built 0 (length (now («out_masks» .entry))) (combineAnswer Operation.AndNot (asWords nrows ncols (now («row_word_ptr» .entry)) (now («word_indices» .entry)) (now (masks .entry)) «structural_nnz») (asWords «other_nrows» «other_ncols» (now («other_row_word_ptr» .entry)) (now («other_word_indices» .entry)) (now («other_masks» .entry)) «other_structural_nnz») (asRoom (length (now («out_ptr» .entry))) (length (now («out_words» .entry))) (length (now («out_masks» .entry))))) (combinedWords Operation.AndNot (asWords nrows ncols (now («row_word_ptr» .entry)) (now («word_indices» .entry)) (now (masks .entry)) «structural_nnz») (asWords «other_nrows» «other_ncols» (now («other_row_word_ptr» .entry)) (now («other_word_indices» .entry)) (now («other_masks» .entry)) «other_structural_nnz») .mask) ⌝ }
@@ -642,7 +653,7 @@ pub extern "C" fn denimrasp_topology_xor(
     out_words: &mut [u32],
     out_masks: &mut [u64],
 ) -> DenimraspTopology
-    ensures answer { λ r. ⌜ r ≡ topologyOf (answers (combineAnswer Operation.Xor (asWords nrows ncols (now («row_word_ptr» .entry)) (now («word_indices» .entry)) (now (masks .entry)) «structural_nnz») (asWords «other_nrows» «other_ncols» (now («other_row_word_ptr» .entry)) (now («other_word_indices» .entry)) (now («other_masks» .entry)) «other_structural_nnz») (asRoom (length (now («out_ptr» .entry))) (length (now («out_words» .entry))) (length (now («out_masks» .entry))))) (usedOf (combinedWords Operation.Xor (asWords nrows ncols (now («row_word_ptr» .entry)) (now («word_indices» .entry)) (now (masks .entry)) «structural_nnz») (asWords «other_nrows» «other_ncols» (now («other_row_word_ptr» .entry)) (now («other_word_indices» .entry)) (now («other_masks» .entry)) «other_structural_nnz»)))) ⌝ }
+    ensures answer { λ r. ⌜ r ≡ topologyAnswerOf (answers (combineAnswer Operation.Xor (asWords nrows ncols (now («row_word_ptr» .entry)) (now («word_indices» .entry)) (now (masks .entry)) «structural_nnz») (asWords «other_nrows» «other_ncols» (now («other_row_word_ptr» .entry)) (now («other_word_indices» .entry)) (now («other_masks» .entry)) «other_structural_nnz») (asRoom (length (now («out_ptr» .entry))) (length (now («out_words» .entry))) (length (now («out_masks» .entry))))) (usedOf (combinedWords Operation.Xor (asWords nrows ncols (now («row_word_ptr» .entry)) (now («word_indices» .entry)) (now (masks .entry)) «structural_nnz») (asWords «other_nrows» «other_ncols» (now («other_row_word_ptr» .entry)) (now («other_word_indices» .entry)) (now («other_masks» .entry)) «other_structural_nnz»)))) ⌝ }
     ensures pointers { λ _. ⌜ now («out_ptr» .exit) ≡ built 0 (length (now («out_ptr» .entry))) (combineAnswer Operation.Xor (asWords nrows ncols (now («row_word_ptr» .entry)) (now («word_indices» .entry)) (now (masks .entry)) «structural_nnz») (asWords «other_nrows» «other_ncols» (now («other_row_word_ptr» .entry)) (now («other_word_indices» .entry)) (now («other_masks» .entry)) «other_structural_nnz») (asRoom (length (now («out_ptr» .entry))) (length (now («out_words» .entry))) (length (now («out_masks» .entry))))) (combinedWords Operation.Xor (asWords nrows ncols (now («row_word_ptr» .entry)) (now («word_indices» .entry)) (now (masks .entry)) «structural_nnz») (asWords «other_nrows» «other_ncols» (now («other_row_word_ptr» .entry)) (now («other_word_indices» .entry)) (now («other_masks» .entry)) «other_structural_nnz») .ptr) ⌝ }
     ensures numbers { λ _. ⌜ now («out_words» .exit) ≡ built 0 (length (now («out_words» .entry))) (combineAnswer Operation.Xor (asWords nrows ncols (now («row_word_ptr» .entry)) (now («word_indices» .entry)) (now (masks .entry)) «structural_nnz») (asWords «other_nrows» «other_ncols» (now («other_row_word_ptr» .entry)) (now («other_word_indices» .entry)) (now («other_masks» .entry)) «other_structural_nnz») (asRoom (length (now («out_ptr» .entry))) (length (now («out_words» .entry))) (length (now («out_masks» .entry))))) (combinedWords Operation.Xor (asWords nrows ncols (now («row_word_ptr» .entry)) (now («word_indices» .entry)) (now (masks .entry)) «structural_nnz») (asWords «other_nrows» «other_ncols» (now («other_row_word_ptr» .entry)) (now («other_word_indices» .entry)) (now («other_masks» .entry)) «other_structural_nnz») .word) ⌝ }
     ensures bits { λ _. ⌜ now («out_masks» .exit) ≡ built 0 (length (now («out_masks» .entry))) (combineAnswer Operation.Xor (asWords nrows ncols (now («row_word_ptr» .entry)) (now («word_indices» .entry)) (now (masks .entry)) «structural_nnz») (asWords «other_nrows» «other_ncols» (now («other_row_word_ptr» .entry)) (now («other_word_indices» .entry)) (now («other_masks» .entry)) «other_structural_nnz») (asRoom (length (now («out_ptr» .entry))) (length (now («out_words» .entry))) (length (now («out_masks» .entry))))) (combinedWords Operation.Xor (asWords nrows ncols (now («row_word_ptr» .entry)) (now («word_indices» .entry)) (now (masks .entry)) «structural_nnz») (asWords «other_nrows» «other_ncols» (now («other_row_word_ptr» .entry)) (now («other_word_indices» .entry)) (now («other_masks» .entry)) «other_structural_nnz») .mask) ⌝ }
@@ -724,7 +735,7 @@ pub extern "C" fn denimrasp_metadata_first_from_csr32(
     row_value_ptr: &mut [u32],
     packed: &mut [f64],
 ) -> DenimraspTopology
-    ensures answer { λ r. ⌜ r ≡ topologyOf (answers (packAnswer (asCsr nrows ncols (now («row_ptr» .entry)) (now («col_idx» .entry)) (now (values .entry))) (asStoreRoom (length (now («row_word_ptr» .entry))) (length (now («word_indices» .entry))) (length (now (masks .entry))) (length (now («row_value_ptr» .entry))) (length (now (packed .entry))))) (usedOf (storeOf (asCsr nrows ncols (now («row_ptr» .entry)) (now («col_idx» .entry)) (now (values .entry))) .words))) ⌝ }
+    ensures answer { λ r. ⌜ r ≡ topologyAnswerOf (answers (packAnswer (asCsr nrows ncols (now («row_ptr» .entry)) (now («col_idx» .entry)) (now (values .entry))) (asStoreRoom (length (now («row_word_ptr» .entry))) (length (now («word_indices» .entry))) (length (now (masks .entry))) (length (now («row_value_ptr» .entry))) (length (now (packed .entry))))) (usedOf (storeOf (asCsr nrows ncols (now («row_ptr» .entry)) (now («col_idx» .entry)) (now (values .entry))) .words))) ⌝ }
     ensures pointers { λ _. ⌜ now («row_word_ptr» .exit) ≡ built 0 (length (now («row_word_ptr» .entry))) (packAnswer (asCsr nrows ncols (now («row_ptr» .entry)) (now («col_idx» .entry)) (now (values .entry))) (asStoreRoom (length (now («row_word_ptr» .entry))) (length (now («word_indices» .entry))) (length (now (masks .entry))) (length (now («row_value_ptr» .entry))) (length (now (packed .entry))))) (storeOf (asCsr nrows ncols (now («row_ptr» .entry)) (now («col_idx» .entry)) (now (values .entry))) .words .ptr) ⌝ }
     ensures numbers { λ _. ⌜ now («word_indices» .exit) ≡ built 0 (length (now («word_indices» .entry))) (packAnswer (asCsr nrows ncols (now («row_ptr» .entry)) (now («col_idx» .entry)) (now (values .entry))) (asStoreRoom (length (now («row_word_ptr» .entry))) (length (now («word_indices» .entry))) (length (now (masks .entry))) (length (now («row_value_ptr» .entry))) (length (now (packed .entry))))) (storeOf (asCsr nrows ncols (now («row_ptr» .entry)) (now («col_idx» .entry)) (now (values .entry))) .words .word) ⌝ }
     ensures bits { λ _. ⌜ now (masks .exit) ≡ built 0 (length (now (masks .entry))) (packAnswer (asCsr nrows ncols (now («row_ptr» .entry)) (now («col_idx» .entry)) (now (values .entry))) (asStoreRoom (length (now («row_word_ptr» .entry))) (length (now («word_indices» .entry))) (length (now (masks .entry))) (length (now («row_value_ptr» .entry))) (length (now (packed .entry))))) (storeOf (asCsr nrows ncols (now («row_ptr» .entry)) (now («col_idx» .entry)) (now (values .entry))) .words .mask) ⌝ }
@@ -823,7 +834,7 @@ pub extern "C" fn denimrasp_metadata_first_sparse_dot_row(
     mask: &[u64],
     x: &[f64],
 ) -> DenimraspDot
-    ensures { λ r. ⌜ r ≡ dotOf (sparseDotRow (asStore nrows ncols (now («row_word_ptr» .entry)) (now («word_indices» .entry)) (now (masks .entry)) «structural_nnz» (now («row_value_ptr» .entry)) (now (values .entry))) (asMask «mask_len» (now (mask .entry))) (now (x .entry)) row) ⌝ }
+    ensures { λ r. ⌜ r ≡ dotAnswerOf (sparseDotRow (asStore nrows ncols (now («row_word_ptr» .entry)) (now («word_indices» .entry)) (now (masks .entry)) «structural_nnz» (now («row_value_ptr» .entry)) (now (values .entry))) (asMask «mask_len» (now (mask .entry))) (now (x .entry)) row) ⌝ }
 {
     let answer = metadata_first_dot::sparse_dot_row(
         nrows,
@@ -1065,4 +1076,282 @@ pub extern "C" fn denimrasp_metadata_first_accumulate(
         active_words: other_active_words,
     };
     denimrasp_answers::totals(s.accumulate(other))
+}
+
+// 9 where the thresholds are bad.
+#[no_mangle]
+pub extern "C" fn denimrasp_abtm_validate(sparse_max_nnz: u8, dense_min_nnz: u8) -> DenimraspVerdict
+    ensures { λ r. ⌜ r ≡ verdictOf (thresholdAnswer (thresholdsFrom «sparse_max_nnz» «dense_min_nnz»)) ⌝ }
+{
+    let config = AbtmConfig {
+        sparse_max_nnz,
+        dense_min_nnz,
+    };
+    denimrasp_answers::verdict(config.validate())
+}
+
+// 12 where the tiles break a rule.
+#[no_mangle]
+pub extern "C" fn denimrasp_abtm_check(
+    nrows: usize,
+    ncols: usize,
+    row_tile_ptr: &[u32],
+    masks: &[u64],
+    value_offsets: &[u32],
+    metas: &[u32],
+    values: &[f64],
+    matrix_nnz: usize,
+) -> DenimraspVerdict
+    ensures { λ r. ⌜ r ≡ verdictOf (tilesAnswer (asTiles nrows ncols (now («row_tile_ptr» .entry)) (now (masks .entry)) (now («value_offsets» .entry)) (now (metas .entry)) (now (values .entry)) «matrix_nnz»)) ⌝ }
+{
+    let answer = abtm_check::check(
+        nrows,
+        ncols,
+        row_tile_ptr,
+        masks,
+        value_offsets,
+        metas,
+        values,
+        matrix_nnz,
+    );
+    denimrasp_answers::verdict(answer)
+}
+
+// The tiles of a plot list; 13 exactly where they do not fit.
+#[no_mangle]
+pub extern "C" fn denimrasp_abtm_from_csr32(
+    nrows: usize,
+    ncols: usize,
+    row_ptr: &[u32],
+    col_idx: &[u32],
+    values: &[f64],
+    sparse_max_nnz: u8,
+    dense_min_nnz: u8,
+    row_tile_ptr: &mut [u32],
+    masks: &mut [u64],
+    value_offsets: &mut [u32],
+    metas: &mut [u32],
+    tile_values: &mut [f64],
+) -> DenimraspTiles
+    ensures answer { λ r. ⌜ r ≡ tilesAnswerOf (answers (tileAnswer (asCsr nrows ncols (now («row_ptr» .entry)) (now («col_idx» .entry)) (now (values .entry))) (thresholdsFrom «sparse_max_nnz» «dense_min_nnz») (asTileRoom (length (now («row_tile_ptr» .entry))) (length (now (masks .entry))) (length (now («value_offsets» .entry))) (length (now (metas .entry))) (length (now («tile_values» .entry))))) (usedTiles (tilesFrom (asCsr nrows ncols (now («row_ptr» .entry)) (now («col_idx» .entry)) (now (values .entry))) (thresholdsFrom «sparse_max_nnz» «dense_min_nnz»)))) ⌝ }
+    ensures pointers { λ _. ⌜ now («row_tile_ptr» .exit) ≡ built 0 (length (now («row_tile_ptr» .entry))) (tileAnswer (asCsr nrows ncols (now («row_ptr» .entry)) (now («col_idx» .entry)) (now (values .entry))) (thresholdsFrom «sparse_max_nnz» «dense_min_nnz») (asTileRoom (length (now («row_tile_ptr» .entry))) (length (now (masks .entry))) (length (now («value_offsets» .entry))) (length (now (metas .entry))) (length (now («tile_values» .entry))))) (tilesFrom (asCsr nrows ncols (now («row_ptr» .entry)) (now («col_idx» .entry)) (now (values .entry))) (thresholdsFrom «sparse_max_nnz» «dense_min_nnz») .ptr) ⌝ }
+    ensures bits { λ _. ⌜ now (masks .exit) ≡ built 0 (length (now (masks .entry))) (tileAnswer (asCsr nrows ncols (now («row_ptr» .entry)) (now («col_idx» .entry)) (now (values .entry))) (thresholdsFrom «sparse_max_nnz» «dense_min_nnz») (asTileRoom (length (now («row_tile_ptr» .entry))) (length (now (masks .entry))) (length (now («value_offsets» .entry))) (length (now (metas .entry))) (length (now («tile_values» .entry))))) (tilesFrom (asCsr nrows ncols (now («row_ptr» .entry)) (now («col_idx» .entry)) (now (values .entry))) (thresholdsFrom «sparse_max_nnz» «dense_min_nnz») .mask) ⌝ }
+    ensures offsets { λ _. ⌜ now («value_offsets» .exit) ≡ built 0 (length (now («value_offsets» .entry))) (tileAnswer (asCsr nrows ncols (now («row_ptr» .entry)) (now («col_idx» .entry)) (now (values .entry))) (thresholdsFrom «sparse_max_nnz» «dense_min_nnz») (asTileRoom (length (now («row_tile_ptr» .entry))) (length (now (masks .entry))) (length (now («value_offsets» .entry))) (length (now (metas .entry))) (length (now («tile_values» .entry))))) (tilesFrom (asCsr nrows ncols (now («row_ptr» .entry)) (now («col_idx» .entry)) (now (values .entry))) (thresholdsFrom «sparse_max_nnz» «dense_min_nnz») .offset) ⌝ }
+    ensures metas { λ _. ⌜ now (metas .exit) ≡ built 0 (length (now (metas .entry))) (tileAnswer (asCsr nrows ncols (now («row_ptr» .entry)) (now («col_idx» .entry)) (now (values .entry))) (thresholdsFrom «sparse_max_nnz» «dense_min_nnz») (asTileRoom (length (now («row_tile_ptr» .entry))) (length (now (masks .entry))) (length (now («value_offsets» .entry))) (length (now (metas .entry))) (length (now («tile_values» .entry))))) (tilesFrom (asCsr nrows ncols (now («row_ptr» .entry)) (now («col_idx» .entry)) (now (values .entry))) (thresholdsFrom «sparse_max_nnz» «dense_min_nnz») .meta) ⌝ }
+    ensures values { λ _. ⌜ now («tile_values» .exit) ≡ built zero64 (length (now («tile_values» .entry))) (tileAnswer (asCsr nrows ncols (now («row_ptr» .entry)) (now («col_idx» .entry)) (now (values .entry))) (thresholdsFrom «sparse_max_nnz» «dense_min_nnz») (asTileRoom (length (now («row_tile_ptr» .entry))) (length (now (masks .entry))) (length (now («value_offsets» .entry))) (length (now (metas .entry))) (length (now («tile_values» .entry))))) (tilesFrom (asCsr nrows ncols (now («row_ptr» .entry)) (now («col_idx» .entry)) (now (values .entry))) (thresholdsFrom «sparse_max_nnz» «dense_min_nnz») .vals) ⌝ }
+{
+    let config = AbtmConfig {
+        sparse_max_nnz,
+        dense_min_nnz,
+    };
+    let answer = abtm_build::from_csr32(
+        nrows,
+        ncols,
+        row_ptr,
+        col_idx,
+        values,
+        config,
+        row_tile_ptr,
+        masks,
+        value_offsets,
+        metas,
+        tile_values,
+    );
+    denimrasp_answers::tiles_built(answer)
+}
+
+// The kind of a tile: 0 Sparse, 1 Bitmap, 2 Dense; 12 for kind 3.
+#[no_mangle]
+pub extern "C" fn denimrasp_abtm_tile_kind(meta: u32) -> DenimraspCount
+    ensures { λ r. ⌜ r ≡ countOf (kindAnswer meta) ⌝ }
+{
+    let tile = TileDesc {
+        mask: 0,
+        value_offset: 0,
+        meta,
+    };
+    denimrasp_answers::kind(tile.kind())
+}
+
+// The first column of a tile.
+#[no_mangle]
+pub extern "C" fn denimrasp_abtm_tile_base_col(meta: u32) -> usize
+    ensures { λ r. ⌜ r ≡ 64 * wordIn meta ⌝ }
+{
+    TileDesc {
+        mask: 0,
+        value_offset: 0,
+        meta,
+    }.base_col()
+}
+
+// The places of the row's tiles in the lists of masks, offsets and metas: from start, below end.
+#[no_mangle]
+pub extern "C" fn denimrasp_abtm_row_tiles(
+    nrows: usize,
+    ncols: usize,
+    row_tile_ptr: &[u32],
+    masks: &[u64],
+    value_offsets: &[u32],
+    metas: &[u32],
+    values: &[f64],
+    matrix_nnz: usize,
+    row: usize,
+) -> DenimraspPart
+    ensures { λ r. ⌜ r ≡ partOf (answers (tileRowAnswer (asTiles nrows ncols (now («row_tile_ptr» .entry)) (now (masks .entry)) (now («value_offsets» .entry)) (now (metas .entry)) (now (values .entry)) «matrix_nnz») row) (placesOf (now («row_tile_ptr» .entry)) row)) ⌝ }
+{
+    let v = abtm_check::check(
+        nrows,
+        ncols,
+        row_tile_ptr,
+        masks,
+        value_offsets,
+        metas,
+        values,
+        matrix_nnz,
+    );
+    if let Verdict::Refused(e) = v {
+        return denimrasp_answers::part_refused(e);
+    }
+    if row >= nrows {
+        return denimrasp_answers::part_refused(HybitError::NoSuchPlace);
+    }
+    denimrasp_answers::part(row_tile_ptr, row)
+}
+
+// The figures of tiles.
+#[no_mangle]
+pub extern "C" fn denimrasp_abtm_stats(
+    nrows: usize,
+    ncols: usize,
+    row_tile_ptr: &[u32],
+    masks: &[u64],
+    value_offsets: &[u32],
+    metas: &[u32],
+    values: &[f64],
+    matrix_nnz: usize,
+) -> DenimraspTileStats
+    ensures { λ r. ⌜ r ≡ tileStatsOf (answers (tilesAnswer (asTiles nrows ncols (now («row_tile_ptr» .entry)) (now (masks .entry)) (now («value_offsets» .entry)) (now (metas .entry)) (now (values .entry)) «matrix_nnz»)) (tileStats (asTiles nrows ncols (now («row_tile_ptr» .entry)) (now (masks .entry)) (now («value_offsets» .entry)) (now (metas .entry)) (now (values .entry)) «matrix_nnz»))) ⌝ }
+{
+    let answer = abtm_rows::stats(
+        nrows,
+        ncols,
+        row_tile_ptr,
+        masks,
+        value_offsets,
+        metas,
+        values,
+        matrix_nnz,
+    );
+    denimrasp_answers::tile_stats(answer)
+}
+
+// Bytes for each value; 0.0 where there is none.
+#[no_mangle]
+pub extern "C" fn denimrasp_abtm_metadata_bytes_per_nnz(
+    metadata_bytes: usize,
+    matrix_nnz: usize,
+) -> f64
+    ensures { λ r. ⌜ r ≡ ratioOf «metadata_bytes» «matrix_nnz» ⌝ }
+{
+    let s = AbtmStats {
+        nrows: 0,
+        ncols: 0,
+        matrix_nnz,
+        tiles: 0,
+        sparse_tiles: 0,
+        bitmap_tiles: 0,
+        dense_tiles: 0,
+        value_slots: 0,
+        metadata_bytes,
+    };
+    s.metadata_bytes_per_nnz()
+}
+
+// The bytes of the metadata and 8 for each value slot, at most 2^64 − 1.
+#[no_mangle]
+pub extern "C" fn denimrasp_abtm_total_estimated_bytes(
+    metadata_bytes: usize,
+    value_slots: usize,
+) -> usize
+    ensures { λ r. ⌜ r ≡ min («metadata_bytes» + 8 * «value_slots») (2 ^ 64 - 1) ⌝ }
+{
+    let s = AbtmStats {
+        nrows: 0,
+        ncols: 0,
+        matrix_nnz: 0,
+        tiles: 0,
+        sparse_tiles: 0,
+        bitmap_tiles: 0,
+        dense_tiles: 0,
+        value_slots,
+        metadata_bytes,
+    };
+    s.total_estimated_bytes()
+}
+
+// The row products of tiles; a refused call leaves y as it was.
+#[no_mangle]
+pub extern "C" fn denimrasp_abtm_apply(
+    nrows: usize,
+    ncols: usize,
+    row_tile_ptr: &[u32],
+    masks: &[u64],
+    value_offsets: &[u32],
+    metas: &[u32],
+    values: &[f64],
+    matrix_nnz: usize,
+    x: &[f64],
+    y: &mut [f64],
+) -> DenimraspVerdict
+    ensures answer { λ r. ⌜ r ≡ verdictOf (applyTilesAnswer (asTiles nrows ncols (now («row_tile_ptr» .entry)) (now (masks .entry)) (now («value_offsets» .entry)) (now (metas .entry)) (now (values .entry)) «matrix_nnz») (now (x .entry)) (length (now (y .entry)))) ⌝ }
+    ensures product { λ _. ⌜ now (y .exit) ≡ kept (applyTilesAnswer (asTiles nrows ncols (now («row_tile_ptr» .entry)) (now (masks .entry)) (now («value_offsets» .entry)) (now (metas .entry)) (now (values .entry)) «matrix_nnz») (now (x .entry)) (length (now (y .entry)))) (tilesProduct (asTiles nrows ncols (now («row_tile_ptr» .entry)) (now (masks .entry)) (now («value_offsets» .entry)) (now (metas .entry)) (now (values .entry)) «matrix_nnz») (now (x .entry))) (now (y .entry)) ⌝ }
+{
+    let answer = abtm_apply::apply(
+        nrows,
+        ncols,
+        row_tile_ptr,
+        masks,
+        value_offsets,
+        metas,
+        values,
+        matrix_nnz,
+        x,
+        y,
+    );
+    denimrasp_answers::verdict(answer)
+}
+
+// The mask joined with the columns of its rows' tiles, in out.
+#[no_mangle]
+pub extern "C" fn denimrasp_abtm_expand_mask_one_hop(
+    nrows: usize,
+    ncols: usize,
+    row_tile_ptr: &[u32],
+    masks: &[u64],
+    value_offsets: &[u32],
+    metas: &[u32],
+    values: &[f64],
+    matrix_nnz: usize,
+    mask_len: usize,
+    mask: &[u64],
+    out: &mut [u64],
+) -> DenimraspVerdict
+    ensures answer { λ r. ⌜ r ≡ verdictOf (expandAnswer (asTiles nrows ncols (now («row_tile_ptr» .entry)) (now (masks .entry)) (now («value_offsets» .entry)) (now (metas .entry)) (now (values .entry)) «matrix_nnz») (asMask «mask_len» (now (mask .entry))) (length (now (out .entry)))) ⌝ }
+    ensures list { λ _. ⌜ now (out .exit) ≡ built 0 (length (now (out .entry))) (expandAnswer (asTiles nrows ncols (now («row_tile_ptr» .entry)) (now (masks .entry)) (now («value_offsets» .entry)) (now (metas .entry)) (now (values .entry)) «matrix_nnz») (asMask «mask_len» (now (mask .entry))) (length (now (out .entry)))) (maskWords (expanded (asTiles nrows ncols (now («row_tile_ptr» .entry)) (now (masks .entry)) (now («value_offsets» .entry)) (now (metas .entry)) (now (values .entry)) «matrix_nnz») (asMask «mask_len» (now (mask .entry)))) «mask_len») ⌝ }
+{
+    let answer = abtm_expand::expand_mask_one_hop(
+        nrows,
+        ncols,
+        row_tile_ptr,
+        masks,
+        value_offsets,
+        metas,
+        values,
+        matrix_nnz,
+        mask_len,
+        mask,
+        out,
+    );
+    denimrasp_answers::verdict(answer)
 }

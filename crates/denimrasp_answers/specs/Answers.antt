@@ -11,6 +11,8 @@ use Rattle.topology.specs.declared.AbtmTopologyStats.{AbtmTopologyStats}
 use Rattle.metadata_first.specs.declared.AbtmMetadataFirstStats.{AbtmMetadataFirstStats}
 use Rattle.metadata_first.specs.declared.AbtmRowDot.{AbtmRowDot}
 use Rattle.metadata_first.specs.declared.AbtmProductPruningStats.{AbtmProductPruningStats}
+use Rattle.abtm.specs.declared.AbtmConfig.{AbtmConfig}
+use Rattle.abtm_rows.specs.declared.AbtmStats.{AbtmStats}
 use Rattle.denimrasp_answers.specs.declared.DenimraspVerdict.{DenimraspVerdict}
 use Rattle.denimrasp_answers.specs.declared.DenimraspCount.{DenimraspCount}
 use Rattle.denimrasp_answers.specs.declared.DenimraspBool.{DenimraspBool}
@@ -21,6 +23,8 @@ use Rattle.denimrasp_answers.specs.declared.DenimraspTopologyStats.{Deni
 use Rattle.denimrasp_answers.specs.declared.DenimraspStoreStats.{DenimraspStoreStats}
 use Rattle.denimrasp_answers.specs.declared.DenimraspDot.{DenimraspDot}
 use Rattle.denimrasp_answers.specs.declared.DenimraspTotals.{DenimraspTotals}
+use Rattle.denimrasp_answers.specs.declared.DenimraspTiles.{DenimraspTiles}
+use Rattle.denimrasp_answers.specs.declared.DenimraspTileStats.{DenimraspTileStats}
 
 abbrev pub verdictOf : Answer → DenimraspVerdict
 verdictOf accepted = record { number = 0; expected = 0; actual = 0 }
@@ -48,9 +52,9 @@ abbrev pub partOf : Given (ℕ × ℕ) → DenimraspPart
 partOf (gives p) = record { number = 0; expected = 0; actual = 0; start = p .0; end = p .1 }
 partOf (refuses t) = record { number = t .number; expected = t .expected; actual = t .actual; start = 0; end = 0 }
 
-abbrev pub topologyOf : Given (ℕ × ℕ) → DenimraspTopology
-topologyOf (gives u) = record { number = 0; expected = 0; actual = 0; words = u .0; «structural_nnz» = u .1 }
-topologyOf (refuses t) = record { number = t .number; expected = t .expected; actual = t .actual; words = 0; «structural_nnz» = 0 }
+abbrev pub topologyAnswerOf : Given (ℕ × ℕ) → DenimraspTopology
+topologyAnswerOf (gives u) = record { number = 0; expected = 0; actual = 0; words = u .0; «structural_nnz» = u .1 }
+topologyAnswerOf (refuses t) = record { number = t .number; expected = t .expected; actual = t .actual; words = 0; «structural_nnz» = 0 }
 
 abbrev pub topologyStatsOf : Given AbtmTopologyStats → DenimraspTopologyStats
 topologyStatsOf (gives s) = record {
@@ -98,8 +102,8 @@ storeStatsOf (refuses t) = record {
   «packed_value_bytes» = 0;
 }
 
-abbrev pub dotOf : Given AbtmRowDot → DenimraspDot
-dotOf (gives d) = record {
+abbrev pub dotAnswerOf : Given AbtmRowDot → DenimraspDot
+dotAnswerOf (gives d) = record {
   number = 0;
   expected = 0;
   actual = 0;
@@ -110,7 +114,7 @@ dotOf (gives d) = record {
   «topology_words» = d .«topology_words»;
   «active_words» = d .«active_words»;
 }
-dotOf (refuses t) = record {
+dotAnswerOf (refuses t) = record {
   number = t .number;
   expected = t .expected;
   actual = t .actual;
@@ -147,3 +151,56 @@ totalsOf (refuses t) = record {
 -- the five counts of a report, which cross as five numbers
 abbrev pub countsFrom : ℕ → ℕ → ℕ → ℕ → ℕ → AbtmProductPruningStats
 countsFrom c e s w a = record { «candidate_products» = c; «executed_products» = e; «skipped_products» = s; «topology_words» = w; «active_words» = a }
+
+-- tiles, value slots and matrix_nnz
+abbrev pub tilesAnswerOf : Given (ℕ × (ℕ × ℕ)) → DenimraspTiles
+tilesAnswerOf (gives u) = record {
+  number = 0;
+  expected = 0;
+  actual = 0;
+  tiles = u .0;
+  «value_slots» = u .1 .0;
+  «matrix_nnz» = u .1 .1;
+}
+tilesAnswerOf (refuses t) = record {
+  number = t .number;
+  expected = t .expected;
+  actual = t .actual;
+  tiles = 0;
+  «value_slots» = 0;
+  «matrix_nnz» = 0;
+}
+
+abbrev pub tileStatsOf : Given AbtmStats → DenimraspTileStats
+tileStatsOf (gives s) = record {
+  number = 0;
+  expected = 0;
+  actual = 0;
+  nrows = s .nrows;
+  ncols = s .ncols;
+  «matrix_nnz» = s .«matrix_nnz»;
+  tiles = s .tiles;
+  «sparse_tiles» = s .«sparse_tiles»;
+  «bitmap_tiles» = s .«bitmap_tiles»;
+  «dense_tiles» = s .«dense_tiles»;
+  «value_slots» = s .«value_slots»;
+  «metadata_bytes» = s .«metadata_bytes»;
+}
+tileStatsOf (refuses t) = record {
+  number = t .number;
+  expected = t .expected;
+  actual = t .actual;
+  nrows = 0;
+  ncols = 0;
+  «matrix_nnz» = 0;
+  tiles = 0;
+  «sparse_tiles» = 0;
+  «bitmap_tiles» = 0;
+  «dense_tiles» = 0;
+  «value_slots» = 0;
+  «metadata_bytes» = 0;
+}
+
+-- thresholds, which cross as two numbers
+abbrev pub thresholdsFrom : ℕ → ℕ → AbtmConfig
+thresholdsFrom s d = record { «sparse_max_nnz» = s; «dense_min_nnz» = d }

@@ -8,7 +8,14 @@ ghost use Rattle.word.specs.Word.{toldSelect};
 ghost use Rattle.topology.specs.Calls.{toldSelection, toldStats, toldTopology};
 ghost use Rattle.metadata_first.specs.Store.{toldStoreStats};
 ghost use Rattle.metadata_first.specs.Dot.{toldDot, toldTotals};
-ghost use Rattle.denimrasp_answers.specs.Answers.{verdictOf, countOf, boolOf, selectOf, partOf, placesOf, topologyOf, topologyStatsOf, storeStatsOf, dotOf, totalsOf};
+ghost use Rattle.abtm.specs.Calls.{kindNumber, toldKind};
+ghost use Rattle.abtm_rows.specs.Rows.{toldTileStats};
+ghost use Rattle.abtm_build.specs.Build.{toldTiles};
+ghost use Rattle.denimrasp_answers.specs.Answers.{verdictOf, countOf, boolOf, selectOf, partOf, placesOf, topologyAnswerOf, topologyStatsOf, storeStatsOf, dotAnswerOf, totalsOf, tilesAnswerOf, tileStatsOf};
+use abtm::KindAnswer;
+use abtm::TileKind;
+use abtm_build::TilesAnswer;
+use abtm_rows::AbtmStatsAnswer;
 use hybit_core::BoolAnswer;
 use hybit_core::CountAnswer;
 use hybit_core::HybitError;
@@ -122,6 +129,33 @@ pub struct DenimraspTotals {
     pub skipped_products: usize,
     pub topology_words: usize,
     pub active_words: usize,
+}
+
+// How much of the lent lists a build of tiles used, and how many values there are.
+#[repr(C)]
+pub struct DenimraspTiles {
+    pub number: u32,
+    pub expected: usize,
+    pub actual: usize,
+    pub tiles: usize,
+    pub value_slots: usize,
+    pub matrix_nnz: usize,
+}
+
+#[repr(C)]
+pub struct DenimraspTileStats {
+    pub number: u32,
+    pub expected: usize,
+    pub actual: usize,
+    pub nrows: usize,
+    pub ncols: usize,
+    pub matrix_nnz: usize,
+    pub tiles: usize,
+    pub sparse_tiles: usize,
+    pub bitmap_tiles: usize,
+    pub dense_tiles: usize,
+    pub value_slots: usize,
+    pub metadata_bytes: usize,
 }
 
 pub fn verdict(v: Verdict) -> DenimraspVerdict
@@ -273,7 +307,7 @@ pub fn part(row_ptr: &[u32], row: usize) -> DenimraspPart
 }
 
 pub fn topology_built(a: TopologyAnswer) -> DenimraspTopology
-    ensures { λ r. ⌜ r ≡ topologyOf (toldTopology a) ⌝ }
+    ensures { λ r. ⌜ r ≡ topologyAnswerOf (toldTopology a) ⌝ }
 {
     match a {
         TopologyAnswer::Built {
@@ -353,7 +387,7 @@ pub fn store_stats(a: StoreStatsAnswer) -> DenimraspStoreStats
 }
 
 pub fn dot(a: DotAnswer) -> DenimraspDot
-    ensures { λ r. ⌜ r ≡ dotOf (toldDot a) ⌝ }
+    ensures { λ r. ⌜ r ≡ dotAnswerOf (toldDot a) ⌝ }
 {
     match a {
         DotAnswer::Dot(d) => DenimraspDot {
@@ -404,6 +438,98 @@ pub fn totals(a: TotalsAnswer) -> DenimraspTotals
             skipped_products: 0,
             topology_words: 0,
             active_words: 0,
+        },
+    }
+}
+
+fn kind_number(k: TileKind) -> usize
+    ensures { λ r. ⌜ r ≡ kindNumber k ⌝ }
+{
+    match k {
+        TileKind::Sparse => 0,
+        TileKind::Bitmap => 1,
+        TileKind::Dense => 2,
+    }
+}
+
+// A tile's kind as a number.
+pub fn kind(a: KindAnswer) -> DenimraspCount
+    ensures { λ r. ⌜ r ≡ countOf (toldKind a) ⌝ }
+{
+    match a {
+        KindAnswer::Kind(k) => DenimraspCount {
+            number: 0,
+            expected: 0,
+            actual: 0,
+            count: kind_number(k),
+        },
+        KindAnswer::Refused(e) => DenimraspCount {
+            number: hybit_core::number(e),
+            expected: hybit_core::expected(e),
+            actual: hybit_core::actual(e),
+            count: 0,
+        },
+    }
+}
+
+pub fn tiles_built(a: TilesAnswer) -> DenimraspTiles
+    ensures { λ r. ⌜ r ≡ tilesAnswerOf (toldTiles a) ⌝ }
+{
+    match a {
+        TilesAnswer::Built {
+            tiles,
+            value_slots,
+            matrix_nnz,
+        } => DenimraspTiles {
+            number: 0,
+            expected: 0,
+            actual: 0,
+            tiles: tiles,
+            value_slots: value_slots,
+            matrix_nnz: matrix_nnz,
+        },
+        TilesAnswer::Refused(e) => DenimraspTiles {
+            number: hybit_core::number(e),
+            expected: hybit_core::expected(e),
+            actual: hybit_core::actual(e),
+            tiles: 0,
+            value_slots: 0,
+            matrix_nnz: 0,
+        },
+    }
+}
+
+pub fn tile_stats(a: AbtmStatsAnswer) -> DenimraspTileStats
+    ensures { λ r. ⌜ r ≡ tileStatsOf (toldTileStats a) ⌝ }
+{
+    match a {
+        AbtmStatsAnswer::Stats(s) => DenimraspTileStats {
+            number: 0,
+            expected: 0,
+            actual: 0,
+            nrows: s.nrows,
+            ncols: s.ncols,
+            matrix_nnz: s.matrix_nnz,
+            tiles: s.tiles,
+            sparse_tiles: s.sparse_tiles,
+            bitmap_tiles: s.bitmap_tiles,
+            dense_tiles: s.dense_tiles,
+            value_slots: s.value_slots,
+            metadata_bytes: s.metadata_bytes,
+        },
+        AbtmStatsAnswer::Refused(e) => DenimraspTileStats {
+            number: hybit_core::number(e),
+            expected: hybit_core::expected(e),
+            actual: hybit_core::actual(e),
+            nrows: 0,
+            ncols: 0,
+            matrix_nnz: 0,
+            tiles: 0,
+            sparse_tiles: 0,
+            bitmap_tiles: 0,
+            dense_tiles: 0,
+            value_slots: 0,
+            metadata_bytes: 0,
         },
     }
 }

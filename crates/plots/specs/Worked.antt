@@ -19,6 +19,8 @@ use Rattle.metadata_first.specs.declared.AbtmRowDot.{AbtmRowDot}
 use Rattle.metadata_first.specs.Store.{Store}
 use Rattle.metadata_first.specs.Dot.{sparseDotRow}
 use Rattle.metadata_first_build.specs.Pack.{storeOf}
+use Rattle.abtm.specs.declared.AbtmConfig.{AbtmConfig}
+use Rattle.abtm_build.specs.Build.{tilesFrom}
 
 -- what a row of the table compares
 pub data Cell : Type 0 where
@@ -91,6 +93,10 @@ oneMask m = record { rows = 1; cols = 64; ptr = 0 ∷ 1 ∷ []; word = 0 ∷ [];
 abbrev pub cancels : Csr
 cancels = record { rows = 1; cols = 70; ptr = 0 ∷ 2 ∷ []; col = 5 ∷ 5 ∷ []; val = two 0 ∷ minusOne ∷ [] }
 
+-- the default thresholds
+abbrev pub standard : AbtmConfig
+standard = record { «sparse_max_nnz» = 8; «dense_min_nnz» = 40 }
+
 unfoldable pub table : List (Cell × Cell)
 table =
     -- word 0 mask 8, word 1 mask 3
@@ -132,7 +138,11 @@ table =
     ∷ (numbers (combinedWords AndNot (oneMask 6) (oneMask 3) .mask), numbers (4 ∷ []))
     ∷ (numbers (combinedWords Xor (oneMask 6) (oneMask 3) .mask), numbers (5 ∷ []))
     ∷ (numbers (combinedWords Xor (oneMask 6) (oneMask 6) .word), numbers [])
-    -- column 5 with 1.0 and −1.0: present, packed 0.0
+    -- column 5 with 1.0 and −1.0: present, packed 0.0, no tile
     ∷ (test (member (topologyFrom cancels) 0 5), test true)
     ∷ (floats (storeOf cancels .vals), floats (zero64 ∷ []))
+    ∷ (numbers (tilesFrom cancels standard .ptr), numbers (0 ∷ 0 ∷ []))
+    ∷ (numbers (tilesFrom cancels standard .mask), numbers [])
+    ∷ (floats (tilesFrom cancels standard .vals), floats [])
+    ∷ (number (tilesFrom cancels standard .nnz), number 0)
     ∷ []

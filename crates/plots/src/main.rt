@@ -1,5 +1,7 @@
 // Runs the port on document 01's worked plots and writes what it computes. The file stdout was written by hand from the
 // document's figures.
+use abtm::AbtmConfig;
+use abtm_build::TilesAnswer;
 use hybit_core::BoolAnswer;
 use hybit_core::CountAnswer;
 use hybit_core::HybitError;
@@ -475,25 +477,222 @@ fn show_store() {
     );
 }
 
-fn show_packed_zero() {
+fn tiles_answer(a: TilesAnswer) {
+    match a {
+        TilesAnswer::Built {
+            tiles,
+            value_slots,
+            matrix_nnz,
+        } => {
+            text(b" tiles");
+            size(tiles);
+            text(b", slots");
+            size(value_slots);
+            text(b", values");
+            size(matrix_nnz);
+        }
+        TilesAnswer::Refused(e) => refused(e),
+    }
+}
+
+// The tiles of one row of 70 columns.
+fn show_tiles(
+    row_ptr: &[u32],
+    cols: &[u32],
+    values: &[f64],
+    config: AbtmConfig,
+    ptr: &mut [u32],
+    masks: &mut [u64],
+    offsets: &mut [u32],
+    metas: &mut [u32],
+    slots: &mut [f64],
+) {
+    text(b"tiles of");
+    size(cols.len());
+    text(b" entries:");
+    tiles_answer(abtm_build::from_csr32(
+        1,
+        70,
+        row_ptr,
+        cols,
+        values,
+        config,
+        ptr,
+        masks,
+        offsets,
+        metas,
+        slots,
+    ));
+    text(b", pointers");
+    show_u32(ptr);
+    text(b", masks");
+    show_words(masks);
+    text(b", metas");
+    show_u32(metas);
+    text(b"\n");
+}
+
+// A row with these columns, 1.0 in each, under 4 and 32.
+fn show_kind(entries: u32, cols: &[u32], values: &[f64]) {
+    let row_ptr: [u32; 2] = [0, entries];
+    let config = AbtmConfig {
+        sparse_max_nnz: 4,
+        dense_min_nnz: 32,
+    };
+    let mut ptr: [u32; 2] = [9; 2];
+    let mut masks: [u64; 1] = [9];
+    let mut offsets: [u32; 1] = [9];
+    let mut metas: [u32; 1] = [9];
+    let mut slots: [f64; 64] = [9.0; 64];
+    show_tiles(
+        &row_ptr,
+        cols,
+        values,
+        config,
+        &mut ptr,
+        &mut masks,
+        &mut offsets,
+        &mut metas,
+        &mut slots,
+    );
+}
+
+fn show_kinds() {
+    let four: [u32; 4] = [0, 1, 2, 3];
+    let five: [u32; 5] = [0, 1, 2, 3, 4];
+    let many: [u32; 31] = [
+        0,
+        1,
+        2,
+        3,
+        4,
+        5,
+        6,
+        7,
+        8,
+        9,
+        10,
+        11,
+        12,
+        13,
+        14,
+        15,
+        16,
+        17,
+        18,
+        19,
+        20,
+        21,
+        22,
+        23,
+        24,
+        25,
+        26,
+        27,
+        28,
+        29,
+        30,
+    ];
+    let most: [u32; 32] = [
+        0,
+        1,
+        2,
+        3,
+        4,
+        5,
+        6,
+        7,
+        8,
+        9,
+        10,
+        11,
+        12,
+        13,
+        14,
+        15,
+        16,
+        17,
+        18,
+        19,
+        20,
+        21,
+        22,
+        23,
+        24,
+        25,
+        26,
+        27,
+        28,
+        29,
+        30,
+        31,
+    ];
+    let four_ones: [f64; 4] = [1.0; 4];
+    let five_ones: [f64; 5] = [1.0; 5];
+    let many_ones: [f64; 31] = [1.0; 31];
+    let most_ones: [f64; 32] = [1.0; 32];
+    show_kind(4, &four, &four_ones);
+    show_kind(5, &five, &five_ones);
+    show_kind(31, &many, &many_ones);
+    show_kind(32, &most, &most_ones);
+}
+
+fn show_thresholds(sparse: u8, dense: u8) {
+    text(b"thresholds");
+    number(sparse as u64);
+    number(dense as u64);
+    text(b":");
+    let config = AbtmConfig {
+        sparse_max_nnz: sparse,
+        dense_min_nnz: dense,
+    };
+    verdict(config.validate());
+    text(b"\n");
+}
+
+// Column 5 with these two values: packed, and its tile.
+fn show_pair(values: &[f64]) {
     let row_ptr: [u32; 2] = [0, 2];
     let cols: [u32; 2] = [5, 5];
-    let values: [f64; 2] = [1.0, -1.0];
     let mut ptr: [u32; 2] = [9; 2];
     let mut words: [u32; 1] = [9];
     let mut masks: [u64; 1] = [9];
+    let mut metas: [u32; 1] = [9];
     let mut value_ptr: [u32; 2] = [9; 2];
-    let mut packed: [f64; 1] = [9.0];
+    let mut slots: [f64; 1] = [9.0];
     show_packed(
         &row_ptr,
         &cols,
-        &values,
+        values,
         &mut ptr,
         &mut words,
         &mut masks,
         &mut value_ptr,
-        &mut packed,
+        &mut slots,
     );
+    show_tiles(
+        &row_ptr,
+        &cols,
+        values,
+        abtm::default_config(),
+        &mut ptr,
+        &mut masks,
+        &mut words,
+        &mut metas,
+        &mut slots,
+    );
+    text(b"values");
+    show_floats(&slots);
+    text(b"\n");
+}
+
+// The largest finite value twice, and values that cancel.
+fn show_pairs() {
+    let largest = f64::from_bits(9218868437227405311);
+    let twice: [f64; 2] = [largest; 2];
+    let cancelling: [f64; 2] = [1.0, -1.0];
+    show_pair(&twice);
+    show_pair(&cancelling);
 }
 
 fn main() {
@@ -510,5 +709,9 @@ fn main() {
     show_empty();
     show_sets();
     show_store();
-    show_packed_zero();
+    show_pairs();
+    show_kinds();
+    show_thresholds(4, 64);
+    show_thresholds(4, 65);
+    show_thresholds(4, 4);
 }

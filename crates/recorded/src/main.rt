@@ -4,12 +4,15 @@
 // expected and actual, the result, and every list that was lent to be written. The expected output is what the Rust or the model
 // of document 01 answered (oracle/record).
 ghost use Prim.Native.Nat.{_≤_};
+use abtm::AbtmConfig;
 use denimrasp_answers::DenimraspBool;
 use denimrasp_answers::DenimraspCount;
 use denimrasp_answers::DenimraspDot;
 use denimrasp_answers::DenimraspPart;
 use denimrasp_answers::DenimraspSelect;
 use denimrasp_answers::DenimraspStoreStats;
+use denimrasp_answers::DenimraspTileStats;
+use denimrasp_answers::DenimraspTiles;
 use denimrasp_answers::DenimraspTopology;
 use denimrasp_answers::DenimraspTopologyStats;
 use denimrasp_answers::DenimraspTotals;
@@ -78,6 +81,11 @@ fn index(text: &[u8], at: &mut usize) -> usize {
 }
 
 // The next list of the input, in the first places of the room for it.
+// A number below 256.
+fn byte(text: &[u8], at: &mut usize) -> u8 {
+    (numeral(text, at) % 256) as u8
+}
+
 fn read_u32<'a>(text: &[u8], at: &mut usize, room: &'a mut [u32]) -> &'a mut [u32] {
     let used = places(numeral(text, at), room.len());
     let mut k: usize = 0;
@@ -223,6 +231,26 @@ fn totals(r: DenimraspTotals) {
     size(r.skipped_products);
     size(r.topology_words);
     size(r.active_words);
+}
+
+fn tiles_built(r: DenimraspTiles) {
+    refusal(r.number, r.expected, r.actual);
+    size(r.tiles);
+    size(r.value_slots);
+    size(r.matrix_nnz);
+}
+
+fn tile_figures(r: DenimraspTileStats) {
+    refusal(r.number, r.expected, r.actual);
+    size(r.nrows);
+    size(r.ncols);
+    size(r.matrix_nnz);
+    size(r.tiles);
+    size(r.sparse_tiles);
+    size(r.bitmap_tiles);
+    size(r.dense_tiles);
+    size(r.value_slots);
+    size(r.metadata_bytes);
 }
 
 // A list: its length and its places.
@@ -966,6 +994,203 @@ fn metadata_first_accumulate(text: &[u8], at: &mut usize) {
     totals(r);
 }
 
+fn abtm_validate(text: &[u8], at: &mut usize) {
+    let sparse_max_nnz = byte(text, at);
+    let dense_min_nnz = byte(text, at);
+    verdict(denimrasp::denimrasp_abtm_validate(sparse_max_nnz, dense_min_nnz));
+}
+
+// The calls that are handed tiles alone, or with a row.
+fn tile_question(call: u64, text: &[u8], at: &mut usize) {
+    let mut row_tile_ptr_room = [0u32; ROOM];
+    let mut masks_room = [0u64; ROOM];
+    let mut value_offsets_room = [0u32; ROOM];
+    let mut metas_room = [0u32; ROOM];
+    let mut values_room = [0.0f64; ROOM];
+    let nrows = index(text, at);
+    let ncols = index(text, at);
+    let ptr = read_u32(text, at, &mut row_tile_ptr_room);
+    let masks = read_u64(text, at, &mut masks_room);
+    let offsets = read_u32(text, at, &mut value_offsets_room);
+    let metas = read_u32(text, at, &mut metas_room);
+    let values = read_f64(text, at, &mut values_room);
+    let nnz = index(text, at);
+    match call {
+        50 => verdict(denimrasp::denimrasp_abtm_check(
+            nrows,
+            ncols,
+            ptr,
+            masks,
+            offsets,
+            metas,
+            values,
+            nnz,
+        )),
+        55 => tile_figures(denimrasp::denimrasp_abtm_stats(
+            nrows,
+            ncols,
+            ptr,
+            masks,
+            offsets,
+            metas,
+            values,
+            nnz,
+        )),
+        _ => part(denimrasp::denimrasp_abtm_row_tiles(
+            nrows,
+            ncols,
+            ptr,
+            masks,
+            offsets,
+            metas,
+            values,
+            nnz,
+            index(text, at),
+        )),
+    }
+}
+
+fn abtm_from_csr32(text: &[u8], at: &mut usize) {
+    let mut row_ptr_room = [0u32; ROOM];
+    let mut col_idx_room = [0u32; ROOM];
+    let mut values_room = [0.0f64; ROOM];
+    let mut row_tile_ptr_room = [0u32; ROOM];
+    let mut masks_room = [0u64; ROOM];
+    let mut value_offsets_room = [0u32; ROOM];
+    let mut metas_room = [0u32; ROOM];
+    let mut tile_values_room = [0.0f64; ROOM];
+    let nrows = index(text, at);
+    let ncols = index(text, at);
+    let row_ptr = read_u32(text, at, &mut row_ptr_room);
+    let col_idx = read_u32(text, at, &mut col_idx_room);
+    let values = read_f64(text, at, &mut values_room);
+    let sparse_max_nnz = byte(text, at);
+    let dense_min_nnz = byte(text, at);
+    let row_tile_ptr = read_u32(text, at, &mut row_tile_ptr_room);
+    let masks = read_u64(text, at, &mut masks_room);
+    let value_offsets = read_u32(text, at, &mut value_offsets_room);
+    let metas = read_u32(text, at, &mut metas_room);
+    let tile_values = read_f64(text, at, &mut tile_values_room);
+    let r = denimrasp::denimrasp_abtm_from_csr32(
+        nrows,
+        ncols,
+        row_ptr,
+        col_idx,
+        values,
+        sparse_max_nnz,
+        dense_min_nnz,
+        row_tile_ptr,
+        masks,
+        value_offsets,
+        metas,
+        tile_values,
+    );
+    tiles_built(r);
+    show_u32(row_tile_ptr);
+    show_u64(masks);
+    show_u32(value_offsets);
+    show_u32(metas);
+    show_f64(tile_values);
+}
+
+fn abtm_tile_kind(text: &[u8], at: &mut usize) {
+    let meta = hybit_core::narrow(index(text, at));
+    count(denimrasp::denimrasp_abtm_tile_kind(meta));
+}
+
+fn abtm_tile_base_col(text: &[u8], at: &mut usize) {
+    let meta = hybit_core::narrow(index(text, at));
+    let r = denimrasp::denimrasp_abtm_tile_base_col(meta);
+    refusal(0, 0, 0);
+    size(r);
+}
+
+fn abtm_metadata_bytes_per_nnz(text: &[u8], at: &mut usize) {
+    let metadata_bytes = index(text, at);
+    let matrix_nnz = index(text, at);
+    let r = denimrasp::denimrasp_abtm_metadata_bytes_per_nnz(metadata_bytes, matrix_nnz);
+    refusal(0, 0, 0);
+    float(r);
+}
+
+fn abtm_total_estimated_bytes(text: &[u8], at: &mut usize) {
+    let metadata_bytes = index(text, at);
+    let value_slots = index(text, at);
+    let r = denimrasp::denimrasp_abtm_total_estimated_bytes(metadata_bytes, value_slots);
+    refusal(0, 0, 0);
+    size(r);
+}
+
+fn abtm_apply(text: &[u8], at: &mut usize) {
+    let mut row_tile_ptr_room = [0u32; ROOM];
+    let mut masks_room = [0u64; ROOM];
+    let mut value_offsets_room = [0u32; ROOM];
+    let mut metas_room = [0u32; ROOM];
+    let mut values_room = [0.0f64; ROOM];
+    let mut x_room = [0.0f64; ROOM];
+    let mut y_room = [0.0f64; ROOM];
+    let nrows = index(text, at);
+    let ncols = index(text, at);
+    let row_tile_ptr = read_u32(text, at, &mut row_tile_ptr_room);
+    let masks = read_u64(text, at, &mut masks_room);
+    let value_offsets = read_u32(text, at, &mut value_offsets_room);
+    let metas = read_u32(text, at, &mut metas_room);
+    let values = read_f64(text, at, &mut values_room);
+    let matrix_nnz = index(text, at);
+    let x = read_f64(text, at, &mut x_room);
+    let y = read_f64(text, at, &mut y_room);
+    let r = denimrasp::denimrasp_abtm_apply(
+        nrows,
+        ncols,
+        row_tile_ptr,
+        masks,
+        value_offsets,
+        metas,
+        values,
+        matrix_nnz,
+        x,
+        y,
+    );
+    verdict(r);
+    show_f64(y);
+}
+
+fn abtm_expand_mask_one_hop(text: &[u8], at: &mut usize) {
+    let mut row_tile_ptr_room = [0u32; ROOM];
+    let mut masks_room = [0u64; ROOM];
+    let mut value_offsets_room = [0u32; ROOM];
+    let mut metas_room = [0u32; ROOM];
+    let mut values_room = [0.0f64; ROOM];
+    let mut mask_room = [0u64; ROOM];
+    let mut out_room = [0u64; ROOM];
+    let nrows = index(text, at);
+    let ncols = index(text, at);
+    let row_tile_ptr = read_u32(text, at, &mut row_tile_ptr_room);
+    let masks = read_u64(text, at, &mut masks_room);
+    let value_offsets = read_u32(text, at, &mut value_offsets_room);
+    let metas = read_u32(text, at, &mut metas_room);
+    let values = read_f64(text, at, &mut values_room);
+    let matrix_nnz = index(text, at);
+    let mask_len = index(text, at);
+    let mask = read_u64(text, at, &mut mask_room);
+    let out = read_u64(text, at, &mut out_room);
+    let r = denimrasp::denimrasp_abtm_expand_mask_one_hop(
+        nrows,
+        ncols,
+        row_tile_ptr,
+        masks,
+        value_offsets,
+        metas,
+        values,
+        matrix_nnz,
+        mask_len,
+        mask,
+        out,
+    );
+    verdict(r);
+    show_u64(out);
+}
+
 // The calls from here on are those of the crates below that the C interface doesn't export.
 
 // Document 01's refusal of a number; its expected and actual under 6 alone.
@@ -1266,6 +1491,90 @@ fn metadata_first_report(text: &[u8], at: &mut usize) {
     float(report.empty_word_ratio());
 }
 
+fn tile_parts(text: &[u8], at: &mut usize) {
+    let mut row_tile_ptr_room = [0u32; ROOM];
+    let mut masks_room = [0u64; ROOM];
+    let mut value_offsets_room = [0u32; ROOM];
+    let mut metas_room = [0u32; ROOM];
+    let mut values_room = [0.0f64; ROOM];
+    let nrows = index(text, at);
+    let ncols = index(text, at);
+    let ptr = read_u32(text, at, &mut row_tile_ptr_room);
+    let masks = read_u64(text, at, &mut masks_room);
+    let offsets = read_u32(text, at, &mut value_offsets_room);
+    let metas = read_u32(text, at, &mut metas_room);
+    let values = read_f64(text, at, &mut values_room);
+    let nnz = index(text, at);
+    let row = index(text, at);
+    let mut a: u32 = 99;
+    let mut b: u32 = 99;
+    let mut c: u32 = 99;
+    let of_masks = abtm_rows::row_tile_masks(
+        nrows,
+        ncols,
+        ptr,
+        masks,
+        offsets,
+        metas,
+        values,
+        nnz,
+        row,
+        &mut a,
+    );
+    let of_offsets = abtm_rows::row_tile_value_offsets(
+        nrows,
+        ncols,
+        ptr,
+        masks,
+        offsets,
+        metas,
+        values,
+        nnz,
+        row,
+        &mut b,
+    );
+    let of_metas = abtm_rows::row_tile_metas(
+        nrows,
+        ncols,
+        ptr,
+        masks,
+        offsets,
+        metas,
+        values,
+        nnz,
+        row,
+        &mut c,
+    );
+    refusal(a, 0, 0);
+    size(hybit_core::wide(b));
+    size(hybit_core::wide(c));
+    show_u64(of_masks);
+    show_u32(of_offsets);
+    show_u32(of_metas);
+}
+
+fn tile_value(text: &[u8], at: &mut usize) {
+    let meta = hybit_core::narrow(index(text, at));
+    let mask = numeral(text, at);
+    let sparse_max_nnz = byte(text, at);
+    let dense_min_nnz = byte(text, at);
+    let nnz = index(text, at);
+    let x = float_of(numeral(text, at));
+    let thresholds = AbtmConfig {
+        sparse_max_nnz,
+        dense_min_nnz,
+    };
+    let default = abtm::default_config();
+    refusal(0, 0, 0);
+    size(hybit_core::wide(abtm::word_in(meta)));
+    size(hybit_core::wide(abtm::kind_in(meta)));
+    size(abtm::slot_count(mask, meta));
+    size(hybit_core::wide(thresholds.kind_of(nnz)));
+    number(default.sparse_max_nnz as u64);
+    number(default.dense_min_nnz as u64);
+    truth(abtm::is_zero(x));
+}
+
 fn mask_calls(call: u64, text: &[u8], at: &mut usize) {
     match call {
         1 => mask_contains(text, at),
@@ -1331,6 +1640,20 @@ fn value_calls(call: u64, text: &[u8], at: &mut usize) {
     }
 }
 
+fn tile_calls(call: u64, text: &[u8], at: &mut usize) {
+    match call {
+        49 => abtm_validate(text, at),
+        51 => abtm_from_csr32(text, at),
+        52 => abtm_tile_kind(text, at),
+        53 => abtm_tile_base_col(text, at),
+        56 => abtm_metadata_bytes_per_nnz(text, at),
+        57 => abtm_total_estimated_bytes(text, at),
+        58 => abtm_apply(text, at),
+        59 => abtm_expand_mask_one_hop(text, at),
+        _ => tile_question(call, text, at),
+    }
+}
+
 fn core_calls(call: u64, text: &[u8], at: &mut usize) {
     match call {
         200 => core_refusal(text, at),
@@ -1357,7 +1680,9 @@ fn record_calls(call: u64, text: &[u8], at: &mut usize) {
         247 => topology_row_masks(text, at),
         248 => metadata_first_row_part(text, at),
         249 => metadata_first_report(text, at),
-        _ => topology_word(text, at),
+        250 => topology_word(text, at),
+        251 => tile_parts(text, at),
+        _ => tile_value(text, at),
     }
 }
 
@@ -1384,8 +1709,10 @@ fn replay(call: u64, text: &[u8], at: &mut usize) {
         topology_calls(call, text, at);
     } else if call < 37 {
         metadata_first_calls(call, text, at);
-    } else {
+    } else if call < 49 {
         value_calls(call, text, at);
+    } else {
+        tile_calls(call, text, at);
     }
 }
 

@@ -2,11 +2,12 @@
 
 mod matrices;
 mod ours;
+mod tiles;
 mod timing;
 
 use hybit_core::LinearOperator;
 use hybit_matrix as rust;
-use matrices::{Csr, KINDS, Kind, Random};
+use matrices::{Csr, FULL, KINDS, Kind, Random};
 use ours::{Lists, Operation};
 use std::fs;
 use timing::{Table, load, timed};
@@ -17,9 +18,9 @@ fn main() {
         runs: if quick { 7 } else { 31 },
     };
     machine();
-    KINDS
-        .iter()
-        .for_each(|kind| println!("# {}", kind.describe()));
+    for kind in KINDS.iter().chain([&FULL]) {
+        println!("# {}", kind.describe());
+    }
     notes();
     load();
     table.head();
@@ -31,7 +32,10 @@ fn main() {
         builds(&table, kind, &pair[0]);
         operations(&table, kind, &pair);
         dots(&table, kind, &pair[0], &mut random);
+        tiles::times(&table, kind, &pair[0], &mut random);
     }
+    let full = Both::new(FULL.matrix(&mut random));
+    tiles::times(&table, &FULL, &full, &mut random);
     load();
 }
 
@@ -59,6 +63,7 @@ fn notes() {
     println!("# .._owned: ours through the safe Rust crate, results allocated");
     println!("# dot: ours sparse_dot_rows; rust sparse_dot_row for every row");
     println!("# dot_by_row: ours the crate's sparse_dot_row for every row");
+    println!("# tile_..: thresholds 8 and 40; the lines before tell how many tiles of each kind");
 }
 
 /// One matrix on both sides.

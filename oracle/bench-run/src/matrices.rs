@@ -67,6 +67,16 @@ pub const KINDS: [Kind; 4] = [
     },
 ];
 
+/// Full words, for tiles.
+pub const FULL: Kind = Kind {
+    name: "full",
+    nrows: 4096,
+    ncols: 4096,
+    per_row: 256,
+    run: 128,
+    sorted: true,
+};
+
 pub struct Csr {
     pub nrows: usize,
     pub ncols: usize,

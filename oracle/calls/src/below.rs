@@ -1,7 +1,7 @@
 //! Calls of the crates below the C interface that it doesn't export. The program `recorded` replays them under numbers from 200
 //! on. The model alone judges them: hybit has few of them, and those are judged through C calls that rest on the same functions.
 
-use crate::{Counts, Mask, Store, Words, WordsRoom};
+use crate::{Counts, Mask, Store, Tiles, Words, WordsRoom};
 
 #[derive(Clone, Debug, PartialEq)]
 pub enum Below {
@@ -38,6 +38,10 @@ pub enum Below {
     Report(Counts),
     /// A word of a topology by its number and mask, with an offset that is an ordinal too: its methods.
     TopologyWord(u32, u64, usize),
+    /// The row's parts of the masks, offsets and metas.
+    TileParts(Tiles, usize),
+    /// A meta and a mask, thresholds and a count, a float by its bits: what the crate of a tile says of each.
+    TileValue(u32, u64, [u8; 2], usize, u64),
 }
 
 /// The calls of one word, in the order of their numbers.
@@ -103,6 +107,8 @@ impl Below {
             Below::RowValues(..) => 248,
             Below::Report(..) => 249,
             Below::TopologyWord(..) => 250,
+            Below::TileParts(..) => 251,
+            Below::TileValue(..) => 252,
         }
     }
 }

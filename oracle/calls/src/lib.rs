@@ -53,6 +53,29 @@ pub struct StoreRoom {
     pub values: Vec<f64>,
 }
 
+/// Tiles: three lists with a place for each tile, and the values of all.
+#[derive(Clone, Debug, PartialEq)]
+pub struct Tiles {
+    pub nrows: usize,
+    pub ncols: usize,
+    pub row_tile_ptr: Vec<u32>,
+    pub masks: Vec<u64>,
+    pub value_offsets: Vec<u32>,
+    pub metas: Vec<u32>,
+    pub values: Vec<f64>,
+    pub matrix_nnz: usize,
+}
+
+/// The lists that a build of tiles is lent.
+#[derive(Clone, Debug, PartialEq)]
+pub struct TilesRoom {
+    pub row_tile_ptr: Vec<u32>,
+    pub masks: Vec<u64>,
+    pub value_offsets: Vec<u32>,
+    pub metas: Vec<u32>,
+    pub values: Vec<f64>,
+}
+
 /// The five counts of a report, in the order of the Rust's fields: candidate, executed, skipped, topology words, active words.
 pub type Counts = [usize; 5];
 
@@ -123,6 +146,23 @@ pub enum Call {
     /// The bytes of the words, of the value pointers, of the values.
     MetadataFirstTotalEstimatedBytes(usize, usize, usize),
     MetadataFirstAccumulate(Counts, Counts),
+    /// The most entries of a Sparse tile, the least of a Dense one.
+    AbtmValidate(u8, u8),
+    AbtmCheck(Tiles),
+    /// The two thresholds, and the lent lists.
+    AbtmFromCsr32(Csr, u8, u8, TilesRoom),
+    AbtmTileKind(u32),
+    AbtmTileBaseCol(u32),
+    AbtmRowTiles(Tiles, usize),
+    AbtmStats(Tiles),
+    /// The bytes, the ones.
+    AbtmMetadataBytesPerNnz(usize, usize),
+    /// The bytes beside the values, the value slots.
+    AbtmTotalEstimatedBytes(usize, usize),
+    /// x, y.
+    AbtmApply(Tiles, Vec<f64>, Vec<f64>),
+    /// The mask, and the lent words.
+    AbtmExpandMaskOneHop(Tiles, Mask, Vec<u64>),
 }
 
 /// What comes of a call. `result` has the answer's fields after the refusal, in the order of the C struct, each as a number: a
@@ -200,6 +240,17 @@ impl Call {
             MetadataFirstEmptyWordRatio(..) => "metadata_first_empty_word_ratio",
             MetadataFirstTotalEstimatedBytes(..) => "metadata_first_total_estimated_bytes",
             MetadataFirstAccumulate(..) => "metadata_first_accumulate",
+            AbtmValidate(..) => "abtm_validate",
+            AbtmCheck(..) => "abtm_check",
+            AbtmFromCsr32(..) => "abtm_from_csr32",
+            AbtmTileKind(..) => "abtm_tile_kind",
+            AbtmTileBaseCol(..) => "abtm_tile_base_col",
+            AbtmRowTiles(..) => "abtm_row_tiles",
+            AbtmStats(..) => "abtm_stats",
+            AbtmMetadataBytesPerNnz(..) => "abtm_metadata_bytes_per_nnz",
+            AbtmTotalEstimatedBytes(..) => "abtm_total_estimated_bytes",
+            AbtmApply(..) => "abtm_apply",
+            AbtmExpandMaskOneHop(..) => "abtm_expand_mask_one_hop",
         }
     }
 }

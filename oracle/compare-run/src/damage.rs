@@ -18,6 +18,7 @@ fn damage_one(rng: &mut Rng, call: &mut Call) {
     let n = rng.below(all.len());
     match &mut all[n] {
         Part::Size(n) => **n = size(rng, **n),
+        Part::Num8(n) => **n = number8(rng, **n),
         Part::Num32(n) => **n = number32(rng, **n),
         Part::Num64(n) => **n = number64(rng, **n),
         Part::Flag(flag) => **flag = !**flag,
@@ -34,6 +35,15 @@ fn size(rng: &mut Rng, n: usize) -> usize {
         1 => n.wrapping_sub(1),
         2 => rng.pick(&[0, 1, 64, 65, 1 << 20, (1 << 20) + 1, usize::MAX]),
         _ => place(rng, n.min(1 << 20)),
+    }
+}
+
+fn number8(rng: &mut Rng, n: u8) -> u8 {
+    match rng.below(4) {
+        0 => n.wrapping_add(1),
+        1 => n.wrapping_sub(1),
+        2 => rng.pick(&[0, 1, 63, 64, 65, 255]),
+        _ => rng.below(66) as u8,
     }
 }
 

@@ -2,6 +2,7 @@
 
 use crate::Sink;
 use crate::make::{Judge, store_of, words_of};
+use crate::tiles;
 use calls::{Call, Csr, Mask, StoreRoom, Words, WordsRoom};
 
 const MOST_PLACES: usize = 1 << 20;
@@ -13,6 +14,7 @@ pub fn all(sink: &mut impl Sink, judge: Judge, thread: usize) {
         many_stored(sink);
         many_words(sink);
         full_rows(sink);
+        tiles::edge::many(sink);
     } else {
         for len in [MOST_PLACES - 1, MOST_PLACES, MOST_PLACES + 1] {
             masks(sink, len);
@@ -23,6 +25,7 @@ pub fn all(sink: &mut impl Sink, judge: Judge, thread: usize) {
         for nrows in [MOST_PLACES, MOST_PLACES + 1] {
             tall(sink, judge, nrows);
         }
+        tiles::edge::large(sink, judge);
     }
 }
 

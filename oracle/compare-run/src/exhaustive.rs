@@ -2,6 +2,7 @@
 
 use crate::Sink;
 use crate::make::{Judge, store_of, words_of};
+use crate::tiles;
 use calls::{Call, Csr, Mask, Store, StoreRoom, Words, WordsRoom};
 
 /// Which items are this thread's: every `of`-th, from `first` on.
@@ -16,7 +17,7 @@ impl Share {
         Share { first, of, next: 0 }
     }
 
-    fn mine(&mut self) -> bool {
+    pub fn mine(&mut self) -> bool {
         self.next += 1;
         self.next % self.of == self.first
     }
@@ -36,6 +37,7 @@ pub fn all(sink: &mut impl Sink, judge: Judge, share: &mut Share) {
     topology_pairs(sink, judge, share);
     valued_patterns(sink, judge, share);
     entry_sequences(sink, share);
+    tiles::exhaustive::all(sink, judge, share);
 }
 
 /// Masks up to 5 long, one bit too many among them.
@@ -100,7 +102,7 @@ fn mask_builds(sink: &mut impl Sink, share: &mut Share) {
 }
 
 /// All lists of these elements up to the given length.
-fn lists<T: Copy>(elements: &[T], longest: usize) -> Vec<Vec<T>> {
+pub fn lists<T: Copy>(elements: &[T], longest: usize) -> Vec<Vec<T>> {
     let mut all = vec![vec![]];
     let mut from = 0;
     for _ in 0..longest {
@@ -138,7 +140,7 @@ fn words_by_value(sink: &mut impl Sink, share: &mut Share) {
 }
 
 /// Numbers on both sides of what an f64 and a usize hold exactly.
-const COUNTS: [usize; 16] = [
+pub const COUNTS: [usize; 16] = [
     0,
     1,
     2,
@@ -267,7 +269,7 @@ fn plot_list(nrows: usize, ncols: usize, cells: &[Option<f64>]) -> Csr {
 }
 
 /// All plot lists of up to 2 rows and 3 columns whose places hold nothing or one of these values.
-fn patterns(values: &'static [f64]) -> impl Iterator<Item = Csr> {
+pub fn patterns(values: &'static [f64]) -> impl Iterator<Item = Csr> {
     let shapes = (0..=2).flat_map(|nrows| (0..=3).map(move |ncols| (nrows, ncols)));
     let states = values.len() + 1;
     shapes.flat_map(move |(nrows, ncols)| {

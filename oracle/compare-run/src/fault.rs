@@ -30,12 +30,16 @@ fn past_one_word(call: &Call) -> bool {
     let all = parts(&mut copy);
     let large = |part: &Part<'_>| match part {
         Part::Size(n) => **n > 64,
+        Part::Num8(n) => **n > 64,
         Part::Num32(n) => **n > 64,
         Part::Num64(n) => **n > 64,
         _ => false,
     };
-    let by_value = all
-        .iter()
-        .all(|part| matches!(part, Part::Size(_) | Part::Num32(_) | Part::Num64(_)));
+    let by_value = all.iter().all(|part| {
+        matches!(
+            part,
+            Part::Size(_) | Part::Num8(_) | Part::Num32(_) | Part::Num64(_)
+        )
+    });
     all.iter().any(large) && (by_value || longest_list(call) > 1)
 }

@@ -13,6 +13,7 @@ pub mod rng;
 pub mod run;
 pub mod shrink;
 pub mod text;
+pub mod tiles;
 pub mod worked;
 
 /// What a generator hands its calls to.

@@ -1,10 +1,11 @@
 //! The numbers and lists that a call is made of, in the order of its fields. Damage, shrinking and the text form go by them, so
 //! a new call needs its lines here and in `kind` alone.
 
-use calls::{Below, Call, Csr, Mask, Store, StoreRoom, Words, WordsRoom};
+use calls::{Below, Call, Csr, Mask, Store, StoreRoom, Tiles, TilesRoom, Words, WordsRoom};
 
 pub enum Part<'a> {
     Size(&'a mut usize),
+    Num8(&'a mut u8),
     Num32(&'a mut u32),
     Num64(&'a mut u64),
     Flag(&'a mut bool),
@@ -17,7 +18,7 @@ pub enum Part<'a> {
 use Part::*;
 
 /// How many kinds of call there are.
-pub const KINDS: usize = 49;
+pub const KINDS: usize = 60;
 
 macro_rules! kinds {
     ($($number:literal $variant:ident)*) => {
@@ -80,6 +81,17 @@ kinds! {
     46 MetadataFirstEmptyWordRatio
     47 MetadataFirstTotalEstimatedBytes
     48 MetadataFirstAccumulate
+    49 AbtmValidate
+    50 AbtmCheck
+    51 AbtmFromCsr32
+    52 AbtmTileKind
+    53 AbtmTileBaseCol
+    54 AbtmRowTiles
+    55 AbtmStats
+    56 AbtmMetadataBytesPerNnz
+    57 AbtmTotalEstimatedBytes
+    58 AbtmApply
+    59 AbtmExpandMaskOneHop
 }
 
 fn mask(m: &mut Mask) -> Vec<Part<'_>> {
@@ -123,6 +135,29 @@ fn words_room(room: &mut WordsRoom) -> Vec<Part<'_>> {
 fn store_room(room: &mut StoreRoom) -> Vec<Part<'_>> {
     let rest = vec![Nums32(&mut room.row_value_ptr), Floats(&mut room.values)];
     join(words_room(&mut room.words), rest)
+}
+
+fn tiles(t: &mut Tiles) -> Vec<Part<'_>> {
+    vec![
+        Size(&mut t.nrows),
+        Size(&mut t.ncols),
+        Nums32(&mut t.row_tile_ptr),
+        Nums64(&mut t.masks),
+        Nums32(&mut t.value_offsets),
+        Nums32(&mut t.metas),
+        Floats(&mut t.values),
+        Size(&mut t.matrix_nnz),
+    ]
+}
+
+fn tiles_room(room: &mut TilesRoom) -> Vec<Part<'_>> {
+    vec![
+        Nums32(&mut room.row_tile_ptr),
+        Nums64(&mut room.masks),
+        Nums32(&mut room.value_offsets),
+        Nums32(&mut room.metas),
+        Floats(&mut room.values),
+    ]
 }
 
 fn join<'a>(mut first: Vec<Part<'a>>, rest: Vec<Part<'a>>) -> Vec<Part<'a>> {
@@ -181,6 +216,22 @@ fn parts_above(call: &mut Call) -> Vec<Part<'_>> {
             let lists = vec![Floats(x), Floats(sums), Nums32(executed)];
             join(store(s), join(mask(m), lists))
         }
+        _ => parts_of_tiles(call),
+    }
+}
+
+/// The parts of a call to tiles.
+fn parts_of_tiles(call: &mut Call) -> Vec<Part<'_>> {
+    use Call::*;
+    match call {
+        AbtmCheck(t) | AbtmStats(t) => tiles(t),
+        AbtmRowTiles(t, row) => join(tiles(t), vec![Size(row)]),
+        AbtmApply(t, x, y) => join(tiles(t), vec![Floats(x), Floats(y)]),
+        AbtmExpandMaskOneHop(t, m, room) => join(tiles(t), join(mask(m), vec![Nums64(room)])),
+        AbtmFromCsr32(c, sparse, dense, room) => {
+            let thresholds = vec![Num8(sparse), Num8(dense)];
+            join(csr(c), join(thresholds, tiles_room(room)))
+        }
         _ => numbers(call),
     }
 }
@@ -189,7 +240,8 @@ fn parts_above(call: &mut Call) -> Vec<Part<'_>> {
 fn numbers(call: &mut Call) -> Vec<Part<'_>> {
     use Call::*;
     match call {
-        WordBaseCol(word) => vec![Num32(word)],
+        WordBaseCol(word) | AbtmTileKind(word) | AbtmTileBaseCol(word) => vec![Num32(word)],
+        AbtmValidate(sparse, dense) => vec![Num8(sparse), Num8(dense)],
         WordPopcount(mask) => vec![Num64(mask)],
         WordContainsOffset(mask, n) | WordRank(mask, n) | WordSelect(mask, n) => {
             vec![Num64(mask), Size(n)]
@@ -198,7 +250,9 @@ fn numbers(call: &mut Call) -> Vec<Part<'_>> {
         | TopologyWordFillRatio(a, b)
         | TopologyMetadataBytesPerNnz(a, b)
         | MetadataFirstPruningRatio(a, b)
-        | MetadataFirstEmptyWordRatio(a, b) => vec![Size(a), Size(b)],
+        | MetadataFirstEmptyWordRatio(a, b)
+        | AbtmMetadataBytesPerNnz(a, b)
+        | AbtmTotalEstimatedBytes(a, b) => vec![Size(a), Size(b)],
         MetadataFirstTotalEstimatedBytes(a, b, c) => vec![Size(a), Size(b), Size(c)],
         MetadataFirstAccumulate(a, b) => a.iter_mut().chain(b).map(Size).collect(),
         _ => unreachable!("every other call has its line above"),
@@ -231,5 +285,14 @@ pub fn parts_below(call: &mut Below) -> Vec<Part<'_>> {
         Below::RowValues(s, row) => join(store(s), vec![Size(row)]),
         Below::Report(counts) => counts.iter_mut().map(Size).collect(),
         Below::TopologyWord(number, mask, n) => vec![Num32(number), Num64(mask), Size(n)],
+        Below::TileParts(t, row) => join(tiles(t), vec![Size(row)]),
+        Below::TileValue(meta, mask, [sparse, dense], count, bits) => vec![
+            Num32(meta),
+            Num64(mask),
+            Num8(sparse),
+            Num8(dense),
+            Size(count),
+            Num64(bits),
+        ],
     }
 }

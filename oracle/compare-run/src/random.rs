@@ -5,6 +5,7 @@ use crate::damage::damage;
 use crate::good;
 use crate::make::{Judge, store_of, words_of};
 use crate::rng::Rng;
+use crate::tiles;
 use calls::{Call, Csr, Store, Words};
 
 /// Calls until the sink has enough.
@@ -16,18 +17,20 @@ pub fn forever(sink: &mut impl Sink, judge: Judge, rng: &mut Rng) {
 
 /// Some calls to one record.
 pub fn round(sink: &mut impl Sink, judge: Judge, rng: &mut Rng) {
-    match rng.below(18) {
+    match rng.below(22) {
         0..5 => plot_list(sink, judge, rng),
         5 | 6 => mask(sink, rng),
         7..10 => words(sink, judge, rng),
         10..13 => set_operations(sink, judge, rng),
         13..17 => store(sink, judge, rng),
-        _ => by_value(sink, rng),
+        17 => by_value(sink, rng),
+        18 => tiles::random::by_value(sink, rng),
+        _ => tiles::random::round(sink, judge, rng),
     }
 }
 
 /// The call, and in half of the cases a damaged copy of it.
-fn ask(sink: &mut impl Sink, rng: &mut Rng, call: Call) {
+pub fn ask(sink: &mut impl Sink, rng: &mut Rng, call: Call) {
     sink.call(&call);
     if rng.once_in(2) {
         let mut bad = call;
@@ -236,7 +239,7 @@ fn dots(sink: &mut impl Sink, rng: &mut Rng, s: &Store) {
 }
 
 /// A count: small, or around what an f64 or a usize holds.
-fn count(rng: &mut Rng) -> usize {
+pub fn count(rng: &mut Rng) -> usize {
     match rng.below(4) {
         0 => rng.below(100),
         1 => (1usize << 53).wrapping_add(rng.below(64)).wrapping_sub(32),

@@ -1,11 +1,11 @@
 //! Holds the library's outcome of each call against hybit's and the model's, and counts.
 
 use crate::fault::alter;
+use crate::make::Judge;
 use crate::parts::{KINDS, kind};
 use crate::{Sink, shrink};
 use calls::{Call, Outcome};
 use judges::hybit::{self, Reason};
-use judges::ours;
 use std::sync::atomic::{AtomicU64, Ordering::Relaxed};
 use std::sync::{Mutex, OnceLock};
 use std::time::Instant;
@@ -85,9 +85,9 @@ impl Judged {
     }
 }
 
-/// The outcomes of a call, with the library's altered where a fault is asked for.
-pub fn judge(call: &Call, fault: Option<&str>) -> Judged {
-    let mut ours = ours::judge(call);
+/// The outcomes of a call, the library's by the judge that stands for it and altered where a fault is asked for.
+pub fn judge(call: &Call, library: Judge, fault: Option<&str>) -> Judged {
+    let mut ours = library(call);
     if let Some(name) = fault {
         alter(call, name, &mut ours);
     }
@@ -102,6 +102,8 @@ pub fn judge(call: &Call, fault: Option<&str>) -> Judged {
 pub struct Run<'a> {
     pub tallies: &'a [Tally],
     pub thread: usize,
+    /// `ours::judge`, or the model's where it is held against hybit's Rust alone.
+    pub library: Judge,
     pub fault: Option<&'a str>,
     pub end: Instant,
 }
@@ -111,8 +113,8 @@ static FOUND: Mutex<()> = Mutex::new(());
 impl Run<'_> {
     fn stop(&self, call: &Call) -> ! {
         let _only_one = FOUND.lock();
-        let small = shrink::smallest(call, &|c| judge(c, self.fault).differ());
-        let judged = judge(&small, self.fault);
+        let small = shrink::smallest(call, &|c| judge(c, self.library, self.fault).differ());
+        let judged = judge(&small, self.library, self.fault);
         println!("difference in {}", small.name());
         println!("call:  {small:?}");
         println!("ours:  {:?}", judged.ours);
@@ -128,7 +130,7 @@ impl Run<'_> {
 
 impl Sink for Run<'_> {
     fn call(&mut self, call: &Call) {
-        let judged = judge(call, self.fault);
+        let judged = judge(call, self.library, self.fault);
         self.tallies[self.thread].count(call, &judged);
         if judged.differ() {
             self.stop(call);

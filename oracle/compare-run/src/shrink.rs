@@ -1,6 +1,7 @@
 //! Makes a call that shows a difference smaller for as long as the difference stays.
 
 use crate::parts::{Part, parts};
+use crate::tiles::shrink::{drop_tiles, extent as extent_of_tiles, tiles_in};
 use calls::{Call, Csr, Mask, Store, Words};
 
 /// The smallest call that still fails, as far as greedy steps lead.
@@ -24,6 +25,7 @@ fn cost(call: &Call) -> u64 {
     let bits = |n: u64| u64::from(64 - n.leading_zeros()) * 4096 + n.min(4095);
     let of_part = |part: &Part<'_>| match part {
         Part::Size(n) => bits(**n as u64),
+        Part::Num8(n) => bits((**n).into()),
         Part::Num32(n) => bits((**n).into()),
         Part::Num64(n) => bits(**n) + u64::from(n.count_ones()),
         Part::Flag(n) => u64::from(**n),
@@ -77,6 +79,7 @@ enum Step {
 fn apply(part: &mut Part<'_>, change: usize) -> Step {
     match part {
         Part::Size(n) => number(change, **n as u64, |v| **n = v as usize),
+        Part::Num8(n) => number(change, (**n).into(), |v| **n = v as u8),
         Part::Num32(n) => number(change, (**n).into(), |v| **n = v as u32),
         Part::Num64(n) => number(change, **n, |v| **n = v),
         Part::Flag(n) => number(change, (**n).into(), |v| **n = v != 0),
@@ -162,9 +165,9 @@ fn cut<T>(change: usize, list: &mut Vec<T>) -> Step {
 
 /// A step that keeps a record good.
 #[derive(Clone, Copy)]
-enum Drop {
+pub enum Drop {
     Row(usize),
-    /// A stored entry, or a word; those of a second record follow those of the first.
+    /// A stored entry, a word or a tile; those of a second record follow those of the first.
     Entry(usize),
     /// A present column of words, with its value in a store; counted as the entries are.
     One(usize),
@@ -200,7 +203,8 @@ fn csr_in(call: &mut Call) -> Option<&mut Csr> {
         | Csr32StorageBytes(c)
         | MetadataFirstCheckMerge(c)
         | TopologyFromCsr32(c, _)
-        | MetadataFirstFromCsr32(c, _) => Some(c),
+        | MetadataFirstFromCsr32(c, _)
+        | AbtmFromCsr32(c, ..) => Some(c),
         _ => None,
     }
 }
@@ -248,7 +252,8 @@ fn masks_in(call: &mut Call) -> Vec<&mut Mask> {
         | MaskOrWord(m, ..)
         | MaskIndices(m, _)
         | MetadataFirstSparseDotRow(_, _, m, _)
-        | MetadataFirstSparseDotRows(_, m, ..) => vec![m],
+        | MetadataFirstSparseDotRows(_, m, ..)
+        | AbtmExpandMaskOneHop(_, m, _) => vec![m],
         MaskUnionAssign(a, b)
         | MaskIntersectAssign(a, b)
         | MaskAndNotAssign(a, b)
@@ -273,6 +278,9 @@ fn count_ones(w: &Words) -> usize {
 
 /// The ones of all words of the call, where their pointers are good.
 fn ones_in(call: &mut Call) -> usize {
+    if let Some(t) = tiles_in(call) {
+        return extent_of_tiles(t).3;
+    }
     let all: Vec<&Words> = match store_in(call) {
         Some(s) => vec![&s.words],
         None => words_in(call).into_iter().map(|w| &*w).collect(),
@@ -310,6 +318,10 @@ fn extent(call: &mut Call) -> (usize, usize, usize) {
             (0, 0, 0)
         };
     }
+    if let Some(t) = tiles_in(call) {
+        let (nrows, ncols, tiles, _) = extent_of_tiles(t);
+        return (nrows, ncols, tiles);
+    }
     let all: Vec<&Words> = match store_in(call) {
         Some(s) => vec![&s.words],
         None => words_in(call).into_iter().map(|w| &*w).collect(),
@@ -333,6 +345,11 @@ fn dropped(call: &Call, drop: Drop) -> Call {
     }
     if let Some(s) = store_in(&mut copy) {
         drop_store(s, drop);
+    }
+    let expansion = matches!(copy, Call::AbtmExpandMaskOneHop(..));
+    if let Some(t) = tiles_in(&mut copy) {
+        let square = expansion && t.nrows == t.ncols;
+        drop_tiles(t, drop, square);
     }
     let (mut words_before, mut ones_before) = (0, 0);
     for w in words_in(&mut copy) {
@@ -371,7 +388,8 @@ fn row_in(call: &mut Call) -> Option<&mut usize> {
         | TopologyRowRank(_, row, _)
         | TopologyRowSelect(_, row, _)
         | MetadataFirstRowValues(_, row)
-        | MetadataFirstSparseDotRow(_, row, ..) => Some(row),
+        | MetadataFirstSparseDotRow(_, row, ..)
+        | AbtmRowTiles(_, row) => Some(row),
         _ => None,
     }
 }
@@ -380,10 +398,10 @@ fn row_in(call: &mut Call) -> Option<&mut usize> {
 fn drop_numbers(call: &mut Call, drop: Drop) {
     use Call::*;
     match (call, drop) {
-        (Csr32Apply(_, x, _), Drop::ColumnsFrom(n))
+        (Csr32Apply(_, x, _) | AbtmApply(_, x, _), Drop::ColumnsFrom(n))
         | (MetadataFirstSparseDotRow(_, _, _, x), Drop::ColumnsFrom(n))
         | (MetadataFirstSparseDotRows(_, _, x, ..), Drop::ColumnsFrom(n)) => x.truncate(n),
-        (Csr32Apply(_, _, y), Drop::Row(_)) => drop_last(y),
+        (Csr32Apply(_, _, y) | AbtmApply(_, _, y), Drop::Row(_)) => drop_last(y),
         (MetadataFirstSparseDotRows(_, _, _, sums, executed), Drop::Row(_)) => {
             drop_last(sums);
             drop_last(executed);

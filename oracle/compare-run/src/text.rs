@@ -28,6 +28,7 @@ fn numbered(number: usize, parts: Vec<Part<'_>>) -> String {
     for part in parts {
         match part {
             Part::Size(n) => line.push(*n as u64),
+            Part::Num8(n) => line.push((*n).into()),
             Part::Num32(n) => line.push((*n).into()),
             Part::Num64(n) => line.push(*n),
             Part::Flag(n) => line.push((*n).into()),

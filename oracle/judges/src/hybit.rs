@@ -3,6 +3,8 @@
 //! The Rust owns its lists and checks them when it makes them, so words and stores that are handed in are made from a plot list
 //! with the same columns and values, and the Rust's object must then show the same lists.
 
+mod tiles;
+
 use calls::{Call, Counts, Csr, Mask, Outcome, Store, StoreRoom, Words, WordsRoom, bits};
 use hybit_core::{HybitError, LinearOperator};
 use hybit_matrix::{
@@ -27,10 +29,14 @@ pub enum Reason {
     FarWord,
     ActiveAboveWords,
     NoRow,
+    BadTiles,
+    KindByCount,
+    KindThree,
+    BytesOverflow,
 }
 
 impl Reason {
-    pub const ALL: [Reason; 12] = [
+    pub const ALL: [Reason; 16] = [
         Reason::OverSize,
         Reason::BadMask,
         Reason::BadWords,
@@ -43,6 +49,10 @@ impl Reason {
         Reason::FarWord,
         Reason::ActiveAboveWords,
         Reason::NoRow,
+        Reason::BadTiles,
+        Reason::KindByCount,
+        Reason::KindThree,
+        Reason::BytesOverflow,
     ];
 
     pub fn text(self) -> &'static str {
@@ -56,9 +66,13 @@ impl Reason {
             Reason::ResultOverSize => "1: a result of more than 2^24 words",
             Reason::ShortList => "13: a lent list shorter than the Rust's result",
             Reason::EmptyWord => "a word without a one, which no Rust topology holds",
-            Reason::FarWord => "a word past column 2^32, which no Rust topology holds",
+            Reason::FarWord => "a word past column 2^32, which no Rust topology or tile has",
             Reason::ActiveAboveWords => "more active words than words: the Rust subtracts below 0",
             Reason::NoRow => "the dots of no rows: the Rust asks them row by row",
+            Reason::BadTiles => "12: tiles that the Rust can't hold",
+            Reason::KindByCount => "kinds that no thresholds give these counts",
+            Reason::KindThree => "the first column of a tile of kind 3, which no Rust tile is",
+            Reason::BytesOverflow => "bytes of tiles above 2^64 - 1: the Rust's sum overflows",
         }
     }
 
@@ -68,7 +82,7 @@ impl Reason {
             Reason::OverSize | Reason::ResultOverSize => Some(1),
             Reason::BadMask => Some(5),
             Reason::BadWords => Some(11),
-            Reason::BadStore => Some(12),
+            Reason::BadStore | Reason::BadTiles => Some(12),
             Reason::ShortList => Some(13),
             _ => None,
         }
@@ -79,7 +93,7 @@ impl Reason {
 pub const UNKNOWN_ERROR: u32 = u32::MAX;
 
 /// Document 01's number for each error kind and text of the Rust.
-const ERRORS: [(u32, HybitError); 15] = [
+const ERRORS: [(u32, HybitError); 18] = [
     (1, HybitError::SizeOverflow),
     (2, matrix("row_ptr length must equal nrows + 1")),
     (2, matrix("col_idx and values lengths differ")),
@@ -94,7 +108,10 @@ const ERRORS: [(u32, HybitError); 15] = [
     (7, argument("ABTM topology row index out of range")),
     (7, argument("ABTM topology row rank column out of range")),
     (7, argument("ABTM G2 row index out of range")),
+    (7, argument("ABTM row index out of range")),
     (8, argument("ABTM topology dimensions differ")),
+    (9, argument("invalid ABTM density thresholds")),
+    (10, matrix("mask expansion requires a square ABTM matrix")),
 ];
 
 const fn matrix(text: &'static str) -> HybitError {
@@ -455,7 +472,7 @@ fn by_value(call: &Call) -> Result<Outcome, Reason> {
         }
         MetadataFirstTotalEstimatedBytes(a, b, c) => Ok(accepted(vec![total_bytes(a, b, c)])),
         MetadataFirstAccumulate(a, b) => Ok(accumulate(a, b)),
-        _ => unreachable!("every other call is answered before"),
+        _ => tiles::judge(call),
     }
 }
 

@@ -152,6 +152,20 @@ answer!(
     active_words
 );
 
+answer!(Tiles, tiles, value_slots, matrix_nnz);
+answer!(
+    TileStats,
+    nrows,
+    ncols,
+    matrix_nnz,
+    tiles,
+    sparse_tiles,
+    bitmap_tiles,
+    dense_tiles,
+    value_slots,
+    metadata_bytes
+);
+
 /// The answer of a call that can't refuse.
 fn plain(value: impl Number) -> Outcome {
     Outcome {
@@ -216,6 +230,9 @@ macro_rules! with_store {
         )
     };
 }
+
+// Below the macros, which it uses.
+mod tiles;
 
 /// A call that changes the words of a mask.
 macro_rules! mask_change {
@@ -355,7 +372,7 @@ fn by_value(call: &Call) -> Outcome {
                 plain(sys::denimrasp_metadata_first_total_estimated_bytes(a, b, c))
             }
             MetadataFirstAccumulate(a, b) => accumulate(a, b),
-            _ => unreachable!("every other call is answered before"),
+            _ => tiles::judge(call),
         }
     }
 }

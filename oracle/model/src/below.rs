@@ -6,8 +6,8 @@ use crate::answer::{
 };
 use crate::csr32::{part, pointers_hold};
 use crate::words::{self, WIDTH, offsets};
-use crate::{metadata_first, topology};
-use calls::{Below, Counts, Mask, Outcome, Store, WordCall, Words, WordsRoom, bits};
+use crate::{abtm, metadata_first, topology};
+use calls::{Below, Counts, Mask, Outcome, Store, Tiles, WordCall, Words, WordsRoom, bits};
 use std::collections::BTreeSet;
 
 /// What comes of a call of the crates below.
@@ -34,6 +34,13 @@ pub fn judge_below(call: &Below) -> Outcome {
         Below::RowValues(store, row) => row_values(store, *row),
         Below::Report(counts) => report(counts),
         Below::TopologyWord(number, mask, n) => topology_word(*number, *mask, *n),
+        Below::TileParts(tiles, row) => tile_parts(tiles, *row),
+        Below::TileValue(meta, mask, thresholds, count, bits) => {
+            let zero = f64::from_bits(*bits) == 0.0;
+            let mut outcome = abtm::judge_value(*meta, *mask, *thresholds, *count);
+            outcome.result.push(zero.into());
+            outcome
+        }
     }
 }
 
@@ -189,6 +196,23 @@ fn topology_word(number: u32, mask: u64, n: usize) -> Outcome {
     ];
     for other in others {
         outcome.result.extend(other.result);
+    }
+    outcome
+}
+
+/// The three parts, each of a call with its own lent number.
+fn tile_parts(tiles: &Tiles, row: usize) -> Outcome {
+    let wide = |list: &[u32]| list.iter().map(|&n| n.into()).collect();
+    let mut outcome = verdict(abtm::check_row(tiles, row));
+    outcome.result = vec![outcome.number.into(); 2];
+    outcome.lists = vec![Vec::new(); 3];
+    if outcome.number == 0 {
+        let places = part(&tiles.row_tile_ptr, row);
+        outcome.lists = vec![
+            tiles.masks[places.clone()].to_vec(),
+            wide(&tiles.value_offsets[places.clone()]),
+            wide(&tiles.metas[places]),
+        ];
     }
     outcome
 }

@@ -4,6 +4,7 @@
 //! Each module has the records of one part: `sizes` is refusal 1 of a record, `rules` the refusals of its own, and each call's
 //! checks stand in the order in which document 01 has them.
 
+mod abtm;
 mod answer;
 mod below;
 mod csr32;
@@ -86,5 +87,18 @@ pub fn judge(call: &Call) -> Outcome {
             metadata_first::judge_total_estimated_bytes(*words, *pointers, *values)
         }
         MetadataFirstAccumulate(a, b) => metadata_first::judge_accumulate(a, b),
+        AbtmValidate(sparse, dense) => abtm::judge_validate(*sparse, *dense),
+        AbtmCheck(tiles) => abtm::judge_check(tiles),
+        AbtmFromCsr32(csr, sparse, dense, room) => {
+            abtm::judge_from_csr32(csr, *sparse, *dense, room)
+        }
+        AbtmTileKind(meta) => abtm::judge_tile_kind(*meta),
+        AbtmTileBaseCol(meta) => abtm::judge_tile_base_col(*meta),
+        AbtmRowTiles(tiles, row) => abtm::judge_row_tiles(tiles, *row),
+        AbtmStats(tiles) => abtm::judge_stats(tiles),
+        AbtmMetadataBytesPerNnz(bytes, ones) => abtm::judge_metadata_bytes_per_nnz(*bytes, *ones),
+        AbtmTotalEstimatedBytes(bytes, slots) => abtm::judge_total_estimated_bytes(*bytes, *slots),
+        AbtmApply(tiles, x, y) => abtm::judge_apply(tiles, x, y),
+        AbtmExpandMaskOneHop(tiles, m, room) => abtm::judge_expand_mask_one_hop(tiles, m, room),
     }
 }

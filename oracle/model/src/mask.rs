@@ -40,12 +40,12 @@ pub fn holds(mask: &Mask, index: usize) -> bool {
     index < mask.len && bit(mask, index)
 }
 
-fn members(mask: &Mask) -> Members {
+pub fn members(mask: &Mask) -> Members {
     (0..mask.len).filter(|&index| bit(mask, index)).collect()
 }
 
 /// The words of the mask of that length with these members.
-fn words_of(len: usize, members: &Members) -> Vec<u64> {
+pub fn words_of(len: usize, members: &Members) -> Vec<u64> {
     let mut words = vec![0; word_count(len)];
     for index in members {
         words[index / WIDTH] |= 1 << (index % WIDTH);

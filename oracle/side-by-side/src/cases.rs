@@ -48,6 +48,8 @@ pub struct Case {
     /// Rows, columns, offsets, ordinals and indices that are asked for.
     pub places: Vec<usize>,
     pub bits: u64,
+    /// Of tiles: Sparse up to the first, Dense from the second on.
+    pub thresholds: (u8, u8),
     /// Two reports to be added.
     pub counts: [[usize; 5]; 2],
 }
@@ -58,7 +60,7 @@ impl Case {
     pub fn new(seed: u64) -> Self {
         let mut random = Random(seed);
         let r = &mut random;
-        let (nrows, ncols) = (r.below(6), width(r));
+        let (nrows, ncols) = shape(r);
         let a = damaged(r, nrows, ncols, 10);
         let (nrows, ncols) = if r.one_in(10) {
             (r.below(6), width(r))
@@ -75,11 +77,33 @@ impl Case {
             y: list(r, a.nrows, vector_value),
             places: places(r, &a),
             bits: r.next(),
+            thresholds: thresholds(r),
             counts: [counts(r), counts(r)],
             a,
             b,
             mask_len,
             other_len,
+        }
+    }
+}
+
+/// Few rows, or now and then as many as columns, so that a mask can be expanded.
+fn shape(r: &mut Random) -> (usize, usize) {
+    if r.one_in(6) {
+        let side = r.pick(&[0, 1, 5, 63, 64, 65, 70]);
+        return (side, side);
+    }
+    (r.below(6), width(r))
+}
+
+/// hybit's own, or low ones, so that all kinds of tiles come up; some are out of range.
+fn thresholds(r: &mut Random) -> (u8, u8) {
+    match r.below(8) {
+        0 => (8, 40),
+        1 => r.pick(&[(0, 1), (4, 4), (1, 65), (63, 64), (255, 255), (9, 8)]),
+        _ => {
+            let sparse = 1 + r.below(6);
+            (sparse as u8, (sparse + 1 + r.below(8)) as u8)
         }
     }
 }

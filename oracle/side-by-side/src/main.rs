@@ -34,7 +34,7 @@ mod rust {
 }
 
 /// Errors that a run of the usual length must have met, so that it says something about them.
-const MET: [&str; 16] = [
+const MET: [&str; 19] = [
     "SizeOverflow",
     "DimensionMismatch",
     "row_ptr length must equal nrows + 1",
@@ -51,6 +51,9 @@ const MET: [&str; 16] = [
     "ABTM topology row index out of range",
     "ABTM topology dimensions differ",
     "ABTM G2 row index out of range",
+    "invalid ABTM density thresholds",
+    "ABTM row index out of range",
+    "mask expansion requires a square ABTM matrix",
 ];
 
 fn main() -> ExitCode {

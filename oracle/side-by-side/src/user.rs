@@ -38,6 +38,13 @@ pub fn run(case: &Case) -> Vec<(String, String)> {
         if let Some(store) = notes.result("store", store) {
             packed(&mut notes, case, &store);
         }
+        let config = m::AbtmConfig {
+            sparse_max_nnz: case.thresholds.0,
+            dense_min_nnz: case.thresholds.1,
+        };
+        if let Some(matrix) = notes.result("tiles", m::AbtmMatrix::from_csr32(&a, config)) {
+            tiles(&mut notes, case, &matrix);
+        }
     }
     notes.0
 }
@@ -119,6 +126,15 @@ fn reports(notes: &mut Notes, case: &Case) {
         ..Default::default()
     };
     notes.note("total_estimated_bytes", stats.total_estimated_bytes());
+    // hybit's sum of a tile store's bytes wraps round above the largest number.
+    let stats = m::AbtmStats {
+        matrix_nnz: a[0],
+        value_slots: b[4] / 32,
+        metadata_bytes: a[3] / 2,
+        ..Default::default()
+    };
+    notes.note("tile bytes", tile_bytes(&stats));
+    notes.note("usual thresholds", m::AbtmConfig::default());
 }
 
 fn ratios(stats: m::AbtmTopologyStats) -> [f64; 3] {
@@ -127,6 +143,13 @@ fn ratios(stats: m::AbtmTopologyStats) -> [f64; 3] {
         stats.word_fill_ratio(),
         stats.metadata_bytes_per_nnz(),
     ]
+}
+
+fn tile_bytes(stats: &m::AbtmStats) -> (f64, usize) {
+    (
+        stats.metadata_bytes_per_nnz(),
+        stats.total_estimated_bytes(),
+    )
 }
 
 fn products(notes: &mut Notes, case: &Case, a: &m::Csr32Matrix) {
@@ -215,4 +238,24 @@ fn packed(notes: &mut Notes, case: &Case, store: &m::AbtmMetadataFirstMatrix) {
         }
     }
     notes.note("dot totals", totals);
+}
+
+fn tiles(notes: &mut Notes, case: &Case, matrix: &m::AbtmMatrix) {
+    notes.note("tile sizes", (matrix.rows(), matrix.cols()));
+    notes.note("tile values", matrix.values());
+    let stats = matrix.stats();
+    notes.note("tile stats", (&stats, tile_bytes(&stats)));
+    for row in (0..matrix.rows()).chain(case.places.iter().copied()) {
+        let row = notes.result("row_tiles", matrix.row_tiles(row));
+        for tile in row.unwrap_or_default() {
+            let base = tile.base_col() / m::TILE_WIDTH;
+            notes.note("tile", (tile.mask, tile.value_offset, tile.kind(), base));
+        }
+    }
+    let mut y = case.y.clone();
+    notes.result("tile apply", matrix.clone().apply(&case.x, &mut y));
+    notes.note("tile y", y);
+    let made = m::DofMask::from_indices(case.mask_len, &case.members);
+    let mask = made.unwrap_or(m::DofMask::new(case.mask_len));
+    notes.result("expand_mask_one_hop", matrix.expand_mask_one_hop(&mask));
 }

@@ -1,7 +1,7 @@
 -- `denimrasp::denimrasp_metadata_first_sparse_dot_row` meets its contract. Assumes nothing.
 use mathlib.Core.Path.{_∙_, ap}
 use borrow.Author.Needs.{needs}
-use Rattle.denimrasp_answers.specs.Answers.{dotOf}
+use Rattle.denimrasp_answers.specs.Answers.{dotAnswerOf}
 use Rattle.denimrasp.proofs.denimrasp_metadata_first_sparse_dot_row.Statement.{statement}
 use Rattle.denimrasp.proofs.denimrasp_metadata_first_sparse_dot_row.Tie as tie
 
@@ -12,7 +12,7 @@ dot-requires : tie.Need-dot-requires
 dot-requires c κs = search needs
 
 returns : tie.Need-returns
-returns c = c .dot .ensures ∙ ap dotOf (c .before .sparse-dot-row .ensures)
+returns c = c .dot .ensures ∙ ap dotAnswerOf (c .before .sparse-dot-row .ensures)
 
 pub denimrasp-metadata-first-sparse-dot-row-spec : {M : Type 1} → statement M
 denimrasp-metadata-first-sparse-dot-row-spec =

@@ -1,7 +1,7 @@
 -- `denimrasp::denimrasp_topology_and_not` meets its contract. Assumes nothing.
 use mathlib.Core.Path.{_∙_, ap}
 use borrow.Author.Needs.{needs}
-use Rattle.denimrasp_answers.specs.Answers.{topologyOf}
+use Rattle.denimrasp_answers.specs.Answers.{topologyAnswerOf}
 use Rattle.denimrasp.proofs.denimrasp_topology_and_not.Statement.{statement}
 use Rattle.denimrasp.proofs.denimrasp_topology_and_not.Tie as tie
 
@@ -23,7 +23,7 @@ same-length-3 c = search needs
 returns : tie.Need-returns
 returns c =
     let e = c .before .before .before .before .before .before .before .combine .ensures in
-    (c .topology-built .ensures ∙ ap topologyOf (e .0), e .1)
+    (c .topology-built .ensures ∙ ap topologyAnswerOf (e .0), e .1)
 
 pub denimrasp-topology-and-not-spec : {M : Type 1} → statement M
 denimrasp-topology-and-not-spec =

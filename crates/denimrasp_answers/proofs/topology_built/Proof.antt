@@ -2,7 +2,7 @@
 use mathlib.Core.Path.{sym, ap}
 use borrow.Author.Needs.{needs}
 use Rattle.topology.specs.Calls.{toldTopology}
-use Rattle.denimrasp_answers.specs.Answers.{topologyOf}
+use Rattle.denimrasp_answers.specs.Answers.{topologyAnswerOf}
 use Rattle.denimrasp_answers.proofs.topology_built.Statement.{statement}
 use Rattle.denimrasp_answers.proofs.topology_built.Tie as tie
 
@@ -22,10 +22,10 @@ actual-requires : tie.Need-actual-requires
 actual-requires c κs = search needs
 
 returns : tie.Need-returns
-returns c = ap (λ a. topologyOf (toldTopology a)) (sym (c .before .a .given .1))
+returns c = ap (λ a. topologyAnswerOf (toldTopology a)) (sym (c .before .a .given .1))
 
 returns-2 : tie.Need-returns-2
-returns-2 c = rw (c .before .before .number .ensures) (rw (c .before .expected .ensures) (rw (c .actual .ensures) (ap (λ a. topologyOf (toldTopology a)) (sym (c .before .before .before .before .a2 .given .1)))))
+returns-2 c = rw (c .before .before .number .ensures) (rw (c .before .expected .ensures) (rw (c .actual .ensures) (ap (λ a. topologyAnswerOf (toldTopology a)) (sym (c .before .before .before .before .a2 .given .1)))))
 
 pub topology-built-spec : {M : Type 1} → statement M
 topology-built-spec =

@@ -1,6 +1,8 @@
-//! `compare --seed N --seconds S [--break CALL]`: the tiny inputs whole, some random ones, the named cases, the edge of the
-//! domain, then random calls until the seconds are over.
+//! `compare --seed N --seconds S [--library none] [--break CALL]`: the tiny inputs whole, some random ones, the named cases, the
+//! edge of the domain, then random calls until the seconds are over. With `--library none` the model is held against hybit's
+//! Rust alone.
 
+use compare_run::make::Judge;
 use compare_run::run::{Run, Tally, summary};
 use compare_run::{Sink, cases, edge, exhaustive, random, rng::Rng};
 use judges::ours;
@@ -15,6 +17,7 @@ static TALLIES: [Tally; THREADS] = [const { Tally::new() }; THREADS];
 struct Options {
     seed: u64,
     seconds: u64,
+    library: Judge,
     fault: Option<String>,
 }
 
@@ -22,6 +25,7 @@ fn options() -> Result<Options, String> {
     let mut options = Options {
         seed: 1,
         seconds: 60,
+        library: ours::judge,
         fault: None,
     };
     let mut args = std::env::args().skip(1);
@@ -31,6 +35,7 @@ fn options() -> Result<Options, String> {
         match name.as_str() {
             "--seed" => options.seed = number()?,
             "--seconds" => options.seconds = number()?,
+            "--library" if value == "none" => options.library = model::judge,
             "--break" => options.fault = Some(value),
             _ => return Err(format!("no option {name}")),
         }
@@ -42,21 +47,22 @@ fn work(thread: usize, options: &Options, end: Instant) {
     let mut run = Run {
         tallies: &TALLIES,
         thread,
+        library: options.library,
         fault: options.fault.as_deref(),
         end,
     };
     let mut share = exhaustive::Share::new(thread, THREADS);
-    exhaustive::all(&mut run, ours::judge, &mut share);
+    exhaustive::all(&mut run, options.library, &mut share);
     let seed = options.seed.wrapping_mul(THREADS as u64) + thread as u64;
     let mut rng = Rng::new(seed);
     for _ in 0..FIRST_ROUNDS {
-        random::round(&mut run, ours::judge, &mut rng);
+        random::round(&mut run, options.library, &mut rng);
     }
     for call in cases::calls().iter().skip(thread).step_by(THREADS) {
         run.call(call);
     }
-    edge::all(&mut run, ours::judge, thread);
-    random::forever(&mut run, ours::judge, &mut rng);
+    edge::all(&mut run, options.library, thread);
+    random::forever(&mut run, options.library, &mut rng);
 }
 
 fn main() -> ExitCode {

@@ -47,6 +47,7 @@ fn class(call: &Call) -> usize {
     let all = parts(&mut copy);
     let sizes = all.iter().filter_map(|part| match part {
         Part::Size(n) => Some(**n),
+        Part::Num8(n) => Some((**n).into()),
         Part::Num32(n) => Some(**n as usize),
         Part::Num64(n) => Some(n.count_ones() as usize * 2),
         _ => None,

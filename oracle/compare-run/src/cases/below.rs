@@ -1,7 +1,7 @@
 //! Calls of the crates below the C interface.
 
 use super::values::{COUNTS, WORDS};
-use super::{HUGE, INF, MOST, NAN, ONES, mask, records, stores, words_room};
+use super::{HUGE, INF, MOST, NAN, ONES, mask, records, stores, tile_stores, words_room};
 use calls::{Below, WordCall};
 
 pub fn calls() -> Vec<Below> {
@@ -17,6 +17,8 @@ pub fn calls() -> Vec<Below> {
     record_parts(&mut all);
     reports(&mut all);
     topology_words(&mut all);
+    tile_parts(&mut all);
+    tile_values(&mut all);
     all
 }
 
@@ -248,4 +250,34 @@ fn reports(all: &mut Vec<Below>) {
         [3, 1, half, 5, 0],
     ];
     all.extend(reports.map(Below::Report));
+}
+
+/// The parts of every row of tiles and of rows past the last (7), and of tiles that are refused.
+fn tile_parts(all: &mut Vec<Below>) {
+    for t in tile_stores::damaged() {
+        all.push(Below::TileParts(t, 2));
+    }
+    for row in [0, 1, 2, 3, HUGE] {
+        all.push(Below::TileParts(tile_stores::trial(), row));
+    }
+}
+
+/// Each kind but 3 with the lowest and highest word numbers and its slots; counts at the thresholds; zeros of either sign.
+fn tile_values(all: &mut Vec<Below>) {
+    for kind in 0..3 {
+        for word in [0, 1, 63, 64, (1 << 30) - 1] {
+            for mask in [0, 1, 1 << 63, 0x00f0_0000_0000_0f00, ONES] {
+                let meta = (kind << 30) + word;
+                all.push(Below::TileValue(meta, mask, [8, 40], 8, 0));
+            }
+        }
+    }
+    for thresholds in [[1, 2], [4, 32], [8, 40], [63, 64], [1, 64]] {
+        for count in [0, 1, 2, 4, 5, 8, 9, 31, 32, 39, 40, 63, 64, 65, HUGE] {
+            all.push(Below::TileValue(0, 1, thresholds, count, 0));
+        }
+    }
+    for x in [0.0, -0.0, 5e-324, -5e-324, 1.0, INF, -INF, NAN] {
+        all.push(Below::TileValue(0, 1, [8, 40], 1, x.to_bits()));
+    }
 }

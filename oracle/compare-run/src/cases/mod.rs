@@ -10,6 +10,8 @@ mod metadata_first;
 mod products;
 mod records;
 mod stores;
+mod tile_stores;
+mod tiles;
 mod topology;
 mod values;
 
@@ -35,6 +37,8 @@ pub fn calls() -> Vec<Call> {
         stores::calls(),
         generated::calls(),
         values::calls(),
+        tiles::calls(),
+        tile_stores::calls(),
     ];
     groups.concat()
 }

@@ -199,9 +199,58 @@ impl Chance {
         }
     }
 
-    /// A vector, as a rule of the store's columns.
-    fn vector(&mut self, store: &Store) -> Vec<f64> {
-        let n = store.words.ncols;
+    /// Tiles, with one of their parts replaced at times.
+    fn tiles(&mut self) -> Tiles {
+        let words = self.words();
+        let (mut value_offsets, mut metas, mut values) = (vec![], vec![], vec![]);
+        for (&word, &mask) in words.word_indices.iter().zip(&words.masks) {
+            let kind = self.below(3) as u32;
+            value_offsets.push(values.len() as u32);
+            metas.push(word + (kind << 30));
+            for offset in 0..64 {
+                if mask >> offset & 1 == 1 {
+                    values.push(self.pick(&[1.0, -2.0, f64::MAX, f64::INFINITY]));
+                } else if kind == 2 {
+                    values.push(0.0);
+                }
+            }
+        }
+        let mut tiles = Tiles {
+            nrows: words.nrows,
+            ncols: words.ncols,
+            row_tile_ptr: words.row_word_ptr,
+            masks: words.masks,
+            value_offsets,
+            metas,
+            values,
+            matrix_nnz: words.structural_nnz,
+        };
+        match self.below(16) {
+            0 => tiles.nrows = self.count(),
+            1 => tiles.ncols = self.count(),
+            2 => tiles.row_tile_ptr = self.pointers(),
+            3 => tiles.masks = self.list(Chance::bits),
+            4 => tiles.value_offsets = self.list(Chance::small),
+            5 => tiles.metas = self.list(Chance::small),
+            6 => tiles.values = self.list(Chance::value),
+            7 => tiles.matrix_nnz = self.count(),
+            _ => {}
+        }
+        tiles
+    }
+
+    fn tiles_room(&mut self) -> TilesRoom {
+        TilesRoom {
+            row_tile_ptr: self.list(|_| 9),
+            masks: self.list(|_| 9),
+            value_offsets: self.list(|_| 9),
+            metas: self.list(|_| 9),
+            values: self.list(|_| 9.0),
+        }
+    }
+
+    /// A vector, as a rule of the record's columns.
+    fn vector(&mut self, n: usize) -> Vec<f64> {
         if n > 65 || self.below(4) == 0 {
             return self.list(Chance::value);
         }
@@ -329,17 +378,49 @@ fn store_call(c: &mut Chance) -> (Call, Left) {
         1 => (Call::MetadataFirstStats(s), Left::Nothing),
         2 => {
             let (row, m) = (c.count(), c.mask());
-            let x = c.vector(&s);
+            let x = c.vector(s.words.ncols);
             (Call::MetadataFirstSparseDotRow(s, row, m, x), Left::Nothing)
         }
         _ => {
             let (sums, executed) = (c.list(|_| 9.0), c.list(|_| 9));
             let left = Left::Zeros(vec![sums.len(), executed.len()]);
-            let x = c.vector(&s);
+            let x = c.vector(s.words.ncols);
             (
                 Call::MetadataFirstSparseDotRows(s, c.mask(), x, sums, executed),
                 left,
             )
+        }
+    }
+}
+
+fn tiles_call(c: &mut Chance) -> (Call, Left) {
+    let t = c.tiles();
+    match c.below(6) {
+        0 => (Call::AbtmRowTiles(t, c.count()), Left::Nothing),
+        1 => (Call::AbtmStats(t), Left::Nothing),
+        2 => {
+            let (x, y) = (c.vector(t.ncols), c.list(Chance::value));
+            let left = Left::Untouched(y.iter().map(|&v| bits(v)).collect());
+            (Call::AbtmApply(t, x, y), left)
+        }
+        3 => {
+            let (m, room) = (c.mask(), c.list(|_| 9));
+            let left = Left::Zeros(vec![room.len()]);
+            (Call::AbtmExpandMaskOneHop(t, m, room), left)
+        }
+        4 => (Call::AbtmCheck(t), Left::Nothing),
+        _ => {
+            let room = c.tiles_room();
+            let lengths = vec![
+                room.row_tile_ptr.len(),
+                room.masks.len(),
+                room.value_offsets.len(),
+                room.metas.len(),
+                room.values.len(),
+            ];
+            let (sparse, dense) = (c.below(3) as u8, c.below(5) as u8);
+            let call = Call::AbtmFromCsr32(c.csr(), sparse, dense, room);
+            (call, Left::Zeros(lengths))
         }
     }
 }
@@ -361,9 +442,9 @@ fn refused_as_it_should_be(call: &Call, outcome: &Outcome, left: Left) {
 #[test]
 fn no_input_stops_a_call() {
     let mut chance = Chance(0x9e37_79b9_7f4a_7c15);
-    let makers = [mask_call, csr_call, words_call, store_call];
+    let makers = [mask_call, csr_call, words_call, store_call, tiles_call];
     let mut seen = [0; 14];
-    for round in 0..400_000 {
+    for round in 0..500_000 {
         let (call, left) = makers[round % makers.len()](&mut chance);
         let outcome = judge(&call);
         seen[outcome.number as usize] += 1;
@@ -372,7 +453,7 @@ fn no_input_stops_a_call() {
         }
     }
     // Every refusal of these calls was met, so the rounds reached past the first checks.
-    for number in [0, 1, 2, 3, 4, 5, 6, 7, 8, 11, 12, 13] {
+    for number in 0..14 {
         assert!(seen[number] > 0, "{number} never given: {seen:?}");
     }
 }

@@ -1,7 +1,7 @@
 //! Inputs with one fault and with two: each way of each refusal, and which of two refusals decides.
 
 use crate::judge;
-use calls::{Call, Csr, Mask, Store, Words};
+use calls::{Call, Csr, Mask, Store, Tiles, Words};
 
 pub const PLACES_OVER: usize = (1 << 20) + 1;
 /// Two more than the limit, so that a list that then loses one is still too long.
@@ -204,4 +204,95 @@ pub fn store_faults() -> Vec<Fault<Store>> {
         fault(12, |s: &mut Store| s.values[3] = f64::NEG_INFINITY),
     ]);
     faults
+}
+
+/// 1 and 12 of `good_tiles`.
+pub fn tiles_faults() -> Vec<Fault<Tiles>> {
+    let mut faults = vec![
+        fault(1, |t: &mut Tiles| t.masks = vec![0; STORED_OVER]),
+        fault(1, |t: &mut Tiles| t.value_offsets = vec![0; STORED_OVER]),
+        fault(1, |t: &mut Tiles| t.metas = vec![0; STORED_OVER]),
+    ];
+    faults.extend(short_tiles_faults());
+    faults
+}
+
+/// The same without long lists, for the calls that need a mask and vectors too.
+pub fn short_tiles_faults() -> Vec<Fault<Tiles>> {
+    let mut faults = vec![
+        fault(1, |t: &mut Tiles| t.nrows = PLACES_OVER),
+        fault(1, |t: &mut Tiles| t.nrows = usize::MAX),
+        fault(1, |t: &mut Tiles| t.ncols = PLACES_OVER),
+        fault(1, |t: &mut Tiles| t.ncols = usize::MAX),
+        fault(12, |t: &mut Tiles| t.row_tile_ptr.push(3)),
+        fault(12, |t: &mut Tiles| shorten(&mut t.row_tile_ptr)),
+        fault(12, |t: &mut Tiles| t.row_tile_ptr.clear()),
+        fault(12, |t: &mut Tiles| t.row_tile_ptr[0] = 1),
+        fault(12, |t: &mut Tiles| t.row_tile_ptr[1] = 4),
+        fault(12, |t: &mut Tiles| *t.row_tile_ptr.last_mut().unwrap() = 2),
+        fault(12, |t: &mut Tiles| *t.row_tile_ptr.last_mut().unwrap() = 4),
+        fault(12, |t: &mut Tiles| shorten(&mut t.masks)),
+        fault(12, |t: &mut Tiles| t.value_offsets.push(67)),
+        fault(12, |t: &mut Tiles| shorten(&mut t.metas)),
+        fault(12, |t: &mut Tiles| t.matrix_nnz = 4),
+        fault(12, |t: &mut Tiles| t.matrix_nnz = 6),
+        fault(12, |t: &mut Tiles| t.matrix_nnz = usize::MAX),
+    ];
+    faults.extend(tile_faults());
+    faults.extend(slot_faults());
+    faults
+}
+
+/// Words that don't rise, empty masks, bits past the last column, kind 3.
+fn tile_faults() -> Vec<Fault<Tiles>> {
+    vec![
+        fault(12, |t: &mut Tiles| t.metas[1] = 2 << 30),
+        fault(12, |t: &mut Tiles| (t.metas[0], t.metas[1]) = (1, 2 << 30)),
+        fault(12, |t: &mut Tiles| t.metas[1] = 2 + (2 << 30)),
+        fault(12, |t: &mut Tiles| t.metas[1] = u32::MAX >> 1),
+        fault(12, |t: &mut Tiles| t.metas[0] = 3 << 30),
+        fault(12, |t: &mut Tiles| t.metas[1] = 1 + (3 << 30)),
+        // An empty Dense tile has 64 slots all the same.
+        fault(12, |t: &mut Tiles| {
+            (t.masks[1], t.matrix_nnz) = (0, 3);
+            t.values[1..65].fill(0.0);
+        }),
+        fault(12, |t: &mut Tiles| {
+            (t.masks[1], t.matrix_nnz) = (3 | 1 << 6, 6);
+            t.values[7] = 1.0;
+        }),
+        fault(12, |t: &mut Tiles| {
+            (t.masks[1], t.matrix_nnz) = (3 | 1 << 63, 6);
+            t.values[64] = 1.0;
+        }),
+    ]
+}
+
+/// Gaps and overlaps of offsets, too few and too many values, values that no build gives.
+fn slot_faults() -> Vec<Fault<Tiles>> {
+    vec![
+        fault(12, |t: &mut Tiles| t.value_offsets[0] = 1),
+        fault(12, |t: &mut Tiles| t.value_offsets[1] = 0),
+        fault(12, |t: &mut Tiles| t.value_offsets[2] = 64),
+        fault(12, |t: &mut Tiles| t.value_offsets[2] = u32::MAX),
+        fault(12, |t: &mut Tiles| {
+            t.value_offsets[2] = 66;
+            t.values.insert(65, 0.0);
+        }),
+        fault(12, |t: &mut Tiles| shorten(&mut t.values)),
+        fault(12, |t: &mut Tiles| t.values.push(0.0)),
+        fault(12, |t: &mut Tiles| t.values.clear()),
+        fault(12, |t: &mut Tiles| t.values[0] = f64::NAN),
+        fault(12, |t: &mut Tiles| t.values[2] = f64::NAN),
+        fault(12, |t: &mut Tiles| t.values[66] = f64::NAN),
+        fault(12, |t: &mut Tiles| t.values[0] = 0.0),
+        fault(12, |t: &mut Tiles| t.values[1] = -0.0),
+        fault(12, |t: &mut Tiles| t.values[65] = 0.0),
+        fault(12, |t: &mut Tiles| t.values[3] = -0.0),
+        fault(12, |t: &mut Tiles| t.values[3] = 1.0),
+        fault(12, |t: &mut Tiles| t.values[3] = f64::NAN),
+        // Past the last column.
+        fault(12, |t: &mut Tiles| t.values[64] = 5e-324),
+        fault(12, |t: &mut Tiles| t.values[64] = -0.0),
+    ]
 }

@@ -1,5 +1,6 @@
 //! What is expected is written out by hand from document 01; only `judge` is asked.
 
+mod abtm;
 mod any_input;
 mod below;
 mod combine;
@@ -15,7 +16,7 @@ mod topology;
 mod words;
 
 use crate::judge;
-use calls::{Call, Csr, Mask, Outcome, Store, StoreRoom, Words, WordsRoom};
+use calls::{Call, Csr, Mask, Outcome, Store, StoreRoom, Tiles, TilesRoom, Words, WordsRoom};
 
 /// An accepted call that writes nothing.
 fn accepted<const N: usize>(call: Call, result: [u64; N]) {
@@ -99,6 +100,35 @@ fn good_store() -> Store {
         words: good_words(),
         row_value_ptr: vec![0, 3, 4],
         values: vec![1.5, 4.0, 2.0, 8.0],
+    }
+}
+
+/// Tiles of all three kinds: Sparse 3 and Dense 64, 65 in the first row, Bitmap 0, 2 in the second.
+fn good_tiles() -> Tiles {
+    let mut values = vec![1.5, 4.0, 2.0];
+    values.resize(65, 0.0);
+    values.extend([8.0, -1.0]);
+    Tiles {
+        nrows: 2,
+        ncols: 70,
+        row_tile_ptr: vec![0, 2, 3],
+        masks: vec![8, 3, 5],
+        value_offsets: vec![0, 1, 65],
+        metas: vec![0, 1 + (2 << 30), 1 << 30],
+        values,
+        matrix_nnz: 5,
+    }
+}
+
+/// Lent lists of these lengths: pointers, masks, offsets, metas, values.
+fn tiles_room(lengths: [usize; 5]) -> TilesRoom {
+    let [row_tile_ptr, masks, value_offsets, metas, values] = lengths;
+    TilesRoom {
+        row_tile_ptr: vec![9; row_tile_ptr],
+        masks: vec![9; masks],
+        value_offsets: vec![9; value_offsets],
+        metas: vec![9; metas],
+        values: vec![9.0; values],
     }
 }
 

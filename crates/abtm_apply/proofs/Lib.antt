@@ -1,0 +1,4 @@
+pub mod SumLaws
+pub mod TileLaws
+pub mod RowLaws
+pub mod ProductLaws

@@ -1491,6 +1491,168 @@ fn metadata_first_report(text: &[u8], at: &mut usize) {
     float(report.empty_word_ratio());
 }
 
+// The refusal's number of a row's part of the masks, and the part.
+fn tile_masks_refusal(
+    nrows: usize,
+    ncols: usize,
+    ptr: &[u32],
+    masks: &[u64],
+    offsets: &[u32],
+    metas: &[u32],
+    values: &[f64],
+    nnz: usize,
+    row: usize,
+) -> u32 {
+    let mut refusal: u32 = 99;
+    abtm_rows::row_tile_masks(
+        nrows,
+        ncols,
+        ptr,
+        masks,
+        offsets,
+        metas,
+        values,
+        nnz,
+        row,
+        &mut refusal,
+    );
+    refusal
+}
+
+fn show_tile_masks(
+    nrows: usize,
+    ncols: usize,
+    ptr: &[u32],
+    masks: &[u64],
+    offsets: &[u32],
+    metas: &[u32],
+    values: &[f64],
+    nnz: usize,
+    row: usize,
+) {
+    let mut refusal: u32 = 99;
+    show_u64(abtm_rows::row_tile_masks(
+        nrows,
+        ncols,
+        ptr,
+        masks,
+        offsets,
+        metas,
+        values,
+        nnz,
+        row,
+        &mut refusal,
+    ));
+}
+
+// The refusal's number of a row's part of the offsets, and the part.
+fn tile_offsets_refusal(
+    nrows: usize,
+    ncols: usize,
+    ptr: &[u32],
+    masks: &[u64],
+    offsets: &[u32],
+    metas: &[u32],
+    values: &[f64],
+    nnz: usize,
+    row: usize,
+) -> u32 {
+    let mut refusal: u32 = 99;
+    abtm_rows::row_tile_value_offsets(
+        nrows,
+        ncols,
+        ptr,
+        masks,
+        offsets,
+        metas,
+        values,
+        nnz,
+        row,
+        &mut refusal,
+    );
+    refusal
+}
+
+fn show_tile_offsets(
+    nrows: usize,
+    ncols: usize,
+    ptr: &[u32],
+    masks: &[u64],
+    offsets: &[u32],
+    metas: &[u32],
+    values: &[f64],
+    nnz: usize,
+    row: usize,
+) {
+    let mut refusal: u32 = 99;
+    show_u32(abtm_rows::row_tile_value_offsets(
+        nrows,
+        ncols,
+        ptr,
+        masks,
+        offsets,
+        metas,
+        values,
+        nnz,
+        row,
+        &mut refusal,
+    ));
+}
+
+// The refusal's number of a row's part of the metas, and the part.
+fn tile_metas_refusal(
+    nrows: usize,
+    ncols: usize,
+    ptr: &[u32],
+    masks: &[u64],
+    offsets: &[u32],
+    metas: &[u32],
+    values: &[f64],
+    nnz: usize,
+    row: usize,
+) -> u32 {
+    let mut refusal: u32 = 99;
+    abtm_rows::row_tile_metas(
+        nrows,
+        ncols,
+        ptr,
+        masks,
+        offsets,
+        metas,
+        values,
+        nnz,
+        row,
+        &mut refusal,
+    );
+    refusal
+}
+
+fn show_tile_metas(
+    nrows: usize,
+    ncols: usize,
+    ptr: &[u32],
+    masks: &[u64],
+    offsets: &[u32],
+    metas: &[u32],
+    values: &[f64],
+    nnz: usize,
+    row: usize,
+) {
+    let mut refusal: u32 = 99;
+    show_u32(abtm_rows::row_tile_metas(
+        nrows,
+        ncols,
+        ptr,
+        masks,
+        offsets,
+        metas,
+        values,
+        nnz,
+        row,
+        &mut refusal,
+    ));
+}
+
 fn tile_parts(text: &[u8], at: &mut usize) {
     let mut row_tile_ptr_room = [0u32; ROOM];
     let mut masks_room = [0u64; ROOM];
@@ -1506,10 +1668,12 @@ fn tile_parts(text: &[u8], at: &mut usize) {
     let values = read_f64(text, at, &mut values_room);
     let nnz = index(text, at);
     let row = index(text, at);
-    let mut a: u32 = 99;
-    let mut b: u32 = 99;
-    let mut c: u32 = 99;
-    let of_masks = abtm_rows::row_tile_masks(
+    refusal(
+        tile_masks_refusal(nrows, ncols, ptr, masks, offsets, metas, values, nnz, row),
+        0,
+        0,
+    );
+    size(hybit_core::wide(tile_offsets_refusal(
         nrows,
         ncols,
         ptr,
@@ -1519,9 +1683,8 @@ fn tile_parts(text: &[u8], at: &mut usize) {
         values,
         nnz,
         row,
-        &mut a,
-    );
-    let of_offsets = abtm_rows::row_tile_value_offsets(
+    )));
+    size(hybit_core::wide(tile_metas_refusal(
         nrows,
         ncols,
         ptr,
@@ -1531,26 +1694,10 @@ fn tile_parts(text: &[u8], at: &mut usize) {
         values,
         nnz,
         row,
-        &mut b,
-    );
-    let of_metas = abtm_rows::row_tile_metas(
-        nrows,
-        ncols,
-        ptr,
-        masks,
-        offsets,
-        metas,
-        values,
-        nnz,
-        row,
-        &mut c,
-    );
-    refusal(a, 0, 0);
-    size(hybit_core::wide(b));
-    size(hybit_core::wide(c));
-    show_u64(of_masks);
-    show_u32(of_offsets);
-    show_u32(of_metas);
+    )));
+    show_tile_masks(nrows, ncols, ptr, masks, offsets, metas, values, nnz, row);
+    show_tile_offsets(nrows, ncols, ptr, masks, offsets, metas, values, nnz, row);
+    show_tile_metas(nrows, ncols, ptr, masks, offsets, metas, values, nnz, row);
 }
 
 fn tile_value(text: &[u8], at: &mut usize) {

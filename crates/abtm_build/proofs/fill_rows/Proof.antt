@@ -58,7 +58,7 @@ wide-requires-2 : tie.Need-wide-requires-2 Inv-loop μ-loop
 wide-requires-2 c κs = search needs
 
 mul-fill-row : tie.Need-mul-fill-row Inv-loop μ-loop
-mul-fill-row c = 
+mul-fill-row c =
     let i = row-of (valid _ (c .before .before .before .before .before .before .before .before .before .before .before .before .before .before .before .before .before .before .pre .0)) (c .before .before .before .before .before .loop-test .taken) in
     let o = i .order in
     let n = i .inside in
@@ -67,7 +67,7 @@ mul-fill-row c =
     omega (arith, o, n, a, b)
 
 sub-fill-row : tie.Need-sub-fill-row Inv-loop μ-loop
-sub-fill-row c = 
+sub-fill-row c =
     let i = row-of (valid _ (c .before .before .before .before .before .before .before .before .before .before .before .before .before .before .before .before .before .before .pre .0)) (c .before .before .before .before .before .loop-test .taken) in
     let o = i .order in
     let n = i .inside in
@@ -76,7 +76,7 @@ sub-fill-row c =
     omega (arith, o, n, a, b)
 
 part-fill-row-start : tie.Need-part-fill-row-start Inv-loop μ-loop
-part-fill-row-start c = 
+part-fill-row-start c =
     let i = row-of (valid _ (c .before .before .before .before .before .before .before .before .before .before .before .before .before .before .before .before .before .before .pre .0)) (c .before .before .before .before .before .loop-test .taken) in
     let o = i .order in
     let n = i .inside in
@@ -85,7 +85,7 @@ part-fill-row-start c =
     omega (arith, o, n, a, b)
 
 part-fill-row-end : tie.Need-part-fill-row-end Inv-loop μ-loop
-part-fill-row-end c = 
+part-fill-row-end c =
     let i = row-of (valid _ (c .before .before .before .before .before .before .before .before .before .before .before .before .before .before .before .before .before .before .pre .0)) (c .before .before .before .before .before .loop-test .taken) in
     let o = i .order in
     let n = i .inside in
@@ -94,7 +94,7 @@ part-fill-row-end c =
     omega (arith, o, n, a, b)
 
 mul-fill-row-2 : tie.Need-mul-fill-row-2 Inv-loop μ-loop
-mul-fill-row-2 c = 
+mul-fill-row-2 c =
     let i = row-of-values (valid _ (c .before .before .before .before .before .before .before .before .before .before .before .before .before .before .before .before .before .before .before .pre .0)) (c .before .before .before .before .before .before .loop-test .taken) in
     let o = i .order in
     let n = i .inside in
@@ -103,7 +103,7 @@ mul-fill-row-2 c =
     omega (arith, o, n, a, b)
 
 sub-fill-row-2 : tie.Need-sub-fill-row-2 Inv-loop μ-loop
-sub-fill-row-2 c = 
+sub-fill-row-2 c =
     let i = row-of-values (valid _ (c .before .before .before .before .before .before .before .before .before .before .before .before .before .before .before .before .before .before .before .pre .0)) (c .before .before .before .before .before .before .loop-test .taken) in
     let o = i .order in
     let n = i .inside in
@@ -112,7 +112,7 @@ sub-fill-row-2 c =
     omega (arith, o, n, a, b)
 
 part-fill-row-start-2 : tie.Need-part-fill-row-start-2 Inv-loop μ-loop
-part-fill-row-start-2 c = 
+part-fill-row-start-2 c =
     let i = row-of-values (valid _ (c .before .before .before .before .before .before .before .before .before .before .before .before .before .before .before .before .before .before .before .pre .0)) (c .before .before .before .before .before .before .loop-test .taken) in
     let o = i .order in
     let n = i .inside in
@@ -121,7 +121,7 @@ part-fill-row-start-2 c =
     omega (arith, o, n, a, b)
 
 part-fill-row-end-2 : tie.Need-part-fill-row-end-2 Inv-loop μ-loop
-part-fill-row-end-2 c = 
+part-fill-row-end-2 c =
     let i = row-of-values (valid _ (c .before .before .before .before .before .before .before .before .before .before .before .before .before .before .before .before .before .before .before .pre .0)) (c .before .before .before .before .before .before .loop-test .taken) in
     let o = i .order in
     let n = i .inside in
@@ -130,7 +130,7 @@ part-fill-row-end-2 c =
     omega (arith, o, n, a, b)
 
 fill-row-requires : tie.Need-fill-row-requires Inv-loop μ-loop
-fill-row-requires c κs = 
+fill-row-requires c κs =
     let p = c .before .before .before .before .before .before .before .before .before .before .before .before .before .before .before .before .before .before .before .before .before .before .before .before .before .before .before .pre in
     let ok = valid _ (p .0) in
     let i = c .before .before .before .before .before .before .before .before .before .before .before .before .before .before .before .loop .inv in
@@ -143,7 +143,7 @@ loop-less : tie.Need-loop-less Inv-loop μ-loop
 loop-less c = search needs
 
 loop-again : tie.Need-loop-again Inv-loop μ-loop
-loop-again c = 
+loop-again c =
     let p = c .before .before .before .before .before .before .before .before .before .before .before .before .before .before .before .before .before .before .before .before .before .before .before .before .before .before .before .before .before .before .before .before .before .before .before .before .before .before .before .before .before .before .pre in
     let ok = valid _ (p .0) in
     let i = c .before .before .before .before .before .before .before .before .before .before .before .before .before .before .before .before .before .before .before .before .before .before .before .before .before .before .before .before .before .before .loop .inv in

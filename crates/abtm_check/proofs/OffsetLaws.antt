@@ -13,18 +13,21 @@ use borrow.Author.Tests.{eqb-true, eq-eqb}
 use Rattle.hybit_core.proofs.BoolLaws.{same-test}
 use Rattle.word.specs.Bits.{has, below, members}
 use Rattle.word.proofs.BelowLaws.{length-below-le}
-use Rattle.abtm.specs.Tiles.{Listed, placesOf, places, slotCount, gapless}
+use Rattle.abtm.specs.Tiles.{Listed, kindIn, placesOf, places, slotCount, gapless}
 use Rattle.abtm_check.proofs.MetaLaws.{getD-zip, length-zip}
 
 -- ---- a tile takes at most 64 values
 
-pub places-few : (kind mask : ℕ) → length (placesOf kind mask) ≤ 64
+places-few : (kind mask : ℕ) → length (placesOf kind mask) ≤ 64
 unfolding placesOf members
 places-few kind mask = go (eqb kind 2)
   where
     go : (t : Bool) → length (cond t (below (λ i. true) 64) (below (has mask) 64)) ≤ 64
     go true = length-below-le (λ i. true) 64
     go false = length-below-le (has mask) 64
+
+pub slots-few : (mask meta n : ℕ) → n ≡ length (places mask meta) → n ≤ 64
+slots-few mask meta n e = omega (arith, e, places-few (kindIn meta) mask)
 
 -- ---- the tile at place i of the three lists
 
@@ -41,7 +44,9 @@ module _ (ms os ks : List ℕ) (so : length os ≡ length ms) (sk : length ks �
       (sym (add-one i))
 
   pub none-listed : (i : ℕ) → length ms ≤ i → drop i (zip ms (zip os ks)) ≡ []
-  none-listed i h = drop-of-length-le (zip ms (zip os ks)) (omega (arith, length-listed, h))
+  none-listed i h =
+      let over : length (zip ms (zip os ks)) ≤ i = omega (arith, length-listed, h) in
+      drop-of-length-le (zip ms (zip os ks)) over
 
 -- ---- the tiles from place i - 1 on are still to be tested, but for the offset of the first of them
 

@@ -1,8 +1,7 @@
 -- `abtm_check::offsets_follow` meets its contract. Assumes nothing.
 use Prim.Native.Nat.{_-_}
-use native.Mathlib.Omega.{arith}
 use lib.ListN.{length}
-use Rattle.abtm_check.proofs.OffsetLaws.{places-few, Following, follow-empty, follow-none, follow-more, follow-done}
+use Rattle.abtm_check.proofs.OffsetLaws.{slots-few, Following, follow-empty, follow-none, follow-more, follow-done}
 use borrow.Author.Needs.{needs}
 use Rattle.abtm_check.proofs.offsets_follow.Statement.{statement}
 use Rattle.abtm_check.proofs.offsets_follow.Tie as tie
@@ -14,13 +13,13 @@ abbrev μ-loop : tie.MeasureT-loop
 μ-loop masks value-offsets metas places holds₀ i₀ holds i = length masks - i
 
 returns : tie.Need-returns Inv-loop μ-loop
-returns c = search needs
+returns c = follow-empty _ _ _ _ (c .if1 .taken)
 
 shared-slice-read-holds : tie.Need-shared-slice-read-holds Inv-loop μ-loop
 shared-slice-read-holds c = search needs
 
 loop-holds : tie.Need-loop-holds Inv-loop μ-loop
-loop-holds c = search needs
+loop-holds c = follow-none _ _ _ (c .before .before .before .before .before .pre .0) (c .before .before .before .before .before .pre .1) _ (c .before .if1 .left)
 
 sub-slot-count : tie.Need-sub-slot-count Inv-loop μ-loop
 sub-slot-count c = search needs
@@ -62,7 +61,7 @@ wide-requires : tie.Need-wide-requires Inv-loop μ-loop
 wide-requires c κs = search needs
 
 also-at-requires : tie.Need-also-at-requires Inv-loop μ-loop
-also-at-requires c κs = search needs
+also-at-requires c κs = slots-few _ _ _ (c .before .before .before .slot-count .ensures)
 
 add-i : tie.Need-add-i Inv-loop μ-loop
 add-i c = search needs
@@ -71,7 +70,7 @@ loop-less : tie.Need-loop-less Inv-loop μ-loop
 loop-less c = search needs
 
 loop-again : tie.Need-loop-again Inv-loop μ-loop
-loop-again c = search needs
+loop-again c = follow-more _ _ _ (c .before .before .before .before .before .before .before .before .before .before .before .before .before .before .pre .0) (c .before .before .before .before .before .before .before .before .before .before .before .before .before .before .pre .1) _ _ _ (c .before .before .before .before .before .before .before .before .loop .inv) (c .before .before .before .before .before .before .before .loop-test .taken) _ _ _ (c .before .before .before .before .slot-count .ensures) (c .before .wide .ensures) (c .also-at .ensures)
 
 sub-last : tie.Need-sub-last Inv-loop μ-loop
 sub-last c = search needs
@@ -98,10 +97,10 @@ slot-count-requires-2 : tie.Need-slot-count-requires-2 Inv-loop μ-loop
 slot-count-requires-2 c κs = search needs
 
 also-at-requires-2 : tie.Need-also-at-requires-2 Inv-loop μ-loop
-also-at-requires-2 c κs = search needs
+also-at-requires-2 c κs = slots-few _ _ _ (c .slot-count2 .ensures)
 
 returns-2 : tie.Need-returns-2 Inv-loop μ-loop
-returns-2 c = search needs
+returns-2 c = follow-done _ _ _ (c .before .before .before .before .before .before .before .before .before .before .before .before .pre .0) (c .before .before .before .before .before .before .before .before .before .before .before .before .pre .1) _ _ _ (c .before .before .before .before .before .before .loop .inv) (search needs) _ _ (c .before .slot-count2 .ensures) (c .also-at2 .ensures)
 
 pub offsets-follow-spec : {M : Type 1} → statement M
 offsets-follow-spec =

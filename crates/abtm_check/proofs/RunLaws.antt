@@ -7,7 +7,7 @@ use native.Mathlib.Nat.{not-suc-le-zero}
 use native.Mathlib.Omega.{arith}
 use lib.Dec.{leb, eqb}
 use lib.ListN.{length, getD, take, drop, length-drop, take-append-drop}
-use lib.Seq.{slice, slice-empty, length-slice, length-take-le, take-take, take-all, drop-append-le}
+use lib.Seq.{slice, slice-empty, length-slice, length-take-le, take-take, drop-append-le}
 use lib.Ieee.{Float, nan}
 use borrow.Author.Tests.{eqb-true}
 use Rattle.hybit_core.proofs.BoolLaws.{and-left, and-right, and-first}
@@ -174,15 +174,15 @@ module _ (ms os ks : List ℕ) (vals : List Float) where
     pub tested-inside : from ≤ length vals
     tested-inside = omega (arith, inv .before, inside)
 
-    pub tested-done : length ms ≤ i → every solid (drop from vals) ≡ every (valuesOf vals) (zip ms (zip os ks))
+    pub tested-done : length ms ≤ i → (r : Bool) → r ≡ every solid (take (length vals - from) (drop from vals)) → r ≡ every (valuesOf vals) (zip ms (zip os ks))
     unfolding every gapless
-    tested-done h =
+    tested-done h r e =
         let none : drop i all ≡ [] = none-listed ms os ks so sk i h in
         let end : inv .start ≡ length vals = eqb-true (inv .start) (length vals) (sym (ap (gapless (inv .start) (length vals)) none) ∙ inv .rest) in
-        sym (inv .is
+        e ∙ ap (every solid) (part-is-slice from (length vals) vals)
+        ∙ sym (inv .is
         ∙ ap₂ (λ (b : ℕ) (l : List Listed). every solid (slice from b vals) && every (valuesOf vals) l) end none
-        ∙ and-true (every solid (slice from (length vals) vals))
-        ∙ ap (λ (l : List Float). every solid (drop from l)) (take-all (length vals) vals (omega arith)))
+        ∙ and-true (every solid (slice from (length vals) vals)))
 
 -- ---- the three tests are the rules of the values
 

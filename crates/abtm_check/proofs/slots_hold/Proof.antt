@@ -1,35 +1,28 @@
+-- `abtm_check::slots_hold` meets its contract. Assumes nothing.
+use mathlib.Core.Path.{sym}
+use Rattle.hybit_core.proofs.BoolLaws.{flag-on, flag-off}
+use Rattle.abtm_check.proofs.RunLaws.{slots-apart, slots-kind, slots-values}
 use borrow.Author.Needs.{needs}
 use Rattle.abtm_check.proofs.slots_hold.Statement.{statement}
 use Rattle.abtm_check.proofs.slots_hold.Tie as tie
-use Rattle.abtm_check.proofs.slots_hold.Reads as reads
-use Rattle.abtm_check.proofs.slots_hold.Lts as lts
-use Rattle.abtm_check.proofs.kinds_hold.Reads as kinds-hold-reads
-use Rattle.abtm_check.proofs.offsets_follow.Reads as offsets-follow-reads
-use Rattle.abtm_check.proofs.values_hold.Reads as values-hold-reads
 
--- src/lib.rt:199:9
 offsets-follow-requires : tie.Need-offsets-follow-requires
 offsets-follow-requires c κs = search needs
 
--- src/lib.rt:200:9
 returns : tie.Need-returns
-returns c = search needs
+returns c = slots-apart (c .before .before .before .before .before .before .args .masks .now) (c .before .before .before .before .before .before .args .value-offsets .now) (c .before .before .before .before .before .before .args .metas .now) (c .before .before .before .before .before .before .pre .0) (c .before .before .before .before .before .before .pre .1) (c .before .before .before .before .before .before .args .values .now) (flag-off _ _ (c .before .offsets-follow .ensures) (c .if1 .taken))
 
--- src/lib.rt:202:9
 kinds-hold-requires : tie.Need-kinds-hold-requires
 kinds-hold-requires c κs = search needs
 
--- src/lib.rt:203:9
 returns-2 : tie.Need-returns-2
-returns-2 c = search needs
+returns-2 c = slots-kind (c .before .before .before .before .before .before .before .before .args .masks .now) (c .before .before .before .before .before .before .before .before .args .value-offsets .now) (c .before .before .before .before .before .before .before .before .args .metas .now) (c .before .before .before .before .before .before .before .before .pre .0) (c .before .before .before .before .before .before .before .before .pre .1) (c .before .before .before .before .before .before .before .before .args .values .now) (flag-on _ _ (c .before .before .before .offsets-follow .ensures) (c .before .before .if1 .left)) (flag-off _ _ (c .before .kinds-hold .ensures) (c .if2 .taken))
 
--- src/lib.rt:205:5
 values-hold-requires : tie.Need-values-hold-requires
-values-hold-requires c κs = search needs
+values-hold-requires c κs = ((c .before .before .before .before .before .before .before .before .pre), sym (flag-on _ _ (c .before .before .before .offsets-follow .ensures) (c .before .before .if1 .left)))
 
--- src/lib.rt:195:1
 returns-3 : tie.Need-returns-3
-returns-3 c = search needs
+returns-3 c = slots-values (c .before .before .before .before .before .before .before .before .before .args .masks .now) (c .before .before .before .before .before .before .before .before .before .args .value-offsets .now) (c .before .before .before .before .before .before .before .before .before .args .metas .now) (c .before .before .before .before .before .before .before .before .before .pre .0) (c .before .before .before .before .before .before .before .before .before .pre .1) (c .before .before .before .before .before .before .before .before .before .args .values .now) (flag-on _ _ (c .before .before .before .before .offsets-follow .ensures) (c .before .before .before .if1 .left)) (flag-on _ _ (c .before .before .kinds-hold .ensures) (c .before .if2 .left)) _ (c .values-hold .ensures)
 
 pub slots-hold-spec : {M : Type 1} → statement M
 slots-hold-spec =

@@ -39,10 +39,10 @@ wide-requires : tie.Need-wide-requires Inv-loop μ-loop
 wide-requires c κs = search needs
 
 mul-all-solid : tie.Need-mul-all-solid Inv-loop μ-loop
-mul-all-solid c = search needs
+mul-all-solid c = omega (arith, dense-before _ _ _ _ (c .before .before .before .before .before .before .before .before .before .before .before .pre .0 .0) (c .before .before .before .before .before .before .before .before .before .before .before .pre .0 .1) _ _ (c .before .before .before .before .before .before .loop .inv) (search needs) _ (c .before .before .before .kind-in .ensures) (c .before .before .if1 .taken) _ (c .wide .ensures), dense-inside _ _ _ _ (c .before .before .before .before .before .before .before .before .before .before .before .pre .0 .0) (c .before .before .before .before .before .before .before .before .before .before .before .pre .0 .1) _ _ (c .before .before .before .before .before .before .loop .inv) (search needs) _ (c .before .before .before .kind-in .ensures) (c .before .before .if1 .taken) _ (c .wide .ensures))
 
 sub-all-solid : tie.Need-sub-all-solid Inv-loop μ-loop
-sub-all-solid c = search needs
+sub-all-solid c = omega (arith, dense-before _ _ _ _ (c .before .before .before .before .before .before .before .before .before .before .before .pre .0 .0) (c .before .before .before .before .before .before .before .before .before .before .before .pre .0 .1) _ _ (c .before .before .before .before .before .before .loop .inv) (search needs) _ (c .before .before .before .kind-in .ensures) (c .before .before .if1 .taken) _ (c .wide .ensures))
 
 part-all-solid-start : tie.Need-part-all-solid-start Inv-loop μ-loop
 part-all-solid-start c = dense-before _ _ _ _ (c .before .before .before .before .before .before .before .before .before .before .before .pre .0 .0) (c .before .before .before .before .before .before .before .before .before .before .before .pre .0 .1) _ _ (c .before .before .before .before .before .before .loop .inv) (search needs) _ (c .before .before .before .kind-in .ensures) (c .before .before .if1 .taken) _ (c .wide .ensures)
@@ -66,7 +66,7 @@ add-dense-holds : tie.Need-add-dense-holds Inv-loop μ-loop
 add-dense-holds c = omega (arith, dense-inside _ _ _ _ (c .before .before .before .before .before .before .before .before .before .before .before .before .before .before .before .pre .0 .0) (c .before .before .before .before .before .before .before .before .before .before .before .before .before .before .before .pre .0 .1) _ _ (c .before .before .before .before .before .before .before .before .before .before .loop .inv) (search needs) _ (c .before .before .before .before .before .before .before .kind-in .ensures) (c .before .before .before .before .before .before .if1 .taken) _ (c .before .before .before .before .wide .ensures))
 
 mul-dense-holds-2 : tie.Need-mul-dense-holds-2 Inv-loop μ-loop
-mul-dense-holds-2 c = search needs
+mul-dense-holds-2 c = omega (arith, dense-inside _ _ _ _ (c .before .before .before .before .before .before .before .before .before .before .before .before .before .before .before .pre .0 .0) (c .before .before .before .before .before .before .before .before .before .before .before .before .before .before .before .pre .0 .1) _ _ (c .before .before .before .before .before .before .before .before .before .before .loop .inv) (search needs) _ (c .before .before .before .before .before .before .before .kind-in .ensures) (c .before .before .before .before .before .before .if1 .taken) _ (c .before .before .before .before .wide .ensures))
 
 sub-dense-holds : tie.Need-sub-dense-holds Inv-loop μ-loop
 sub-dense-holds c = search needs
@@ -84,7 +84,7 @@ returns-2 : tie.Need-returns-2 Inv-loop μ-loop
 returns-2 c = dense-fails _ _ _ _ (c .before .before .before .before .before .before .before .before .before .before .before .before .before .before .before .before .before .before .pre .0 .0) (c .before .before .before .before .before .before .before .before .before .before .before .before .before .before .before .before .before .before .pre .0 .1) _ _ (c .before .before .before .before .before .before .before .before .before .before .before .before .before .loop .inv) (search needs) _ (c .before .before .before .before .before .before .before .before .before .before .kind-in .ensures) (c .before .before .before .before .before .before .before .before .before .if1 .taken) _ (c .before .before .before .before .before .before .before .wide .ensures) (flag-off _ _ (c .before .dense-holds .ensures) (c .if3 .taken))
 
 add-from : tie.Need-add-from Inv-loop μ-loop
-add-from c = search needs
+add-from c = omega (arith, dense-inside _ _ _ _ (c .before .before .before .before .before .before .before .before .before .before .before .before .before .before .before .before .before .before .pre .0 .0) (c .before .before .before .before .before .before .before .before .before .before .before .before .before .before .before .before .before .before .pre .0 .1) _ _ (c .before .before .before .before .before .before .before .before .before .before .before .before .before .loop .inv) (search needs) _ (c .before .before .before .before .before .before .before .before .before .before .kind-in .ensures) (c .before .before .before .before .before .before .before .before .before .if1 .taken) _ (c .before .before .before .before .before .before .before .wide .ensures))
 
 loop-less : tie.Need-loop-less Inv-loop μ-loop
 loop-less c = search needs
@@ -99,10 +99,10 @@ loop-again-2 : tie.Need-loop-again-2 Inv-loop μ-loop
 loop-again-2 c = tested-compact _ _ _ _ (c .before .before .before .before .before .before .before .before .before .pre .0 .0) (c .before .before .before .before .before .before .before .before .before .pre .0 .1) _ _ (c .before .before .before .before .loop .inv) (search needs) _ (c .before .kind-in .ensures) (c .if1 .left)
 
 mul-all-solid-2 : tie.Need-mul-all-solid-2 Inv-loop μ-loop
-mul-all-solid-2 c = search needs
+mul-all-solid-2 c = omega (arith, tested-inside _ _ _ _ (c .before .before .before .before .before .before .pre .0 .0) (c .before .before .before .before .before .before .pre .0 .1) _ _ (c .before .loop .inv))
 
 sub-all-solid-2 : tie.Need-sub-all-solid-2 Inv-loop μ-loop
-sub-all-solid-2 c = search needs
+sub-all-solid-2 c = omega (arith, tested-inside _ _ _ _ (c .before .before .before .before .before .before .pre .0 .0) (c .before .before .before .before .before .before .pre .0 .1) _ _ (c .before .loop .inv))
 
 part-all-solid-start-2 : tie.Need-part-all-solid-start-2 Inv-loop μ-loop
 part-all-solid-start-2 c = tested-inside _ _ _ _ (c .before .before .before .before .before .before .pre .0 .0) (c .before .before .before .before .before .before .pre .0 .1) _ _ (c .before .loop .inv)
@@ -114,7 +114,7 @@ all-solid-requires-2 : tie.Need-all-solid-requires-2 Inv-loop μ-loop
 all-solid-requires-2 c κs = search needs
 
 returns-3 : tie.Need-returns-3 Inv-loop μ-loop
-returns-3 c = tested-done _ _ _ _ (c .before .before .before .before .before .before .before .before .pre .0 .0) (c .before .before .before .before .before .before .before .before .pre .0 .1) _ _ (c .before .before .before .loop .inv) (search needs)
+returns-3 c = tested-done _ _ _ _ (c .before .before .before .before .before .before .before .before .pre .0 .0) (c .before .before .before .before .before .before .before .before .pre .0 .1) _ _ (c .before .before .before .loop .inv) (search needs) _ (c .all-solid2 .ensures)
 
 pub values-hold-spec : {M : Type 1} → statement M
 values-hold-spec =

@@ -1,19 +1,18 @@
 -- The values of a Dense tile: what the loops over its places find, and that the count of those that are neither NaN nor zero decides. Assumes nothing.
 use mathlib.Core.Bool.{Bool, true, false, not, cond, _&&_, and-comm, and-false}
-use mathlib.Core.List.{List, _∷_}
 use mathlib.Core.Path.{_≡_, refl, sym, ap, ap₂, _∙_}
-use Prim.Native.Nat.{ℕ, suc, _+_, _-_, _^_, _≤_, _<_, zero-le}
+use Prim.Native.Nat.{ℕ, _+_, _-_, _^_, _≤_, _<_, zero-le}
 use native.Mathlib.Numerals.{add-one}
 use native.Mathlib.Omega.{arith}
 use lib.Bits.{bitAnd}
 use lib.Dec.{eqb}
 use lib.ListN.{length, getD, drop}
 use mir.Val.{boolByte}
-use borrow.Author.Tests.{eqb-true, eq-eqb, not-false}
-use Rattle.hybit_core.proofs.BoolLaws.{and-left, same-test, not-both}
+use borrow.Author.Tests.{eqb-true, eq-eqb}
+use Rattle.hybit_core.proofs.BoolLaws.{same-test, not-both}
 use Rattle.lent.specs.Lists.{every}
-use Rattle.word.specs.Bits.{has, from, below, count, members, wordOf}
-use Rattle.word.proofs.BelowLaws.{below-zero, below-cong, length-below-suc, length-below-parts, from-none}
+use Rattle.word.specs.Bits.{has, below, count, members, wordOf}
+use Rattle.word.proofs.BelowLaws.{byte-le, below-zero, below-cong, length-below-suc, length-below-parts, from-none}
 use Rattle.word.proofs.BitLaws.{every-below, every-below-at}
 use Rattle.word.proofs.HasLaws.{has-ones}
 use Rattle.word.proofs.LowestLaws.{members-none}
@@ -76,12 +75,8 @@ module _ (s : ℕ → Bool) where
         record {
           inside = omega arith;
           is = ap₂ (λ (a c : ℕ). a + c) (inv .is) e ∙ sym (length-below-suc s i) ∙ ap (count s) (sym (add-one i));
-          few = omega (arith, inv .few, e, small (s i));
+          few = omega (arith, inv .few, e, byte-le (s i));
         }
-      where
-        small : (t : Bool) → boolByte t ≤ 1
-        small true = omega arith
-        small false = omega arith
 
     pub counted-done : 64 ≤ i → n ≡ count s 64
     counted-done h =

@@ -1,14 +1,13 @@
 -- The places of the tiles' values: the loop that compares each offset with the end of the tile before it. Assumes nothing.
-use mathlib.Core.Bool.{Bool, true, false, _&&_, and-assoc}
+use mathlib.Core.Bool.{Bool, true, false, cond, _&&_, and-assoc}
 use mathlib.Core.List.{List, [], _∷_, zip, zipWith}
 use mathlib.Core.Path.{_≡_, refl, sym, ap, ap₂, _∙_}
-use Prim.Native.Nat.{ℕ, suc, _+_, _-_, _≤_, _<_}
+use Prim.Native.Nat.{ℕ, _+_, _-_, _≤_, _<_}
 use native.Mathlib.Numerals.{add-one}
 use native.Mathlib.Omega.{arith}
 use lib.Dec.{eqb}
 use lib.ListN.{length, getD, drop, drop-of-length-le}
 use lib.Seq.{drop-cons}
-use mathlib.Core.Bool.{cond}
 use borrow.Author.Tests.{eqb-true, eq-eqb}
 use Rattle.hybit_core.proofs.BoolLaws.{same-test}
 use Rattle.word.specs.Bits.{has, below, members}
@@ -68,6 +67,8 @@ unfolding gapless
 first-left n e l = ap (λ (t : Bool). t && gapless (e .1 .0 + slotCount e) n l) (eq-eqb (e .1 .0) (e .1 .0) refl)
 
 pub record Following (ms os ks : List ℕ) (n : ℕ) (holds : Bool) (i : ℕ) : Type 0 where
+  pub offsets-long : length os ≡ length ms
+  pub metas-long : length ks ≡ length ms
   pub after : 1 ≤ i
   pub inside : i ≤ length ms
   pub is : gapless 0 n (zip ms (zip os ks)) ≡ (holds && gapless (getD os (i - 1) 0) n (drop (i - 1) (zip ms (zip os ks))))
@@ -77,16 +78,15 @@ unfolding gapless zip zipWith
 follow-empty [] os ks n e = turned n 0
 follow-empty (m ∷ ms) os ks n e = absurd (omega arith)
 
-module _ (ms os ks : List ℕ) (so : length os ≡ length ms) (sk : length ks ≡ length ms) (n : ℕ) where
+module _ (ms os ks : List ℕ) (n : ℕ) where
   abbrev all : List Listed
   all = zip ms (zip os ks)
 
-  tile : ℕ → Listed
-  tile i = (getD ms i 0, (getD os i 0, getD ks i 0))
-
-  pub follow-none : (length ms ≡ 0 → ⊥) → Following ms os ks n (eqb (getD os 0 0) 0) 1
-  follow-none h =
+  pub follow-none : length os ≡ length ms → length ks ≡ length ms → (length ms ≡ 0 → ⊥) → Following ms os ks n (eqb (getD os 0 0) 0) 1
+  follow-none so sk h =
       record {
+        offsets-long = so;
+        metas-long = sk;
         after = omega arith;
         inside = omega arith;
         is =
@@ -98,8 +98,8 @@ module _ (ms os ks : List ℕ) (so : length os ≡ length ms) (sk : length ks �
       here = listed ms os ks so sk 0 (omega arith)
 
   -- past the tile at place j
-  past : (j : ℕ) → j < length ms → gapless (getD os j 0) n (drop j all) ≡ gapless (getD os j 0 + length (places (getD ms j 0) (getD ks j 0))) n (drop (j + 1) all)
-  past j h = ap (gapless (getD os j 0) n) (listed ms os ks so sk j h) ∙ first-left n (getD ms j 0, (getD os j 0, getD ks j 0)) (drop (j + 1) all)
+  past : length os ≡ length ms → length ks ≡ length ms → (j : ℕ) → j < length ms → gapless (getD os j 0) n (drop j all) ≡ gapless (getD os j 0 + length (places (getD ms j 0) (getD ks j 0))) n (drop (j + 1) all)
+  past so sk j h = ap (gapless (getD os j 0) n) (listed ms os ks so sk j h) ∙ first-left n (getD ms j 0, (getD os j 0, getD ks j 0)) (drop (j + 1) all)
 
   module _ (holds : Bool) (i : ℕ) (inv : Following ms os ks n holds i) where
     pub follow-more : i < length ms → (c next : ℕ) (r : Bool) → c ≡ length (places (getD ms (i - 1) 0) (getD ks (i - 1) 0)) → next ≡ getD os i 0 → r ≡ (holds && eqb (getD os (i - 1) 0 + c) next) → Following ms os ks n r (i + 1)
@@ -107,14 +107,16 @@ module _ (ms os ks : List ℕ) (so : length os ≡ length ms) (sk : length ks �
         let up : i - 1 + 1 ≡ i = omega (arith, inv .after) in
         let down : i + 1 - 1 ≡ i = omega arith in
         let o : ℕ = getD os (i - 1) 0 in
-        let here : drop i all ≡ (getD ms i 0, (getD os i 0, getD ks i 0)) ∷ drop (i + 1) all = listed ms os ks so sk i h in
+        let here : drop i all ≡ (getD ms i 0, (getD os i 0, getD ks i 0)) ∷ drop (i + 1) all = listed ms os ks (inv .offsets-long) (inv .metas-long) i h in
         record {
+          offsets-long = inv .offsets-long;
+          metas-long = inv .metas-long;
           after = omega arith;
           inside = omega arith;
           is =
               inv .is
               ∙ ap (λ (t : Bool). holds && t)
-              (past (i - 1) (omega (arith, h))
+              (past (inv .offsets-long) (inv .metas-long) (i - 1) (omega (arith, h))
               ∙ ap₂ (λ (m j : ℕ). gapless (o + m) n (drop j all)) (sym ec) up
               ∙ ap (gapless (o + c) n) here
               ∙ first-apart (o + c) n (getD ms i 0, (getD os i 0, getD ks i 0)) (drop (i + 1) all)
@@ -127,10 +129,9 @@ module _ (ms os ks : List ℕ) (so : length os ≡ length ms) (sk : length ks �
     unfolding gapless
     follow-done h c r ec er =
         let at : i ≡ length ms = omega (arith, h, inv .inside) in
-        let j : ℕ = length ms - 1 in
         er
         ∙ sym (inv .is
         ∙ ap (λ (t : Bool). holds && t)
         (ap (λ (k : ℕ). gapless (getD os (k - 1) 0) n (drop (k - 1) all)) at
-        ∙ past (length ms - 1) (omega (arith, at, inv .after))
-        ∙ ap₂ (λ (m : ℕ) (l : List Listed). gapless (getD os (length ms - 1) 0 + m) n l) (sym ec) (none-listed ms os ks so sk (length ms - 1 + 1) (omega arith))))
+        ∙ past (inv .offsets-long) (inv .metas-long) (length ms - 1) (omega (arith, at, inv .after))
+        ∙ ap₂ (λ (m : ℕ) (l : List Listed). gapless (getD os (length ms - 1) 0 + m) n l) (sym ec) (none-listed ms os ks (inv .offsets-long) (inv .metas-long) (length ms - 1 + 1) (omega arith))))

@@ -2,8 +2,7 @@
 use mathlib.Core.Bool.{Bool, true, false, cond, _&&_, and-true, and-false, and-assoc}
 use mathlib.Core.List.{List, [], _∷_, _++_, zip, zipWith}
 use mathlib.Core.Path.{_≡_, refl, sym, ap, ap₂, _∙_}
-use Prim.Native.Nat.{ℕ, suc, _+_, _-_, _≤_, _<_}
-use native.Mathlib.Nat.{not-suc-le-zero}
+use Prim.Native.Nat.{ℕ, _+_, _-_, _≤_, _<_}
 use native.Mathlib.Omega.{arith}
 use lib.Dec.{leb, eqb}
 use lib.ListN.{length, getD, take, drop, length-drop, take-append-drop}
@@ -15,7 +14,7 @@ use Rattle.lent.specs.Lists.{part, every}
 use Rattle.lent.proofs.ListLaws.{part-lent}
 use Rattle.word.specs.Bits.{has, below}
 use Rattle.abtm.specs.Values.{solid, plusZero}
-use Rattle.abtm.specs.Tiles.{Listed, kindIn, places, slotCount, stored, valueRule, tileAt, tileRule, gapless, slotRules}
+use Rattle.abtm.specs.Tiles.{Listed, kindIn, places, stored, valueRule, tileAt, tileRule, gapless, slotRules}
 use Rattle.abtm.proofs.KindLaws.{dense-count}
 use Rattle.abtm_check.proofs.TilesLaws.{gapless-le}
 use Rattle.abtm_check.proofs.SlotLaws.{tileWith, dense-rule, compact-rule}
@@ -47,6 +46,8 @@ abbrev pub valuesOf : List Float → Listed → Bool
 valuesOf vals e = every (valueRule (e .0)) (stored (tileAt vals e))
 
 pub record Tested (ms os ks : List ℕ) (vals : List Float) (from i : ℕ) : Type 0 where
+  pub offsets-long : length os ≡ length ms
+  pub metas-long : length ks ≡ length ms
   -- where the tile at place i starts, or the end of the values
   pub start : ℕ
   pub before : from ≤ start
@@ -57,17 +58,19 @@ module _ (ms os ks : List ℕ) (vals : List Float) where
   abbrev all : List Listed
   all = zip ms (zip os ks)
 
-  pub tested-none : gapless 0 (length vals) (zip ms (zip os ks)) ≡ true → Tested ms os ks vals 0 0
+  pub tested-none : length os ≡ length ms → length ks ≡ length ms → gapless 0 (length vals) (zip ms (zip os ks)) ≡ true → Tested ms os ks vals 0 0
   unfolding every
-  tested-none g =
+  tested-none so sk g =
       record {
+        offsets-long = so;
+        metas-long = sk;
         start = 0;
         before = omega arith;
         rest = g;
         is = refl;
       }
 
-  module _ (so : length os ≡ length ms) (sk : length ks ≡ length ms) (from i : ℕ) (inv : Tested ms os ks vals from i) where
+  module _ (from i : ℕ) (inv : Tested ms os ks vals from i) where
     inside : inv .start ≤ length vals
     inside = gapless-le (inv .start) (length vals) (drop i all) (inv .rest)
 
@@ -80,7 +83,7 @@ module _ (ms os ks : List ℕ) (vals : List Float) where
 
       opened : (eqb (getD os i 0) (inv .start) && gapless (inv .start + size) (length vals) (drop (i + 1) all)) ≡ true
       unfolding gapless
-      opened = sym (ap (gapless (inv .start) (length vals)) (listed ms os ks so sk i h)) ∙ inv .rest
+      opened = sym (ap (gapless (inv .start) (length vals)) (listed ms os ks (inv .offsets-long) (inv .metas-long) i h)) ∙ inv .rest
 
       starts : getD os i 0 ≡ inv .start
       starts = eqb-true (getD os i 0) (inv .start) (and-left (eqb (getD os i 0) (inv .start)) (gapless (inv .start + size) (length vals) (drop (i + 1) all)) opened)
@@ -107,13 +110,15 @@ module _ (ms os ks : List ℕ) (vals : List Float) where
       unfolding every tileAt
       step =
           inv .is
-          ∙ ap (λ (l : List Listed). every solid (slice from (inv .start) vals) && every (valuesOf vals) l) (listed ms os ks so sk i h)
+          ∙ ap (λ (l : List Listed). every solid (slice from (inv .start) vals) && every (valuesOf vals) l) (listed ms os ks (inv .offsets-long) (inv .metas-long) i h)
           ∙ ap (λ (o : ℕ). every solid (slice from (inv .start) vals) && (every (valueRule (getD ms i 0)) (stored (tileWith (getD ms i 0) (getD ks i 0) (slice o (o + size) vals))) && others)) starts
 
       -- a Sparse or Bitmap tile is left for later
       pub tested-compact : (k : ℕ) → k ≡ kindIn (getD ks i 0) → (k ≡ 2 → ⊥) → Tested ms os ks vals from (i + 1)
       tested-compact k e d =
           record {
+            offsets-long = inv .offsets-long;
+            metas-long = inv .metas-long;
             start = inv .start + size;
             before = omega (arith, inv .before);
             rest = left;
@@ -162,6 +167,8 @@ module _ (ms os ks : List ℕ) (vals : List Float) where
         unfolding every
         tested-dense t u =
             record {
+              offsets-long = inv .offsets-long;
+              metas-long = inv .metas-long;
               start = at + 64;
               before = omega arith;
               rest = ap₂ (λ (a n : ℕ). gapless (a + n) (length vals) (drop (i + 1) all)) (ea ∙ starts) long ∙ left;
@@ -177,7 +184,7 @@ module _ (ms os ks : List ℕ) (vals : List Float) where
     pub tested-done : length ms ≤ i → (r : Bool) → r ≡ every solid (take (length vals - from) (drop from vals)) → r ≡ every (valuesOf vals) (zip ms (zip os ks))
     unfolding every gapless
     tested-done h r e =
-        let none : drop i all ≡ [] = none-listed ms os ks so sk i h in
+        let none : drop i all ≡ [] = none-listed ms os ks (inv .offsets-long) (inv .metas-long) i h in
         let end : inv .start ≡ length vals = eqb-true (inv .start) (length vals) (sym (ap (gapless (inv .start) (length vals)) none) ∙ inv .rest) in
         e ∙ ap (every solid) (part-is-slice from (length vals) vals)
         ∙ sym (inv .is

@@ -1,26 +1,22 @@
 -- The rules of a tile's values, by its places. Assumes nothing.
-use mathlib.Core.Bool.{Bool, true, false, not, cond, _&&_, and-true, and-false}
+use mathlib.Core.Bool.{Bool, true, cond, _&&_}
 use mathlib.Core.List.{List, [], _∷_, map, zip, zipWith}
 use mathlib.Core.Path.{_≡_, refl, sym, ap, ap₂, _∙_}
-use Prim.Native.Nat.{ℕ, zero, suc, _+_, _-_, _*_, _%_, _^_, _≤_, _<_}
-use native.Mathlib.Numerals.{add-one}
+use Prim.Native.Nat.{ℕ, zero, suc, _+_, _*_, _%_, _<_}
 use native.Mathlib.Omega.{arith}
-use lib.Dec.{eqb, ltb}
-use lib.ListN.{length, getD, take, drop, length-drop, drop-of-length-le}
-use lib.Seq.{slice, drop-cons, length-take-le}
+use lib.Dec.{ltb}
+use lib.ListN.{length, getD}
 use lib.Ieee.{Float, nan}
-use borrow.Author.Tests.{eq-eqb, ne-eqb, lt-ltb, ltb-true, not-true, not-false}
-use Rattle.hybit_core.proofs.BoolLaws.{and-left, and-right, and-both, is-within, is-above}
-use Rattle.lent.specs.Lists.{part, every}
-use Rattle.lent.proofs.ListLaws.{every-map, part-lent}
+use borrow.Author.Tests.{lt-ltb, ltb-true}
+use Rattle.hybit_core.proofs.BoolLaws.{and-left, and-right, and-both}
+use Rattle.lent.specs.Lists.{every}
+use Rattle.lent.proofs.ListLaws.{every-map}
 use Rattle.word.specs.Bits.{has, from, below, members}
 use Rattle.word.proofs.BitLaws.{every-below}
 use Rattle.csr32.specs.Csr.{Entry}
 use Rattle.abtm.specs.Values.{solid, plusZero}
-use Rattle.abtm.specs.Tiles.{Tile, Listed, wordIn, kindIn, placesOf, places, stored, valueRule, tileAt, tileRule, gapless, slotRules}
+use Rattle.abtm.specs.Tiles.{Tile, wordIn, kindIn, placesOf, places, stored, valueRule}
 use Rattle.abtm.proofs.KindLaws.{dense-places, compact-places}
-use Rattle.abtm_check.proofs.MetaLaws.{getD-zip, length-zip}
-use Rattle.abtm_check.proofs.TilesLaws.{gapless-le}
 
 -- ---- tests over places and values side by side
 

@@ -92,7 +92,7 @@ not-plus v h = go v (sym (eq-zero v) ∙ h)
     go (inf s) e = refl
     go (fin s m d) e = sym (ap (λ (t : Bool). not s && t) e ∙ and-false (not s))
 
--- ---- +0.0 is not counted among the values that are neither NaN nor zero
+-- ---- +0.0 is a zero
 
 pub plus-not-solid : (v : Float) → plusZero v ≡ true → solid v ≡ false
 plus-not-solid nan h = refl

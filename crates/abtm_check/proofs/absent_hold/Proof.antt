@@ -1,5 +1,4 @@
 -- `abtm_check::absent_hold` meets its contract. Assumes nothing.
-use mathlib.Core.Bool.{true}
 use native.Mathlib.Omega.{arith}
 use lib.Ieee.{nan}
 use lib.ListN.{length, getD}

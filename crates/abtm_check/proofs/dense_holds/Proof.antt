@@ -14,7 +14,9 @@ absent-hold-requires : tie.Need-absent-hold-requires
 absent-hold-requires c κs = search needs
 
 returns : tie.Need-returns
-returns c = dense-absent (has (c .before .before .before .args .mask)) (λ i. solid (getD (c .before .before .before .args .values .now) i nan)) (λ i. plusZero (getD (c .before .before .before .args .values .now) i nan)) (flag-off _ _ (c .before .absent-hold .ensures) (c .if1 .taken))
+returns c =
+    let a = c .before .before .before in
+    dense-absent (has (a .args .mask)) (λ i. solid (getD (a .args .values .now) i nan)) (λ i. plusZero (getD (a .args .values .now) i nan)) (flag-off _ _ (c .before .absent-hold .ensures) (c .if1 .taken))
 
 count-solid-requires : tie.Need-count-solid-requires
 count-solid-requires c κs = search needs
@@ -23,7 +25,9 @@ popcount-requires : tie.Need-popcount-requires
 popcount-requires c κs = search needs
 
 returns-2 : tie.Need-returns-2
-returns-2 c = dense-counted (has (c .before .before .before .before .before .args .mask)) (λ i. solid (getD (c .before .before .before .before .before .args .values .now) i nan)) (λ i. plusZero (getD (c .before .before .before .before .before .args .values .now) i nan)) (λ i. plus-not-solid (getD (c .before .before .before .before .before .args .values .now) i nan)) (flag-on _ _ (c .before .before .before .absent-hold .ensures) (c .before .before .if1 .left)) _ _ (c .before .count-solid .ensures) (c .popcount .ensures)
+returns-2 c =
+    let a = c .before .before .before .before .before in
+    dense-counted (has (a .args .mask)) (λ i. solid (getD (a .args .values .now) i nan)) (λ i. plusZero (getD (a .args .values .now) i nan)) (λ i. plus-not-solid (getD (a .args .values .now) i nan)) (flag-on _ _ (c .before .before .before .absent-hold .ensures) (c .before .before .if1 .left)) _ _ (c .before .count-solid .ensures) (c .popcount .ensures)
 
 pub dense-holds-spec : {M : Type 1} → statement M
 dense-holds-spec =

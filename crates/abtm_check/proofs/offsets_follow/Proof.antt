@@ -19,7 +19,7 @@ shared-slice-read-holds : tie.Need-shared-slice-read-holds Inv-loop μ-loop
 shared-slice-read-holds c = search needs
 
 loop-holds : tie.Need-loop-holds Inv-loop μ-loop
-loop-holds c = follow-none _ _ _ (c .before .before .before .before .before .pre .0) (c .before .before .before .before .before .pre .1) _ (c .before .if1 .left)
+loop-holds c = follow-none _ _ _ _ (c .before .before .before .before .before .pre .0) (c .before .before .before .before .before .pre .1) (c .before .if1 .left)
 
 sub-slot-count : tie.Need-sub-slot-count Inv-loop μ-loop
 sub-slot-count c = search needs
@@ -70,7 +70,7 @@ loop-less : tie.Need-loop-less Inv-loop μ-loop
 loop-less c = search needs
 
 loop-again : tie.Need-loop-again Inv-loop μ-loop
-loop-again c = follow-more _ _ _ (c .before .before .before .before .before .before .before .before .before .before .before .before .before .before .pre .0) (c .before .before .before .before .before .before .before .before .before .before .before .before .before .before .pre .1) _ _ _ (c .before .before .before .before .before .before .before .before .loop .inv) (c .before .before .before .before .before .before .before .loop-test .taken) _ _ _ (c .before .before .before .before .slot-count .ensures) (c .before .wide .ensures) (c .also-at .ensures)
+loop-again c = follow-more _ _ _ _ _ _ (c .before .before .before .before .before .before .before .before .loop .inv) (c .before .before .before .before .before .before .before .loop-test .taken) _ _ _ (c .before .before .before .before .slot-count .ensures) (c .before .wide .ensures) (c .also-at .ensures)
 
 sub-last : tie.Need-sub-last Inv-loop μ-loop
 sub-last c = search needs
@@ -100,7 +100,7 @@ also-at-requires-2 : tie.Need-also-at-requires-2 Inv-loop μ-loop
 also-at-requires-2 c κs = slots-few _ _ _ (c .slot-count2 .ensures)
 
 returns-2 : tie.Need-returns-2 Inv-loop μ-loop
-returns-2 c = follow-done _ _ _ (c .before .before .before .before .before .before .before .before .before .before .before .before .pre .0) (c .before .before .before .before .before .before .before .before .before .before .before .before .pre .1) _ _ _ (c .before .before .before .before .before .before .loop .inv) (search needs) _ _ (c .before .slot-count2 .ensures) (c .also-at2 .ensures)
+returns-2 c = follow-done _ _ _ _ _ _ (c .before .before .before .before .before .before .loop .inv) (search needs) _ _ (c .before .slot-count2 .ensures) (c .also-at2 .ensures)
 
 pub offsets-follow-spec : {M : Type 1} → statement M
 offsets-follow-spec =

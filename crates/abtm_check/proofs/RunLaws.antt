@@ -75,9 +75,6 @@ module _ (ms os ks : List ℕ) (vals : List Float) where
     inside = gapless-le (inv .start) (length vals) (drop i all) (inv .rest)
 
     module _ (h : i < length ms) where
-      abbrev here : Listed
-      here = (getD ms i 0, (getD os i 0, getD ks i 0))
-
       abbrev size : ℕ
       size = length (places (getD ms i 0) (getD ks i 0))
 

@@ -1,6 +1,9 @@
 pub mod MetaLaws
 pub mod TilesLaws
 pub mod ValueLaws
+pub mod DenseLaws
 pub mod SlotLaws
+pub mod OffsetLaws
+pub mod RunLaws
 pub mod RuleLaws
 pub mod RecordLaws

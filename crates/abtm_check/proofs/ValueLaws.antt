@@ -1,17 +1,15 @@
 -- What the code's tests of one value find. Assumes nothing.
 use mathlib.Core.Bool.{Bool, true, false, not, cond, _&&_, and-false, false≢true, true≢false}
-use mathlib.Core.List.{List}
 use mathlib.Core.Path.{_≡_, refl, sym, ap, _∙_}
 use Prim.Native.Nat.{ℕ, zero, suc, _+_, _-_, _*_, _/_, _^_, _<_}
 use native.Mathlib.Nat.{zero-mul, zero-div, mul-pos, zero-lt-suc}
 use native.Mathlib.Omega.{arith}
 use lib.Dec.{T, eqb, eqb·suc-zero}
-use lib.ListN.{getD}
 use lib.IntN.{ℤ}
 use lib.Ieee.{Float, nan, inf, fin, binary64, up, down, low, hid, top, lt, eq, isNan, below, size, span, climb, ofBits, toBits}
 use lib.Ieee.Fits.{up-pos}
 use borrow.Author.Tests.{lt-ltb, le-ltb}
-use Rattle.word.specs.Bits.{has}
+use Rattle.hybit_core.proofs.BoolLaws.{and-right}
 use Rattle.abtm.specs.Values.{isZero, solid, plusZero}
 use Rattle.abtm.proofs.ZeroLaws.{eq-zero}
 
@@ -94,10 +92,9 @@ not-plus v h = go v (sym (eq-zero v) ∙ h)
     go (inf s) e = refl
     go (fin s m d) e = sym (ap (λ (t : Bool). not s && t) e ∙ and-false (not s))
 
--- ---- the value at a place of a Dense tile
+-- ---- +0.0 is a zero
 
-abbrev pub placeHolds : ℕ → List Float → ℕ → Bool
-placeHolds mask vs i = cond (has mask i) (solid (getD vs i nan)) (plusZero (getD vs i nan))
-
-pub place-held : (mask : ℕ) (vs : List Float) (i : ℕ) (b r : Bool) → b ≡ has mask i → r ≡ cond b (solid (getD vs i nan)) (plusZero (getD vs i nan)) → r ≡ placeHolds mask vs i
-place-held mask vs i b r e h = h ∙ ap (λ (t : Bool). cond t (solid (getD vs i nan)) (plusZero (getD vs i nan))) e
+pub plus-not-solid : (v : Float) → plusZero v ≡ true → solid v ≡ false
+plus-not-solid nan h = refl
+plus-not-solid (inf s) h = sym h
+plus-not-solid (fin s m e) h = ap not (and-right (not s) (eqb m 0) h)

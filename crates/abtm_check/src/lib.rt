@@ -2,18 +2,19 @@
 ghost use mathlib.Core.Path.{_≡_};
 ghost use mathlib.Core.Bool.{true, cond, not, _&&_};
 ghost use mathlib.Core.List.{map, zip};
-ghost use Prim.Native.Nat.{_≤_, _<_, _^_};
-ghost use lib.Dec.{ltb, eqb};
+ghost use mir.Val.{boolByte};
+ghost use Prim.Native.Nat.{_+_, _≤_, _<_, _^_};
+ghost use lib.Dec.{leb, ltb, eqb};
 ghost use lib.ListN.{length, getD};
 ghost use lib.Ieee.{nan};
 ghost use Rattle.hybit_core.specs.Table.{told};
 ghost use Rattle.lent.specs.Lists.{part, every, climbs};
-ghost use Rattle.word.specs.Bits.{has, below};
+ghost use Rattle.word.specs.Bits.{has, below, count};
 ghost use Rattle.csr32.specs.Csr.{framedLists};
 ghost use Rattle.csr32.proofs.FrameLaws.{RowIn};
 ghost use Rattle.topology.specs.Words.{asWords, wordRule, rowRule, rowRules, wordRules};
 ghost use Rattle.abtm.specs.Values.{solid, plusZero};
-ghost use Rattle.abtm.specs.Tiles.{wordIn, places, asTiles, slotRules, tileRule, tilesRules, tilesAnswer};
+ghost use Rattle.abtm.specs.Tiles.{Listed, wordIn, kindIn, stored, tileAt, asTiles, valueRule, gapless, slotRules, tilesRules, tilesAnswer};
 use hybit_core::HybitError;
 use hybit_core::Verdict;
 
@@ -51,43 +52,143 @@ fn is_plus_zero(v: f64) -> bool
     false
 }
 
-fn value_holds(present: bool, v: f64) -> bool
-    ensures { λ r. ⌜ r ≡ cond present (solid v) (plusZero v) ⌝ }
-{
-    if present {
-        return also_solid(true, v);
-    }
-    is_plus_zero(v)
-}
-
-// The 64 values of a Dense tile.
-fn dense_holds(mask: u64, values: &[f64]) -> bool
+// Whether the absent places of a Dense tile hold +0.0.
+fn absent_hold(mask: u64, values: &[f64]) -> bool
     requires { ⌜ length (now values) ≡ 64 ⌝ }
-    ensures { λ r. ⌜ r ≡ every (λ i. cond (has mask i) (solid (getD (now (values .entry)) i nan)) (plusZero (getD (now (values .entry)) i nan))) (below (λ i. true) 64) ⌝ }
+    ensures { λ r. ⌜ r ≡ every (λ i. plusZero (getD (now (values .entry)) i nan)) (below (λ i. not (has mask i)) 64) ⌝ }
 {
-    let mut i: usize = 0;
-    while i < 64 {
-        if !value_holds(word::contains_offset(mask, i), values[i]) {
+    let mut rest = word::and_not(18446744073709551615, mask);
+    while rest != 0 {
+        if !is_plus_zero(values[word::lowest(rest)]) {
             return false;
         }
-        i += 1;
+        rest = word::without_lowest(rest);
     }
     true
 }
 
-// A tile with its values: no kind 3, and the rule of each value.
-fn tile_holds(mask: u64, meta: u32, values: &[f64]) -> bool
-    requires { ⌜ length (now values) ≡ length (places mask meta) ⌝ }
-    ensures { λ r. ⌜ r ≡ tileRule (record { mask = mask; meta = meta; slots = now (values .entry) }) ⌝ }
+fn one_if_solid(v: f64) -> usize
+    ensures { λ r. ⌜ r ≡ boolByte (solid v) ⌝ }
 {
-    let kind = abtm::kind_in(meta);
-    if kind == 3 {
+    if v < 0.0 {
+        return 1;
+    }
+    if 0.0 < v {
+        return 1;
+    }
+    0
+}
+
+// How many of a Dense tile's 64 values are neither NaN nor zero.
+fn count_solid(values: &[f64]) -> usize
+    requires { ⌜ length (now values) ≡ 64 ⌝ }
+    ensures { λ r. ⌜ r ≡ count (λ i. solid (getD (now (values .entry)) i nan)) 64 ⌝ }
+{
+    let mut solid: usize = 0;
+    let mut i: usize = 0;
+    while i < 64 {
+        solid += one_if_solid(values[i]);
+        i += 1;
+    }
+    solid
+}
+
+// The 64 values of a Dense tile. Where the absent places hold zeros, the present ones hold none exactly if as many values as there
+// are present places are neither NaN nor zero.
+fn dense_holds(mask: u64, values: &[f64]) -> bool
+    requires { ⌜ length (now values) ≡ 64 ⌝ }
+    ensures { λ r. ⌜ r ≡ every (λ i. cond (has mask i) (solid (getD (now (values .entry)) i nan)) (plusZero (getD (now (values .entry)) i nan))) (below (λ i. true) 64) ⌝ }
+{
+    if !absent_hold(mask, values) {
         return false;
     }
-    if kind == 2 {
-        return dense_holds(mask, values);
+    count_solid(values) == word::popcount(mask)
+}
+
+fn also_at(holds: bool, offset: u32, slots: usize, next: usize) -> bool
+    requires { ⌜ slots ≤ 64 ⌝ }
+    ensures { λ r. ⌜ r ≡ (holds && eqb (offset + slots) next) ⌝ }
+{
+    if hybit_core::wide(offset) + slots == next {
+        return holds;
     }
-    all_solid(values)
+    false
+}
+
+// Whether the first tile's values start at 0, each tile's end where the next one's start, and the last one's end at `places`. The
+// test runs to the end, as all_solid does.
+fn offsets_follow(masks: &[u64], value_offsets: &[u32], metas: &[u32], places: usize) -> bool
+    requires { ⌜ (length (now «value_offsets») ≡ length (now masks)) × (length (now metas) ≡ length (now masks)) ⌝ }
+    ensures { λ r. ⌜ r ≡ gapless 0 places (zip (now (masks .entry)) (zip (now («value_offsets» .entry)) (now (metas .entry)))) ⌝ }
+{
+    if masks.len() == 0 {
+        return places == 0;
+    }
+    let mut holds = value_offsets[0] == 0;
+    let mut i: usize = 1;
+    while i < masks.len() {
+        let slots = abtm::slot_count(masks[i - 1], metas[i - 1]);
+        holds = also_at(
+            holds,
+            value_offsets[i - 1],
+            slots,
+            hybit_core::wide(value_offsets[i]),
+        );
+        i += 1;
+    }
+    let last = masks.len() - 1;
+    also_at(
+        holds,
+        value_offsets[last],
+        abtm::slot_count(masks[last], metas[last]),
+        places,
+    )
+}
+
+fn also_kind(holds: bool, meta: u32) -> bool
+    ensures { λ r. ⌜ r ≡ (holds && leb (kindIn meta) 2) ⌝ }
+{
+    if abtm::kind_in(meta) <= 2 {
+        return holds;
+    }
+    false
+}
+
+// No kind 3.
+fn kinds_hold(metas: &[u32]) -> bool
+    ensures { λ r. ⌜ r ≡ every (λ m. leb (kindIn m) 2) (now (metas .entry)) ⌝ }
+{
+    let mut holds = true;
+    let mut i: usize = 0;
+    while i < metas.len() {
+        holds = also_kind(holds, metas[i]);
+        i += 1;
+    }
+    holds
+}
+
+// The rule of each value: those of the Sparse and Bitmap tiles between two Dense ones are tested together.
+fn values_hold(masks: &[u64], value_offsets: &[u32], metas: &[u32], values: &[f64]) -> bool
+    requires { ⌜ (length (now «value_offsets») ≡ length (now masks)) × (length (now metas) ≡ length (now masks)) ⌝ ∗ ⌜ gapless 0 (length (now values)) (zip (now masks) (zip (now «value_offsets») (now metas))) ≡ true ⌝ }
+    ensures { λ r. ⌜ r ≡ every (λ (e : Listed). every (valueRule (e .0)) (stored (tileAt (now (values .entry)) e))) (zip (now (masks .entry)) (zip (now («value_offsets» .entry)) (now (metas .entry)))) ⌝ }
+{
+    let mut from: usize = 0;
+    let mut next: usize = 0;
+    while next < masks.len() {
+        let i = next;
+        next += 1;
+        if abtm::kind_in(metas[i]) == 2 {
+            let at = hybit_core::wide(value_offsets[i]);
+            if !all_solid(&values[from..at]) {
+                return false;
+            }
+            if !dense_holds(masks[i], &values[at..at + 64]) {
+                return false;
+            }
+            from = at + 64;
+        }
+    }
+    all_solid(&values[from..])
 }
 
 // The tiles' values follow one another without gaps and keep their rules.
@@ -95,23 +196,13 @@ fn slots_hold(masks: &[u64], value_offsets: &[u32], metas: &[u32], values: &[f64
     requires { ⌜ (length (now «value_offsets») ≡ length (now masks)) × (length (now metas) ≡ length (now masks)) ⌝ }
     ensures { λ r. ⌜ r ≡ slotRules (now (values .entry)) (zip (now (masks .entry)) (zip (now («value_offsets» .entry)) (now (metas .entry)))) ⌝ }
 {
-    let mut at: usize = 0;
-    let mut i: usize = 0;
-    while i < masks.len() {
-        if hybit_core::wide(value_offsets[i]) != at {
-            return false;
-        }
-        let slots = abtm::slot_count(masks[i], metas[i]);
-        if values.len() - at < slots {
-            return false;
-        }
-        if !tile_holds(masks[i], metas[i], &values[at..at + slots]) {
-            return false;
-        }
-        at += slots;
-        i += 1;
+    if !offsets_follow(masks, value_offsets, metas, values.len()) {
+        return false;
     }
-    at == values.len()
+    if !kinds_hold(metas) {
+        return false;
+    }
+    values_hold(masks, value_offsets, metas, values)
 }
 
 // The two tests of a row below run to its end, as all_solid does.

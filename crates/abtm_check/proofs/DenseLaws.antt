@@ -1,0 +1,146 @@
+-- The values of a Dense tile: what the loops over its places find, and that the count of those that are neither NaN nor zero decides. Assumes nothing.
+use mathlib.Core.Bool.{Bool, true, false, not, cond, _&&_, and-comm, and-false}
+use mathlib.Core.Path.{_≡_, refl, sym, ap, ap₂, _∙_}
+use Prim.Native.Nat.{ℕ, _+_, _-_, _^_, _≤_, _<_, zero-le}
+use native.Mathlib.Numerals.{add-one}
+use native.Mathlib.Omega.{arith}
+use lib.Bits.{bitAnd}
+use lib.Dec.{eqb}
+use lib.ListN.{length, getD, drop}
+use mir.Val.{boolByte}
+use borrow.Author.Tests.{eqb-true, eq-eqb}
+use Rattle.hybit_core.proofs.BoolLaws.{same-test, not-both}
+use Rattle.lent.specs.Lists.{every}
+use Rattle.word.specs.Bits.{has, below, count, members, wordOf}
+use Rattle.word.proofs.BelowLaws.{byte-le, below-zero, below-cong, length-below-suc, length-below-parts, from-none}
+use Rattle.word.proofs.BitLaws.{every-below, every-below-at}
+use Rattle.word.proofs.HasLaws.{has-ones}
+use Rattle.word.proofs.LowestLaws.{members-none}
+use Rattle.word.proofs.OpLaws.{has-word, rest-is}
+use Rattle.word.proofs.WalkLaws.{walk-step}
+use Rattle.word.proofs.WordLaws.{empty-at}
+
+-- ---- the absent places: those of `rest` are still to be tested
+
+pub record Absent (z : ℕ → Bool) (mask rest : ℕ) : Type 0 where
+  pub fits : rest < 2 ^ 64
+  pub is : every z (below (λ i. not (has mask i)) 64) ≡ every z (members rest)
+
+module _ (z : ℕ → Bool) (mask : ℕ) where
+  pub absent-none : (rest : ℕ) → rest < 2 ^ 64 → rest ≡ wordOf (λ i. has (2 ^ 64 - 1) i && not (has mask i)) → Absent z mask rest
+  unfolding members
+  absent-none rest h e =
+      record {
+        fits = h;
+        is =
+            ap (every z)
+            (below-cong (λ i. not (has mask i)) (has rest) 64
+            (λ i l. sym (ap (λ (w : ℕ). has w i) e ∙ has-word (λ i. has (2 ^ 64 - 1) i && not (has mask i)) i l ∙ ap (λ (t : Bool). t && not (has mask i)) (has-ones 64 i l))));
+      }
+
+  module _ (rest : ℕ) (inv : Absent z mask rest) where
+    module _ (some : rest ≡ 0 → ⊥) (low : ℕ) (el : low ≡ getD (members rest) 0 64) where
+      pub absent-fails : false ≡ z low → false ≡ every z (below (λ i. not (has mask i)) 64)
+      unfolding every
+      absent-fails f =
+          sym (inv .is ∙ ap (every z) (walk-step rest low (bitAnd rest (rest - 1)) (inv .fits) some el (rest-is rest (inv .fits) some))
+          ∙ ap (λ (t : Bool). t && every z (members (bitAnd rest (rest - 1)))) (sym f))
+
+      pub absent-more : true ≡ z low → (r : ℕ) → members r ≡ drop 1 (members rest) → r < 2 ^ 64 → Absent z mask r
+      unfolding every
+      absent-more t r e h =
+          record {
+            fits = h;
+            is = inv .is ∙ ap (every z) (walk-step rest low r (inv .fits) some el e) ∙ ap (λ (s : Bool). s && every z (members r)) (sym t);
+          }
+
+    pub absent-done : rest ≡ 0 → true ≡ every z (below (λ i. not (has mask i)) 64)
+    unfolding every
+    absent-done e = sym (inv .is ∙ ap (λ (w : ℕ). every z (members w)) e ∙ ap (every z) members-none)
+
+-- ---- the count of the values at places below i
+
+pub record Counted (s : ℕ → Bool) (i n : ℕ) : Type 0 where
+  pub inside : i ≤ 64
+  pub is : n ≡ count s i
+  pub few : n ≤ i
+
+module _ (s : ℕ → Bool) where
+  pub counted-none : Counted s 0 0
+  counted-none = record { inside = omega arith; is = sym (ap length (below-zero s)); few = omega arith }
+
+  module _ (i n : ℕ) (inv : Counted s i n) where
+    pub counted-more : i < 64 → (b : ℕ) → b ≡ boolByte (s i) → Counted s (i + 1) (n + b)
+    counted-more h b e =
+        record {
+          inside = omega arith;
+          is = ap₂ (λ (a c : ℕ). a + c) (inv .is) e ∙ sym (length-below-suc s i) ∙ ap (count s) (sym (add-one i));
+          few = omega (arith, inv .few, e, byte-le (s i));
+        }
+
+    pub counted-done : 64 ≤ i → n ≡ count s 64
+    counted-done h =
+        let e : i ≡ 64 = omega (arith, inv .inside, h) in
+        inv .is ∙ ap (count s) e
+
+-- ---- h: the place is present; s: its value is neither NaN nor zero; z: its value is +0.0
+
+module _ (h s z : ℕ → Bool) where
+  abbrev keeps : ℕ → Bool
+  keeps i = cond (h i) (s i) (z i)
+
+  of-absent : every keeps (below (λ i. true) 64) ≡ true → every z (below (λ i. not (h i)) 64) ≡ true
+  of-absent e = every-below z (λ i. not (h i)) 64 (λ i l a. go i (h i) a (every-below-at keeps (λ i. true) 64 i e l refl))
+    where
+      go : (i : ℕ) (t : Bool) → not t ≡ true → cond t (s i) (z i) ≡ true → z i ≡ true
+      go i true a k = not-both true refl (sym a)
+      go i false a k = k
+
+  pub dense-absent : false ≡ every z (below (λ i. not (h i)) 64) → false ≡ every keeps (below (λ i. true) 64)
+  dense-absent f = go (every keeps (below (λ i. true) 64)) refl
+    where
+      go : (t : Bool) → every keeps (below (λ i. true) 64) ≡ t → false ≡ t
+      go true e = not-both (every z (below (λ i. not (h i)) 64)) (of-absent e) (sym f)
+      go false e = refl
+
+  module _ (apart : (i : ℕ) → z i ≡ true → s i ≡ false) (absent : true ≡ every z (below (λ i. not (h i)) 64)) where
+    at-absent : (i : ℕ) → i < 64 → h i ≡ false → z i ≡ true
+    at-absent i l e = every-below-at z (λ i. not (h i)) 64 i (sym absent) l (ap not e)
+
+    -- none is counted at an absent place
+    none-absent : count (λ i. s i && not (h i)) 64 ≡ 0
+    unfolding below
+    none-absent = ap length (from-none (λ i. s i && not (h i)) 0 64 (λ i a l. go i (omega arith) (h i) refl))
+      where
+        go : (i : ℕ) → i < 64 → (t : Bool) → h i ≡ t → (s i && not t) ≡ false
+        go i l true e = and-false (s i)
+        go i l false e = ap (λ (t : Bool). t && true) (apart i (at-absent i l e))
+
+    counts-say : count s 64 ≡ count h 64 → every keeps (below (λ i. true) 64) ≡ true
+    unfolding below
+    counts-say e =
+        every-below keeps (λ i. true) 64 (λ i l t. go i l (h i) refl (s i) refl (empty-at (λ i. h i && not (s i)) 0 64 i lacking zero-le (omega arith)))
+      where
+        same : count (λ i. s i && h i) 64 ≡ count (λ i. h i && s i) 64
+        same = ap length (below-cong (λ i. s i && h i) (λ i. h i && s i) 64 (λ i l. and-comm (s i) (h i)))
+
+        lacking : count (λ i. h i && not (s i)) 64 ≡ 0
+        lacking = omega (arith, e, none-absent, same, length-below-parts s h 64, length-below-parts h s 64)
+
+        go : (i : ℕ) → i < 64 → (t : Bool) → h i ≡ t → (u : Bool) → s i ≡ u → (t && not u) ≡ false → cond t u (z i) ≡ true
+        go i l true e true f k = refl
+        go i l true e false f k = sym k
+        go i l false e u f k = at-absent i l e
+
+    says-counts : every keeps (below (λ i. true) 64) ≡ true → count s 64 ≡ count h 64
+    says-counts e = ap length (below-cong s h 64 (λ i l. go i l (h i) refl (every-below-at keeps (λ i. true) 64 i e l refl)))
+      where
+        go : (i : ℕ) → i < 64 → (t : Bool) → h i ≡ t → cond t (s i) (z i) ≡ true → s i ≡ t
+        go i l true e k = k
+        go i l false e k = apart i k
+
+    pub dense-counted : (n m : ℕ) → n ≡ count s 64 → m ≡ count h 64 → eqb n m ≡ every keeps (below (λ i. true) 64)
+    dense-counted n m en em =
+        same-test (eqb n m) (every keeps (below (λ i. true) 64))
+        (λ e. counts-say (sym en ∙ eqb-true n m e ∙ em))
+        (λ e. eq-eqb n m (en ∙ says-counts e ∙ sym em))

@@ -1,0 +1,69 @@
+-- `abtm_check::absent_hold` meets its contract. Assumes nothing.
+use native.Mathlib.Omega.{arith}
+use lib.Ieee.{nan}
+use lib.ListN.{length, getD}
+use Rattle.hybit_core.proofs.BoolLaws.{flag-on, flag-off}
+use Rattle.word.specs.Bits.{members}
+use Rattle.word.proofs.WalkLaws.{walk-less, lowest-small}
+use Rattle.abtm.specs.Values.{plusZero}
+use Rattle.abtm_check.proofs.DenseLaws.{Absent, absent-none, absent-more, absent-fails, absent-done}
+use borrow.Author.Needs.{needs}
+use Rattle.abtm_check.proofs.absent_hold.Statement.{statement}
+use Rattle.abtm_check.proofs.absent_hold.Tie as tie
+
+abbrev Inv-loop : tie.InvT-loop
+Inv-loop mask values rest₀ rest = Absent (λ k. plusZero (getD values k nan)) mask rest
+
+abbrev μ-loop : tie.MeasureT-loop
+μ-loop mask values rest₀ rest = length (members rest)
+
+and-not-requires : tie.Need-and-not-requires Inv-loop μ-loop
+and-not-requires c κs = search needs
+
+loop-holds : tie.Need-loop-holds Inv-loop μ-loop
+loop-holds c = absent-none _ _ _ (c .and-not .ok) (c .and-not .ensures)
+
+lowest-requires : tie.Need-lowest-requires Inv-loop μ-loop
+lowest-requires c κs = search needs
+
+mul-is-plus-zero : tie.Need-mul-is-plus-zero Inv-loop μ-loop
+mul-is-plus-zero c = omega (arith, lowest-small _ (c .before .before .loop .inv .fits) (c .before .loop-test .taken) _ (c .lowest .ensures))
+
+shared-slice-read-is-plus-zero : tie.Need-shared-slice-read-is-plus-zero Inv-loop μ-loop
+shared-slice-read-is-plus-zero c = omega (arith, lowest-small _ (c .before .before .before .loop .inv .fits) (c .before .before .loop-test .taken) _ (c .before .lowest .ensures))
+
+is-plus-zero-requires : tie.Need-is-plus-zero-requires Inv-loop μ-loop
+is-plus-zero-requires c κs = search needs
+
+returns : tie.Need-returns Inv-loop μ-loop
+returns c = absent-fails _ _ _ (c .before .before .before .before .before .loop .inv) (c .before .before .before .before .loop-test .taken) _ (c .before .before .before .lowest .ensures) (flag-off _ _ (c .before .is-plus-zero .ensures) (c .if1 .taken))
+
+without-lowest-requires : tie.Need-without-lowest-requires Inv-loop μ-loop
+without-lowest-requires c κs = search needs
+
+loop-less : tie.Need-loop-less Inv-loop μ-loop
+loop-less c = walk-less _ (c .before .before .before .before .before .before .loop .inv .fits) (c .before .before .before .before .before .loop-test .taken) _ (c .without-lowest .ensures)
+
+loop-again : tie.Need-loop-again Inv-loop μ-loop
+loop-again c = absent-more _ _ _ (c .before .before .before .before .before .before .loop .inv) (c .before .before .before .before .before .loop-test .taken) _ (c .before .before .before .before .lowest .ensures) (flag-on _ _ (c .before .before .is-plus-zero .ensures) (c .before .if1 .left)) _ (c .without-lowest .ensures) (c .without-lowest .ok)
+
+returns-2 : tie.Need-returns-2 Inv-loop μ-loop
+returns-2 c = absent-done _ _ _ (c .before .loop .inv) (c .loop-test .left)
+
+pub absent-hold-spec : {M : Type 1} → statement M
+absent-hold-spec =
+    tie.close
+    (tie.spec
+    Inv-loop
+    μ-loop
+    and-not-requires
+    loop-holds
+    lowest-requires
+    mul-is-plus-zero
+    shared-slice-read-is-plus-zero
+    is-plus-zero-requires
+    returns
+    without-lowest-requires
+    loop-less
+    loop-again
+    returns-2)

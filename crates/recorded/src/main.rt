@@ -1491,7 +1491,8 @@ fn metadata_first_report(text: &[u8], at: &mut usize) {
     float(report.empty_word_ratio());
 }
 
-fn tile_parts(text: &[u8], at: &mut usize) {
+// The row's part of the masks, of the offsets or of the metas.
+fn tile_part(call: u64, text: &[u8], at: &mut usize) {
     let mut row_tile_ptr_room = [0u32; ROOM];
     let mut masks_room = [0u64; ROOM];
     let mut value_offsets_room = [0u32; ROOM];
@@ -1506,51 +1507,57 @@ fn tile_parts(text: &[u8], at: &mut usize) {
     let values = read_f64(text, at, &mut values_room);
     let nnz = index(text, at);
     let row = index(text, at);
-    let mut a: u32 = 99;
-    let mut b: u32 = 99;
-    let mut c: u32 = 99;
-    let of_masks = abtm_rows::row_tile_masks(
-        nrows,
-        ncols,
-        ptr,
-        masks,
-        offsets,
-        metas,
-        values,
-        nnz,
-        row,
-        &mut a,
-    );
-    let of_offsets = abtm_rows::row_tile_value_offsets(
-        nrows,
-        ncols,
-        ptr,
-        masks,
-        offsets,
-        metas,
-        values,
-        nnz,
-        row,
-        &mut b,
-    );
-    let of_metas = abtm_rows::row_tile_metas(
-        nrows,
-        ncols,
-        ptr,
-        masks,
-        offsets,
-        metas,
-        values,
-        nnz,
-        row,
-        &mut c,
-    );
-    refusal(a, 0, 0);
-    size(hybit_core::wide(b));
-    size(hybit_core::wide(c));
-    show_u64(of_masks);
-    show_u32(of_offsets);
-    show_u32(of_metas);
+    let mut n: u32 = 99;
+    match call {
+        251 => {
+            let part = abtm_rows::row_tile_masks(
+                nrows,
+                ncols,
+                ptr,
+                masks,
+                offsets,
+                metas,
+                values,
+                nnz,
+                row,
+                &mut n,
+            );
+            refusal(n, 0, 0);
+            show_u64(part);
+        }
+        252 => {
+            let part = abtm_rows::row_tile_value_offsets(
+                nrows,
+                ncols,
+                ptr,
+                masks,
+                offsets,
+                metas,
+                values,
+                nnz,
+                row,
+                &mut n,
+            );
+            refusal(n, 0, 0);
+            show_u32(part);
+        }
+        _ => {
+            let part = abtm_rows::row_tile_metas(
+                nrows,
+                ncols,
+                ptr,
+                masks,
+                offsets,
+                metas,
+                values,
+                nnz,
+                row,
+                &mut n,
+            );
+            refusal(n, 0, 0);
+            show_u32(part);
+        }
+    }
 }
 
 fn tile_value(text: &[u8], at: &mut usize) {
@@ -1681,8 +1688,8 @@ fn record_calls(call: u64, text: &[u8], at: &mut usize) {
         248 => metadata_first_row_part(text, at),
         249 => metadata_first_report(text, at),
         250 => topology_word(text, at),
-        251 => tile_parts(text, at),
-        _ => tile_value(text, at),
+        254 => tile_value(text, at),
+        _ => tile_part(call, text, at),
     }
 }
 

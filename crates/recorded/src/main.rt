@@ -1491,169 +1491,8 @@ fn metadata_first_report(text: &[u8], at: &mut usize) {
     float(report.empty_word_ratio());
 }
 
-// The refusal's number of a row's part of the masks, and the part.
-fn tile_masks_refusal(
-    nrows: usize,
-    ncols: usize,
-    ptr: &[u32],
-    masks: &[u64],
-    offsets: &[u32],
-    metas: &[u32],
-    values: &[f64],
-    nnz: usize,
-    row: usize,
-) -> u32 {
-    let mut refusal: u32 = 99;
-    abtm_rows::row_tile_masks(
-        nrows,
-        ncols,
-        ptr,
-        masks,
-        offsets,
-        metas,
-        values,
-        nnz,
-        row,
-        &mut refusal,
-    );
-    refusal
-}
-
-fn show_tile_masks(
-    nrows: usize,
-    ncols: usize,
-    ptr: &[u32],
-    masks: &[u64],
-    offsets: &[u32],
-    metas: &[u32],
-    values: &[f64],
-    nnz: usize,
-    row: usize,
-) {
-    let mut refusal: u32 = 99;
-    show_u64(abtm_rows::row_tile_masks(
-        nrows,
-        ncols,
-        ptr,
-        masks,
-        offsets,
-        metas,
-        values,
-        nnz,
-        row,
-        &mut refusal,
-    ));
-}
-
-// The refusal's number of a row's part of the offsets, and the part.
-fn tile_offsets_refusal(
-    nrows: usize,
-    ncols: usize,
-    ptr: &[u32],
-    masks: &[u64],
-    offsets: &[u32],
-    metas: &[u32],
-    values: &[f64],
-    nnz: usize,
-    row: usize,
-) -> u32 {
-    let mut refusal: u32 = 99;
-    abtm_rows::row_tile_value_offsets(
-        nrows,
-        ncols,
-        ptr,
-        masks,
-        offsets,
-        metas,
-        values,
-        nnz,
-        row,
-        &mut refusal,
-    );
-    refusal
-}
-
-fn show_tile_offsets(
-    nrows: usize,
-    ncols: usize,
-    ptr: &[u32],
-    masks: &[u64],
-    offsets: &[u32],
-    metas: &[u32],
-    values: &[f64],
-    nnz: usize,
-    row: usize,
-) {
-    let mut refusal: u32 = 99;
-    show_u32(abtm_rows::row_tile_value_offsets(
-        nrows,
-        ncols,
-        ptr,
-        masks,
-        offsets,
-        metas,
-        values,
-        nnz,
-        row,
-        &mut refusal,
-    ));
-}
-
-// The refusal's number of a row's part of the metas, and the part.
-fn tile_metas_refusal(
-    nrows: usize,
-    ncols: usize,
-    ptr: &[u32],
-    masks: &[u64],
-    offsets: &[u32],
-    metas: &[u32],
-    values: &[f64],
-    nnz: usize,
-    row: usize,
-) -> u32 {
-    let mut refusal: u32 = 99;
-    abtm_rows::row_tile_metas(
-        nrows,
-        ncols,
-        ptr,
-        masks,
-        offsets,
-        metas,
-        values,
-        nnz,
-        row,
-        &mut refusal,
-    );
-    refusal
-}
-
-fn show_tile_metas(
-    nrows: usize,
-    ncols: usize,
-    ptr: &[u32],
-    masks: &[u64],
-    offsets: &[u32],
-    metas: &[u32],
-    values: &[f64],
-    nnz: usize,
-    row: usize,
-) {
-    let mut refusal: u32 = 99;
-    show_u32(abtm_rows::row_tile_metas(
-        nrows,
-        ncols,
-        ptr,
-        masks,
-        offsets,
-        metas,
-        values,
-        nnz,
-        row,
-        &mut refusal,
-    ));
-}
-
-fn tile_parts(text: &[u8], at: &mut usize) {
+// The row's part of the masks, of the offsets or of the metas.
+fn tile_part(call: u64, text: &[u8], at: &mut usize) {
     let mut row_tile_ptr_room = [0u32; ROOM];
     let mut masks_room = [0u64; ROOM];
     let mut value_offsets_room = [0u32; ROOM];
@@ -1668,36 +1507,57 @@ fn tile_parts(text: &[u8], at: &mut usize) {
     let values = read_f64(text, at, &mut values_room);
     let nnz = index(text, at);
     let row = index(text, at);
-    refusal(
-        tile_masks_refusal(nrows, ncols, ptr, masks, offsets, metas, values, nnz, row),
-        0,
-        0,
-    );
-    size(hybit_core::wide(tile_offsets_refusal(
-        nrows,
-        ncols,
-        ptr,
-        masks,
-        offsets,
-        metas,
-        values,
-        nnz,
-        row,
-    )));
-    size(hybit_core::wide(tile_metas_refusal(
-        nrows,
-        ncols,
-        ptr,
-        masks,
-        offsets,
-        metas,
-        values,
-        nnz,
-        row,
-    )));
-    show_tile_masks(nrows, ncols, ptr, masks, offsets, metas, values, nnz, row);
-    show_tile_offsets(nrows, ncols, ptr, masks, offsets, metas, values, nnz, row);
-    show_tile_metas(nrows, ncols, ptr, masks, offsets, metas, values, nnz, row);
+    let mut n: u32 = 99;
+    match call {
+        251 => {
+            let part = abtm_rows::row_tile_masks(
+                nrows,
+                ncols,
+                ptr,
+                masks,
+                offsets,
+                metas,
+                values,
+                nnz,
+                row,
+                &mut n,
+            );
+            refusal(n, 0, 0);
+            show_u64(part);
+        }
+        252 => {
+            let part = abtm_rows::row_tile_value_offsets(
+                nrows,
+                ncols,
+                ptr,
+                masks,
+                offsets,
+                metas,
+                values,
+                nnz,
+                row,
+                &mut n,
+            );
+            refusal(n, 0, 0);
+            show_u32(part);
+        }
+        _ => {
+            let part = abtm_rows::row_tile_metas(
+                nrows,
+                ncols,
+                ptr,
+                masks,
+                offsets,
+                metas,
+                values,
+                nnz,
+                row,
+                &mut n,
+            );
+            refusal(n, 0, 0);
+            show_u32(part);
+        }
+    }
 }
 
 fn tile_value(text: &[u8], at: &mut usize) {
@@ -1828,8 +1688,8 @@ fn record_calls(call: u64, text: &[u8], at: &mut usize) {
         248 => metadata_first_row_part(text, at),
         249 => metadata_first_report(text, at),
         250 => topology_word(text, at),
-        251 => tile_parts(text, at),
-        _ => tile_value(text, at),
+        254 => tile_value(text, at),
+        _ => tile_part(call, text, at),
     }
 }
 

@@ -38,8 +38,10 @@ pub enum Below {
     Report(Counts),
     /// A word of a topology by its number and mask, with an offset that is an ordinal too: its methods.
     TopologyWord(u32, u64, usize),
-    /// The row's parts of the masks, offsets and metas.
-    TileParts(Tiles, usize),
+    /// The row's part of the masks.
+    TileMasks(Tiles, usize),
+    TileOffsets(Tiles, usize),
+    TileMetas(Tiles, usize),
     /// A meta and a mask, thresholds and a count, a float by its bits: what the crate of a tile says of each.
     TileValue(u32, u64, [u8; 2], usize, u64),
 }
@@ -107,8 +109,10 @@ impl Below {
             Below::RowValues(..) => 248,
             Below::Report(..) => 249,
             Below::TopologyWord(..) => 250,
-            Below::TileParts(..) => 251,
-            Below::TileValue(..) => 252,
+            Below::TileMasks(..) => 251,
+            Below::TileOffsets(..) => 252,
+            Below::TileMetas(..) => 253,
+            Below::TileValue(..) => 254,
         }
     }
 }

@@ -285,7 +285,9 @@ pub fn parts_below(call: &mut Below) -> Vec<Part<'_>> {
         Below::RowValues(s, row) => join(store(s), vec![Size(row)]),
         Below::Report(counts) => counts.iter_mut().map(Size).collect(),
         Below::TopologyWord(number, mask, n) => vec![Num32(number), Num64(mask), Size(n)],
-        Below::TileParts(t, row) => join(tiles(t), vec![Size(row)]),
+        Below::TileMasks(t, row) | Below::TileOffsets(t, row) | Below::TileMetas(t, row) => {
+            join(tiles(t), vec![Size(row)])
+        }
         Below::TileValue(meta, mask, [sparse, dense], count, bits) => vec![
             Num32(meta),
             Num64(mask),

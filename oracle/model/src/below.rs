@@ -34,7 +34,9 @@ pub fn judge_below(call: &Below) -> Outcome {
         Below::RowValues(store, row) => row_values(store, *row),
         Below::Report(counts) => report(counts),
         Below::TopologyWord(number, mask, n) => topology_word(*number, *mask, *n),
-        Below::TileParts(tiles, row) => tile_parts(tiles, *row),
+        Below::TileMasks(tiles, row) => tile_part(tiles, *row, |t| t.masks.clone()),
+        Below::TileOffsets(tiles, row) => tile_part(tiles, *row, |t| wide(&t.value_offsets)),
+        Below::TileMetas(tiles, row) => tile_part(tiles, *row, |t| wide(&t.metas)),
         Below::TileValue(meta, mask, thresholds, count, bits) => {
             let zero = f64::from_bits(*bits) == 0.0;
             let mut outcome = abtm::judge_value(*meta, *mask, *thresholds, *count);
@@ -130,7 +132,6 @@ fn ones(masks: &[u64]) -> usize {
 }
 
 fn clear_past(rows: usize, words: usize, room: &WordsRoom) -> Outcome {
-    let wide = |list: &[u32]| list.iter().map(|&n| n.into()).collect();
     lists(vec![
         zeros_from(wide(&room.row_word_ptr), rows),
         zeros_from(wide(&room.word_indices), words),
@@ -200,19 +201,13 @@ fn topology_word(number: u32, mask: u64, n: usize) -> Outcome {
     outcome
 }
 
-/// The three parts, each of a call with its own lent number.
-fn tile_parts(tiles: &Tiles, row: usize) -> Outcome {
-    let wide = |list: &[u32]| list.iter().map(|&n| n.into()).collect();
-    let mut outcome = verdict(abtm::check_row(tiles, row));
-    outcome.result = vec![outcome.number.into(); 2];
-    outcome.lists = vec![Vec::new(); 3];
-    if outcome.number == 0 {
-        let places = part(&tiles.row_tile_ptr, row);
-        outcome.lists = vec![
-            tiles.masks[places.clone()].to_vec(),
-            wide(&tiles.value_offsets[places.clone()]),
-            wide(&tiles.metas[places]),
-        ];
-    }
-    outcome
+fn wide(list: &[u32]) -> Vec<u64> {
+    list.iter().map(|&n| n.into()).collect()
+}
+
+/// The row's part of one of the tile lists.
+fn tile_part(tiles: &Tiles, row: usize, list: fn(&Tiles) -> Vec<u64>) -> Outcome {
+    handed_back(abtm::check_row(tiles, row), || {
+        list(tiles)[part(&tiles.row_tile_ptr, row)].to_vec()
+    })
 }

@@ -254,11 +254,13 @@ fn reports(all: &mut Vec<Below>) {
 
 /// The parts of every row of tiles and of rows past the last (7), and of tiles that are refused.
 fn tile_parts(all: &mut Vec<Below>) {
-    for t in tile_stores::damaged() {
-        all.push(Below::TileParts(t, 2));
-    }
-    for row in [0, 1, 2, 3, HUGE] {
-        all.push(Below::TileParts(tile_stores::trial(), row));
+    for part in [Below::TileMasks, Below::TileOffsets, Below::TileMetas] {
+        for t in tile_stores::damaged() {
+            all.push(part(t, 2));
+        }
+        for row in [0, 1, 2, 3, HUGE] {
+            all.push(part(tile_stores::trial(), row));
+        }
     }
 }
 

@@ -1,11 +1,11 @@
 -- Kinds, places and thresholds, as the code tests them. Assumes nothing.
 use mathlib.Core.Path.{_≡_, refl, sym, ap, _∙_}
 use mathlib.Core.Bool.{Bool, true, false, cond, _&&_}
-use Prim.Native.Nat.{ℕ, _≤_, _<_, _^_}
+use Prim.Native.Nat.{ℕ, _≤_, _<_}
 use native.Mathlib.Omega.{arith}
-use lib.Dec.{eqb, leb, ltb}
+use lib.Dec.{leb, ltb}
 use lib.ListN.{length}
-use Rattle.hybit_core.specs.Answer.{Given, gives, refuses, refused, accepted, plain, demand, answers}
+use Rattle.hybit_core.specs.Answer.{gives, refuses, refused, accepted, plain, answers}
 use Rattle.hybit_core.proofs.BoolLaws.{and-first, and-next, is-equal, is-unequal, is-below, is-not-below, is-within, is-above}
 use Rattle.hybit_core.proofs.AnswerLaws.{last-fails, last-passes}
 use Rattle.word.specs.Bits.{has, below, count, members}

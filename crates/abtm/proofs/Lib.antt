@@ -1,2 +1,3 @@
 pub mod ZeroLaws
 pub mod KindLaws
+pub mod PlaceLaws

@@ -1,6 +1,6 @@
 -- Tiles (document 01, "Tiles"): one tile, the record of a membership and values under thresholds, reading a record, its rules.
 use Prim.Native.Nat.{ℕ, _+_, _*_, _/_, _%_, _^_}
-use mathlib.Core.Bool.{Bool, true, false, cond, _&&_}
+use mathlib.Core.Bool.{Bool, true, cond, _&&_}
 use mathlib.Core.List.{List, [], _∷_, map, zip}
 use lib.Dec.{leb, ltb, eqb}
 use lib.ListN.{length}

@@ -7,7 +7,7 @@ use native.Mathlib.Nat.{mod-eq-of-lt}
 use native.Mathlib.Numerals.{add-one}
 use native.Mathlib.Omega.{arith}
 use native.Mathlib.Decide.{decLt}
-use borrow.Author.Tests.{le-leb, lt-leb, ltb-true, ltb-false, lt-ltb}
+use borrow.Author.Tests.{le-leb, lt-leb, ltb-true, ltb-false}
 use lib.Dec.{leb, ltb}
 use lib.Ieee.{Float}
 use lib.ListN.{length, take, drop, set, length-append, length-set, length-take, length-drop, length-map}
@@ -24,19 +24,19 @@ use Rattle.hybit_core.proofs.AnswerLaws.{accepted-by, refused-by, demand-accept
 use Rattle.lent.specs.Lists.{joined, each, starts, spread}
 use Rattle.lent.specs.Lent.{padded, built}
 use Rattle.lent.proofs.ListLaws.{length-starts}
-use Rattle.word.specs.Bits.{below, count, maskOf, wordsOf}
+use Rattle.word.specs.Bits.{below, maskOf, wordsOf}
 use Rattle.csr32.specs.Csr.{Csr, csrAnswer, entries}
 use Rattle.csr32.proofs.CsrLaws.{Valid, valid}
 use Rattle.topology.specs.Words.{setBits}
 use Rattle.topology.proofs.TopologyLaws.{row-bits}
-use Rattle.topology.proofs.ScanLaws.{bits-append}
 use Rattle.abtm.specs.declared.AbtmConfig.{AbtmConfig}
 use Rattle.abtm.specs.Values.{isZero, mergedNonzero}
-use Rattle.abtm.specs.Tiles.{Tile, Tiles, tileOf, rowTilesOf, laid, masksOf, metasOf, offsetsOf, slotsOf, tilesOf}
+use Rattle.abtm.specs.Tiles.{Tile, Tiles, tileOf, rowTilesOf, masksOf, slotsOf, tilesOf}
 use Rattle.abtm.specs.Calls.{thresholdAnswer}
+use Rattle.abtm.proofs.PlaceLaws.{laid-long}
 use Rattle.abtm_build.specs.declared.Cursor.{Cursor}
 use Rattle.abtm_build.specs.Build.{tilesFrom, TileRoom, asTileRoom, fitsTiles, beforeAnswer, tileAnswer, usedTiles}
-use Rattle.abtm_build.specs.Written.{rowOf, Lists, Held, Rows}
+use Rattle.abtm_build.specs.Written.{rowOf, Held, Rows}
 use Rattle.abtm_build.proofs.WroteLaws.{masks-append}
 use Rattle.abtm_build.proofs.FewLaws.{tiles-few, slots-few-in}
 
@@ -80,11 +80,6 @@ cut : (a b : Bool) → a ≡ false → (a && b) ≡ false
 cut a b h = ap (λ (x : Bool). x && b) h
 
 -- ---- the lists of the tiles
-
-laid-long : (k : ℕ) (ns : List ℕ) → length (laid k ns) ≡ length ns
-unfolding laid
-laid-long k [] = refl
-laid-long k (n ∷ ns) = ap suc (laid-long (k + n) ns)
 
 module _ (m : Csr) (h : AbtmConfig) where
   abbrev ts : List Tile

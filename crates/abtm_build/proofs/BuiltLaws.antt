@@ -2,8 +2,8 @@
 -- of nonzero entries is not zero, with that value. Assumes nothing.
 use mathlib.Core.Bool.{Bool, true, not}
 use mathlib.Core.List.{List, [], _∷_, map, zip, zipWith}
-use mathlib.Core.Path.{_≡_, refl, sym, ap, _∙_}
-use Prim.Native.Nat.{ℕ, _≤_, _<_, _^_}
+use mathlib.Core.Path.{_≡_, refl}
+use Prim.Native.Nat.{ℕ, _<_}
 use lib.Ieee.{Float}
 use Rattle.hybit_core.specs.Answer.{accepted}
 use Rattle.hybit_core.specs.Floats.{finite}

@@ -1,10 +1,10 @@
 -- Laws of the tiles of a word, a block and a window. Assumes nothing.
-use mathlib.Core.Bool.{Bool, true, false, not, cond}
+use mathlib.Core.Bool.{Bool, false, not, cond}
 use mathlib.Core.List.{List, [], _∷_, _++_, map, append-nil}
 use mathlib.Core.Path.{_≡_, refl, sym, ap, ap₂, subst, _∙_}
 use Prim.Native.Nat.{ℕ, suc, _+_, _-_, _*_, _/_, _%_, _^_, _≤_, _<_}
 use native.Mathlib.Omega.{arith}
-use lib.Dec.{eqb, leb}
+use lib.Dec.{eqb}
 use lib.ListN.{length, getD, take, drop, set, length-map, length-drop}
 use lib.Seq.{length-take-le, getD-take, getD-drop}
 use lib.Ieee.{Float, nan}
@@ -24,7 +24,8 @@ use Rattle.abtm.specs.Tiles.{Tile, placesOf, places, kindOf, metaOf, tileOf, la
 use Rattle.abtm_build.specs.declared.Cursor.{Cursor}
 use Rattle.abtm_build.specs.Window.{maskAt, hitAt, tilesBetween, windowValue, Marked}
 use Rattle.abtm_build.specs.Written.{Laid, Wrote, Bounded, Lists}
-use Rattle.abtm_build.proofs.RowsLaws.{places-few, slots-few}
+use Rattle.abtm.proofs.PlaceLaws.{places-few}
+use Rattle.abtm_build.proofs.RowsLaws.{slots-few}
 use Rattle.abtm_build.proofs.WroteLaws.{wrote-none, wrote-join, wrote-as, tiles-split, tiles-skip, tiles-cong}
 
 -- ---- one tile
@@ -63,15 +64,6 @@ module _ (e : Tile) (at next : Cursor) where
   }
 
 -- ---- the kind in a meta
-
-pub kind-small : (h : AbtmConfig) (n : ℕ) → kindOf h n ≤ 2
-unfolding kindOf
-kind-small h n = go (leb n (h .«sparse_max_nnz»)) (leb (h .«dense_min_nnz») n)
-  where
-    go : (s t : Bool) → cond s 0 (cond t 2 1) ≤ 2
-    go true t = omega arith
-    go false true = omega arith
-    go false false = omega arith
 
 pub slots-small : (mask meta r : ℕ) → r ≡ length (places mask meta) → r ≤ 64
 slots-small mask meta r e = omega (arith, e, places-few (meta / 2 ^ 30) mask)

@@ -1,22 +1,21 @@
 -- A plot list has no more tiles than entries, and no tile more than 64 values. Assumes nothing.
-use mathlib.Core.Bool.{Bool, true, false, not, _&&_, _||_}
-use mathlib.Core.List.{List, [], _∷_, _++_, map, zip, zipWith}
+use mathlib.Core.Bool.{Bool, true, false, not, _&&_}
+use mathlib.Core.List.{List, [], _∷_, zip, zipWith}
 use mathlib.Core.Path.{_≡_, refl, sym, ap, _∙_, subst}
 use mir.Val.{boolByte}
-use Prim.Native.Nat.{ℕ, zero, suc, _+_, _*_, _≤_, _<_, _^_, zero-le}
+use Prim.Native.Nat.{ℕ, zero, suc, _*_, _≤_, _<_, _^_, zero-le}
 use native.Mathlib.Omega.{arith}
 use native.Mathlib.Decide.{decLt}
 use lib.Dec.{eqb}
 use lib.ListN.{length, length-append, length-map}
 use lib.Ieee.{Float}
-use borrow.Author.Tests.{eq-eqb, ne-eqb}
-use Rattle.hybit_core.specs.Floats.{zero64}
+use borrow.Author.Tests.{ne-eqb}
 use Rattle.lent.specs.Lists.{joined, part, only, some, spread}
 use Rattle.lent.proofs.ListLaws.{length-only, joined-le, spread-append}
 use Rattle.word.specs.Bits.{below, count, wordsOf, maskOf}
 use Rattle.word.proofs.BelowLaws.{below-zero, below-cong, below-trim, length-below-suc, length-below-parts, length-below-or}
 use Rattle.word.proofs.BitLaws.{words-le}
-use Rattle.csr32.specs.Csr.{Csr, Entry, entries, present, merged}
+use Rattle.csr32.specs.Csr.{Csr, Entry, entries, present}
 use Rattle.csr32.proofs.CsrLaws.{Valid}
 use Rattle.csr32.proofs.FrameLaws.{Framed, parts-all}
 use Rattle.csr32.proofs.MergedLaws.{merged-absent}

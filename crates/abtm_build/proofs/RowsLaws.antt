@@ -1,39 +1,32 @@
 -- Laws of one row of tiles after the others, and of all rows. Assumes nothing.
-use mathlib.Core.Bool.{Bool, true, false, not, cond}
-use mathlib.Core.List.{List, [], _∷_, _++_, map, zip, map-append}
+use mathlib.Core.Bool.{Bool, not, cond}
+use mathlib.Core.List.{List, [], _∷_, _++_, map, map-append}
 use mathlib.Core.Path.{_≡_, refl, sym, ap, ap₂, _∙_, subst}
 use Prim.Native.Nat.{ℕ, suc, _+_, _-_, _*_, _/_, _%_, _^_, _≤_, _<_, zero-le}
 use native.Mathlib.Nat.{mod-eq-of-lt}
 use native.Mathlib.Numerals.{add-one}
 use native.Mathlib.Omega.{arith}
-use lib.Dec.{eqb, ltb}
 use lib.Ieee.{Float}
-use lib.ListN.{length, getD, take, drop, set, replicate, length-set, length-append, length-map}
+use lib.ListN.{length, take, set, length-set, length-append, length-map}
 use lib.Seq.{take-suc-set}
 use Rattle.hybit_core.specs.Floats.{zero64}
-use Rattle.lent.specs.Lists.{joined, each, part, every, spread}
+use Rattle.lent.specs.Lists.{joined, each, spread}
 use Rattle.lent.proofs.ListLaws.{spread-append}
-use Rattle.word.specs.Bits.{has, below, members, maskOf, hit, wordsOf, ceil64}
+use Rattle.word.specs.Bits.{has, maskOf, hit, wordsOf, ceil64}
 use Rattle.word.proofs.BelowLaws.{length-below-le}
 use Rattle.csr32.specs.Csr.{Csr, Entry, entries}
-use Rattle.csr32.proofs.CsrLaws.{Valid, entries-lent}
+use Rattle.csr32.proofs.CsrLaws.{Valid}
 use Rattle.topology.specs.Words.{setBits}
 use Rattle.topology.proofs.CallLaws.{bits-le}
 use Rattle.abtm.specs.declared.AbtmConfig.{AbtmConfig}
 use Rattle.abtm.specs.Values.{isZero, mergedNonzero}
 use Rattle.abtm.specs.Tiles.{Tile, placesOf, metaOf, tileOf, rowTilesOf, laid, masksOf, metasOf, offsetsOf, slotsOf}
+use Rattle.abtm.proofs.PlaceLaws.{places-few}
 use Rattle.abtm_build.specs.declared.Cursor.{Cursor}
-use Rattle.abtm_build.specs.Written.{Wrote, Bounded, Lists, rowOf, Held, Rows}
+use Rattle.abtm_build.specs.Written.{Wrote, Bounded, rowOf, Held, Rows}
 use Rattle.abtm_build.proofs.WroteLaws.{slots-append, masks-append, offsets-append}
 
 -- ---- a tile takes at most 64 values
-
-pub places-few : (kind mask : ℕ) → length (placesOf kind mask) ≤ 64
-unfolding placesOf members
-places-few kind mask = go (eqb kind 2) where
-  go : (t : Bool) → length (cond t (below (λ i. true) 64) (below (has mask) 64)) ≤ 64
-  go true = length-below-le (λ i. true) 64
-  go false = length-below-le (has mask) 64
 
 pub slots-few : (h : AbtmConfig) (v : ℕ → Float) (m : ℕ → ℕ) (ws : List ℕ) → length (slotsOf (map (λ w. tileOf h v (m w) w) ws)) ≤ 64 * length ws
 unfolding spread tileOf

@@ -1,29 +1,28 @@
 -- Tiles written one after another, and the tiles of some words of a row. Assumes nothing.
 use mathlib.Core.Bool.{Bool, true, false, not, cond, _&&_}
-use mathlib.Core.List.{List, [], _∷_, _++_, map, map-append, append-nil}
-use mathlib.Core.Path.{_≡_, refl, sym, ap, ap₂, _∙_, subst}
-use Prim.Native.Nat.{ℕ, zero, suc, _+_, _-_, _*_, _/_, _^_, _≤_, _<_}
+use mathlib.Core.List.{List, [], _∷_, _++_, map, map-append}
+use mathlib.Core.Path.{_≡_, refl, sym, ap, _∙_, subst}
+use Prim.Native.Nat.{ℕ, _+_, _-_, _*_, _/_, _^_, _≤_, _<_}
 use native.Mathlib.Nat.{add-zero}
 use native.Mathlib.Omega.{arith}
 use lib.Dec.{eqb, ltb, leb}
 use borrow.Author.Tests.{ltb-true, ltb-false, leb-true, leb-false}
-use lib.ListN.{length, length-append, length-map}
+use lib.ListN.{length, length-append}
 use lib.Ieee.{Float}
 use Rattle.hybit_core.specs.Floats.{zero64}
-use Rattle.hybit_core.proofs.BoolLaws.{is-not-below}
-use Rattle.lent.specs.Lists.{consIf, spread}
+use Rattle.lent.specs.Lists.{spread}
 use Rattle.lent.specs.Lent.{Appended}
 use Rattle.lent.proofs.ListLaws.{spread-append}
 use Rattle.lent.proofs.LentLaws.{appended-none, appended-join}
-use Rattle.word.specs.Bits.{has, from, below, between, number, within, wordOf, members, maskOf, hit, wordsOf, ceil64}
+use Rattle.word.specs.Bits.{has, from, below, between, number, within, maskOf, hit, wordsOf, ceil64}
 use Rattle.word.proofs.BelowLaws.{below-between, below-cong, below-trim, between-split, between-none, between-cong}
-use Rattle.word.proofs.BitLaws.{within-in}
 use Rattle.word.proofs.OpLaws.{word-cong}
 use Rattle.topology.specs.Words.{setBits}
 use Rattle.topology.proofs.ScanLaws.{bits-append}
 use Rattle.abtm.specs.declared.AbtmConfig.{AbtmConfig}
 use Rattle.abtm.specs.Values.{isZero}
-use Rattle.abtm.specs.Tiles.{Tile, placesOf, places, metaOf, tileOf, rowTilesOf, laid, masksOf, metasOf, offsetsOf, slotsOf}
+use Rattle.abtm.specs.Tiles.{Tile, metaOf, tileOf, rowTilesOf, laid, masksOf, metasOf, offsetsOf, slotsOf}
+use Rattle.abtm.proofs.PlaceLaws.{map-between, map-below, map-places}
 use Rattle.abtm.proofs.ZeroLaws.{zero-is-zero}
 use Rattle.abtm_build.specs.declared.Cursor.{Cursor}
 use Rattle.abtm_build.specs.Window.{maskAt, hitAt, tilesBetween}
@@ -98,30 +97,6 @@ wrote-as ts us from to ms₀ ms₁ os₀ os₁ ks₀ ks₁ vs₀ vs₁ e w = sub
 
 -- ---- the tiles of some words
 
-map-cons : {A : Type 0} (f g : ℕ → A) (b : ℕ) (l : List ℕ) (t : Bool) → f b ≡ g b → map f l ≡ map g l → map f (consIf t b l) ≡ map g (consIf t b l)
-map-cons {A} f g b l true e r = ap₂ (λ (x : A) (m : List A). x ∷ m) e r
-map-cons {A} f g b l false e r = r
-
-map-from : {A : Type 0} (f g : ℕ → A) (p : ℕ → Bool) (b d : ℕ) → ((i : ℕ) → b ≤ i → i < b + d → f i ≡ g i) → map f (from p b d) ≡ map g (from p b d)
-unfolding from
-map-from f g p b zero h = refl
-map-from f g p b (suc d) h = map-cons f g b (from p (suc b) d) (p b) (h b (omega arith) (omega arith)) (map-from f g p (suc b) d (λ i l u. h i (omega arith) (omega arith)))
-
-pub map-between : {A : Type 0} (f g : ℕ → A) (p : ℕ → Bool) (b e : ℕ) → b ≤ e → ((i : ℕ) → b ≤ i → i < e → f i ≡ g i) → map f (between p b e) ≡ map g (between p b e)
-unfolding between
-map-between f g p b e o h = map-from f g p b (e - b) (λ i l u. h i l (omega arith))
-
-pub map-below : {A : Type 0} (f g : ℕ → A) (p : ℕ → Bool) (n : ℕ) → ((i : ℕ) → i < n → f i ≡ g i) → map f (below p n) ≡ map g (below p n)
-unfolding below
-map-below f g p n h = map-from f g p 0 n (λ i l u. h i (omega arith))
-
-pub map-places : {A : Type 0} (f g : ℕ → A) (kind mask : ℕ) → ((i : ℕ) → i < 64 → f i ≡ g i) → map f (placesOf kind mask) ≡ map g (placesOf kind mask)
-unfolding placesOf members
-map-places f g kind mask h = go (eqb kind 2) where
-  go : (t : Bool) → map f (cond t (below (λ i. true) 64) (below (has mask) 64)) ≡ map g (cond t (below (λ i. true) 64) (below (has mask) 64))
-  go true = map-below f g (λ i. true) 64 h
-  go false = map-below f g (has mask) 64 h
-
 module _ (h : AbtmConfig) (v : ℕ → Float) where
   pub tiles-split : (a m b : ℕ) → a ≤ m → m ≤ b → tilesBetween h v a b ≡ tilesBetween h v a m ++ tilesBetween h v m b
   unfolding tilesBetween
@@ -164,7 +139,7 @@ module _ (h : AbtmConfig) (v : ℕ → Float) where
     tiles-row b past =
         ap (map (λ w. tileOf h v (maskAt v w) w))
         (sym (below-between (hitAt v) b) ∙ same-words b past ∙ below-cong (hitAt v) (hit (λ c. not (isZero (v c))) cols) (ceil64 cols) (λ w l. ap (λ (m : ℕ). not (eqb m 0)) (mask-same w)))
-        ∙ map-below (λ w. tileOf h v (maskAt v w) w) (λ w. tileOf h v (maskOf (λ c. not (isZero (v c))) cols w) w) (hit (λ c. not (isZero (v c))) cols) (ceil64 cols) (λ w l. ap (λ (m : ℕ). tileOf h v m w) (mask-same w))
+        ∙ map-below (λ w. tileOf h v (maskAt v w) w) (λ w. tileOf h v (maskOf (λ c. not (isZero (v c))) cols w) w) (hit (λ c. not (isZero (v c))) cols) (ceil64 cols) (λ w l k. ap (λ (m : ℕ). tileOf h v m w) (mask-same w))
 
 -- equal values give equal tiles
 module _ (h : AbtmConfig) (v u : ℕ → Float) where

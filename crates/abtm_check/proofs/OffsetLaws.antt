@@ -1,5 +1,5 @@
 -- The places of the tiles' values: the loop that compares each offset with the end of the tile before it. Assumes nothing.
-use mathlib.Core.Bool.{Bool, true, false, cond, _&&_, and-assoc}
+use mathlib.Core.Bool.{Bool, true, false, _&&_, and-assoc}
 use mathlib.Core.List.{List, [], _∷_, zip, zipWith}
 use mathlib.Core.Path.{_≡_, refl, sym, ap, ap₂, _∙_}
 use Prim.Native.Nat.{ℕ, _+_, _-_, _≤_, _<_}
@@ -10,20 +10,11 @@ use lib.ListN.{length, getD, drop, drop-of-length-le}
 use lib.Seq.{drop-cons}
 use borrow.Author.Tests.{eqb-true, eq-eqb}
 use Rattle.hybit_core.proofs.BoolLaws.{same-test}
-use Rattle.word.specs.Bits.{has, below, members}
-use Rattle.word.proofs.BelowLaws.{length-below-le}
-use Rattle.abtm.specs.Tiles.{Listed, kindIn, placesOf, places, slotCount, gapless}
+use Rattle.abtm.specs.Tiles.{Listed, kindIn, places, slotCount, gapless}
+use Rattle.abtm.proofs.PlaceLaws.{places-few}
 use Rattle.abtm_check.proofs.MetaLaws.{getD-zip, length-zip}
 
 -- ---- a tile takes at most 64 values
-
-places-few : (kind mask : ℕ) → length (placesOf kind mask) ≤ 64
-unfolding placesOf members
-places-few kind mask = go (eqb kind 2)
-  where
-    go : (t : Bool) → length (cond t (below (λ i. true) 64) (below (has mask) 64)) ≤ 64
-    go true = length-below-le (λ i. true) 64
-    go false = length-below-le (has mask) 64
 
 pub slots-few : (mask meta n : ℕ) → n ≡ length (places mask meta) → n ≤ 64
 slots-few mask meta n e = omega (arith, e, places-few (kindIn meta) mask)

@@ -1,34 +1,35 @@
 -- The record of a membership and values: its words are those of the membership, its tiles can be read back, it is accepted, and
 -- its rows list exactly the columns of the membership with their values. Assumes nothing.
-use mathlib.Core.Bool.{Bool, true, false, not, cond, _&&_, _||_}
-use mathlib.Core.List.{List, [], _∷_, _++_, map, zip, zipWith, map-map, map-append, append-assoc, append-nil}
+use mathlib.Core.Bool.{Bool, true, false, cond, _&&_, _||_}
+use mathlib.Core.List.{List, [], _∷_, _++_, map, zip, zipWith, map-map, map-append, append-assoc}
 use mathlib.Core.Path.{_≡_, refl, sym, ap, ap₂, _∙_}
-use Prim.Native.Nat.{ℕ, zero, suc, _+_, _-_, _*_, _/_, _%_, _^_, _≤_, _<_, zero-le}
+use Prim.Native.Nat.{ℕ, zero, suc, _+_, _-_, _*_, _/_, _%_, _^_, _≤_, _<_}
 use native.Mathlib.Nat.{add-zero}
 use native.Mathlib.Omega.{arith}
 use lib.Dec.{eqb, leb, ltb}
-use lib.ListN.{length, getD, take, drop, length-append, length-map}
+use lib.ListN.{length, take, drop, length-append, length-map}
 use lib.Seq.{slice, take-at, drop-at}
 use lib.Ieee.{Float, ofBits}
-use borrow.Author.Tests.{eq-eqb, eqb-true, le-leb, leb-true, ltb-true}
+use borrow.Author.Tests.{eq-eqb, eqb-true, le-leb, ltb-true}
 use Rattle.hybit_core.specs.Answer.{accepted, demand, _andThen_}
 use Rattle.hybit_core.specs.Domain.{sizesFit, few, many}
 use Rattle.hybit_core.specs.Floats.{zero64}
-use Rattle.hybit_core.proofs.BoolLaws.{and-left, and-right, and-both, and-four, same-test}
+use Rattle.hybit_core.proofs.BoolLaws.{and-left, and-right, and-both, and-four}
 use Rattle.lent.specs.Lists.{joined, each, starts, part, consIf, only, every, some, spread}
-use Rattle.lent.proofs.ListLaws.{joined-lengths, part-joined, part-mid, every-map, every-joined, zip-maps, spread-map, map-id, every-all, each-cong, joined-cong}
-use Rattle.word.specs.Bits.{has, from, below, count, within, members, maskOf, hit, wordsOf, ceil64}
+use Rattle.lent.proofs.ListLaws.{joined-lengths, part-joined, every-map, every-joined, zip-maps, spread-map, map-id, every-all, each-cong, joined-cong}
+use Rattle.word.specs.Bits.{has, below, count, within, members, maskOf, hit, wordsOf, ceil64}
 use Rattle.word.proofs.BelowLaws.{below-cong}
-use Rattle.word.proofs.BitLaws.{has-mask-of, has-mask-at, has-listed, every-below, some-below, within-in}
+use Rattle.word.proofs.BitLaws.{has-mask-of, has-mask-at, has-listed, every-below, some-below}
 use Rattle.word.proofs.WordLaws.{columnsIn, by-words, below-only}
 use Rattle.csr32.specs.Csr.{Entry}
-use Rattle.topology.specs.Words.{Words, topologyOf, wordRules}
+use Rattle.topology.specs.Words.{topologyOf, wordRules}
 use Rattle.topology.proofs.TopologyLaws.{topology-accepted}
 use Rattle.abtm.specs.declared.AbtmConfig.{AbtmConfig}
 use Rattle.abtm.specs.Values.{solid, plusZero}
-use Rattle.abtm.specs.Tiles.{Tile, Tiles, Listed, wordIn, kindIn, isDense, placesOf, places, stored, kindOf, metaOf, tileOf, rowTilesOf, laid, masksOf, metasOf, offsetsOf, slotsOf, tilesOf, slotCount, tileAt, listedTiles, rowTiles, inTile, inTiles, tileEntries, tileWords, tileSizes, valueRule, tileRule, gapless, slotRules, tilesRules, tilesAnswer}
+use Rattle.abtm.specs.Tiles.{Tile, Tiles, Listed, wordIn, kindIn, isDense, placesOf, places, stored, kindOf, metaOf, tileOf, rowTilesOf, laid, masksOf, metasOf, offsetsOf, slotsOf, tilesOf, tileAt, listedTiles, rowTiles, inTile, inTiles, tileEntries, tileWords, tileSizes, valueRule, tileRule, gapless, slotRules, tilesRules, tilesAnswer}
+use Rattle.abtm.proofs.PlaceLaws.{map-below, kind-small, laid-long}
 use Rattle.abtm_check.proofs.MetaLaws.{part-map}
-use Rattle.abtm_check.proofs.TilesLaws.{rowListed, row-listed}
+use Rattle.abtm_check.proofs.TilesLaws.{row-listed}
 
 -- ---- lists
 
@@ -36,20 +37,6 @@ map-joined : {A B : Type 0} (f : A → B) (g : ℕ → List A) (n : ℕ) → map
 unfolding joined
 map-joined f g zero = refl
 map-joined {B = B} f g (suc n) = map-append f (joined g n) (g n) ∙ ap (λ (l : List B). l ++ map f (g n)) (map-joined f g n)
-
-map-cons : {A : Type 0} (f g : ℕ → A) (b : ℕ) (l : List ℕ) (t : Bool) → (t ≡ true → f b ≡ g b) → map f l ≡ map g l → map f (consIf t b l) ≡ map g (consIf t b l)
-map-cons {A} f g b l true e r = ap₂ (λ (x : A) (m : List A). x ∷ m) (e refl) r
-map-cons {A} f g b l false e r = r
-
-map-from : {A : Type 0} (f g : ℕ → A) (p : ℕ → Bool) (b d : ℕ) → ((i : ℕ) → i < b + d → p i ≡ true → f i ≡ g i) → map f (from p b d) ≡ map g (from p b d)
-unfolding from
-map-from f g p b zero h = refl
-map-from f g p b (suc d) h = map-cons f g b (from p (suc b) d) (p b) (h b (omega arith)) (map-from f g p (suc b) d (λ i u. h i (omega arith)))
-
--- equal at the numbers that pass
-map-below : {A : Type 0} (f g : ℕ → A) (p : ℕ → Bool) (n : ℕ) → ((i : ℕ) → i < n → p i ≡ true → f i ≡ g i) → map f (below p n) ≡ map g (below p n)
-unfolding below
-map-below f g p n h = map-from f g p 0 n (λ i u. h i (omega arith))
 
 spread-concat : {A B : Type 0} (f : A → List B) (l : List A) → spread f l ≡ spread (λ (m : List B). m) (map f l)
 unfolding spread
@@ -101,22 +88,13 @@ zero-plus = refl
 
 -- the kind and the word that a meta has
 module _ (h : AbtmConfig) (mask w : ℕ) (l : w < 2 ^ 30) where
-  kind-small : (n : ℕ) → kindOf h n ≤ 2
-  unfolding kindOf
-  kind-small n = go (leb n (h .«sparse_max_nnz»)) (leb (h .«dense_min_nnz») n)
-    where
-      go : (s t : Bool) → cond s 0 (cond t 2 1) ≤ 2
-      go true t = omega arith
-      go false true = omega arith
-      go false false = omega arith
-
   pub word-of-meta : wordIn (metaOf h mask w) ≡ w
   unfolding metaOf
   word-of-meta = omega arith
 
   pub kind-of-meta : kindIn (metaOf h mask w) ≤ 2
   unfolding metaOf
-  kind-of-meta = let k : kindOf h (count (has mask) 64) ≤ 2 = kind-small (count (has mask) 64) in omega arith
+  kind-of-meta = let k : kindOf h (count (has mask) 64) ≤ 2 = kind-small h (count (has mask) 64) in omega arith
 
   module _ (v : ℕ → Float) where
     abbrev value : ℕ → Float
@@ -175,11 +153,6 @@ module _ (h : AbtmConfig) (mask w : ℕ) (l : w < 2 ^ 30) where
         ∙ sym (map-map (λ c. (c, v c)) (λ i. 64 * w + i) (below (has mask) 64))
 
 -- ---- tiles one after another: their values can be cut out again
-
-laid-long : (k : ℕ) (ns : List ℕ) → length (laid k ns) ≡ length ns
-unfolding laid
-laid-long k [] = refl
-laid-long k (n ∷ ns) = ap suc (laid-long (k + n) ns)
 
 -- a tile has a value for each of its places
 abbrev whole : Tile → Bool

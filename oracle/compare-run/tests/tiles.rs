@@ -1,22 +1,11 @@
 //! Document 01's worked plots of tiles, asked of all three judges; and the shrinking of tiles.
 
-use calls::{Call, Csr, Outcome, Tiles, bits};
+mod common;
+
+use calls::{Call, Csr, Tiles, bits};
+use common::all_say;
 use compare_run::shrink::smallest;
 use compare_run::tiles::{BITMAP, DENSE, SPARSE, Tile, listed, room};
-use judges::{hybit, ours};
-
-fn all_say(call: &Call, number: u32, result: &[u64], lists: &[Vec<u64>]) {
-    let expected = Outcome {
-        number,
-        expected: 0,
-        actual: 0,
-        result: result.to_vec(),
-        lists: lists.to_vec(),
-    };
-    assert_eq!(ours::judge(call), expected, "ours: {call:?}");
-    assert_eq!(model::judge(call), expected, "model: {call:?}");
-    assert_eq!(hybit::judge(call), Ok(expected), "hybit: {call:?}");
-}
 
 fn one_row(ncols: usize, entries: &[(u32, f64)]) -> Csr {
     Csr {

@@ -1,21 +1,10 @@
 //! Document 01's worked plots, by its own figures, asked of all three judges; and the shrinking of a call.
 
-use calls::{Call, Csr, Mask, Outcome, Store, StoreRoom, Words, WordsRoom, bits};
-use compare_run::shrink::smallest;
-use judges::{hybit, ours};
+mod common;
 
-fn all_say(call: &Call, number: u32, result: &[u64], lists: &[Vec<u64>]) {
-    let expected = Outcome {
-        number,
-        expected: 0,
-        actual: 0,
-        result: result.to_vec(),
-        lists: lists.to_vec(),
-    };
-    assert_eq!(ours::judge(call), expected, "ours: {call:?}");
-    assert_eq!(model::judge(call), expected, "model: {call:?}");
-    assert_eq!(hybit::judge(call), Ok(expected), "hybit: {call:?}");
-}
+use calls::{Call, Csr, Mask, Store, StoreRoom, Words, WordsRoom, bits};
+use common::all_say;
+use compare_run::shrink::smallest;
 
 /// 70 columns, row 65, 3, 3, 64 with 2.0, 1.0, 0.5, 4.0.
 fn plot_list() -> Csr {

@@ -12,7 +12,7 @@ use Rattle.hybit_core.specs.Floats.{zero64}
 use Rattle.lent.specs.Lists.{every}
 use Rattle.lent.proofs.ListLaws.{every-getD}
 use Rattle.abtm.specs.Tiles.{Listed, tileAt}
-use Rattle.abtm_check.proofs.MetaLaws.{getD-zip, length-zip}
+use Rattle.lent.proofs.PartLaws.{getD-zip, length-zip}
 use Rattle.abtm_apply.specs.Product.{addTile, sumTiles}
 use Rattle.abtm_apply.specs.Ready.{tileInside}
 

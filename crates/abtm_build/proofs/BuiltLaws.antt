@@ -1,14 +1,14 @@
 -- What holds of the tiles of an accepted plot list: `check` accepts them, and each row lists exactly the columns whose merged value
 -- of nonzero entries is not zero, with that value. Assumes nothing.
-use mathlib.Core.Bool.{Bool, true, not}
-use mathlib.Core.List.{List, [], _∷_, map, zip, zipWith}
-use mathlib.Core.Path.{_≡_, refl}
+use mathlib.Core.Bool.{true, not}
+use mathlib.Core.List.{map}
+use mathlib.Core.Path.{_≡_}
 use Prim.Native.Nat.{ℕ, _<_}
 use lib.Ieee.{Float}
 use Rattle.hybit_core.specs.Answer.{accepted}
 use Rattle.hybit_core.specs.Floats.{finite}
-use Rattle.hybit_core.proofs.BoolLaws.{and-left, and-right, and-both}
 use Rattle.lent.specs.Lists.{part, every}
+use Rattle.lent.proofs.ListLaws.{every-right}
 use Rattle.word.specs.Bits.{below, within}
 use Rattle.csr32.specs.Csr.{Csr, Entry, csrAnswer, entries}
 use Rattle.csr32.proofs.CsrLaws.{Valid, valid, row-values}
@@ -19,12 +19,6 @@ use Rattle.abtm_check.proofs.RecordLaws.{tiles-accepted, entries-of-tiles, in-t
 use Rattle.abtm_build.specs.Build.{tilesFrom}
 use Rattle.abtm_build.proofs.FewLaws.{tiles-few}
 use Rattle.abtm_build.proofs.NumberLaws.{merged-solid}
-
-every-right : {A B : Type 0} (p : B → Bool) (l : List A) (m : List B) → every p m ≡ true → every (λ (e : A × B). p (e .1)) (zip l m) ≡ true
-unfolding every zip zipWith
-every-right p [] m e = refl
-every-right p (a ∷ l) [] e = refl
-every-right {A} {B} p (a ∷ l) (b ∷ m) e = and-both (p b) (every (λ (e : A × B). p (e .1)) (zip l m)) (and-left (p b) (every p m) e) (every-right p l m (and-right (p b) (every p m) e))
 
 module _ (m : Csr) (h : AbtmConfig) (e : csrAnswer m ≡ accepted) where
   ok : Valid m

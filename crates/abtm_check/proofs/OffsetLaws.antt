@@ -12,7 +12,7 @@ use borrow.Author.Tests.{eqb-true, eq-eqb}
 use Rattle.hybit_core.proofs.BoolLaws.{same-test}
 use Rattle.abtm.specs.Tiles.{Listed, kindIn, places, slotCount, gapless}
 use Rattle.abtm.proofs.PlaceLaws.{places-few}
-use Rattle.abtm_check.proofs.MetaLaws.{getD-zip, length-zip}
+use Rattle.lent.proofs.PartLaws.{getD-zip, length-zip}
 
 -- ---- a tile takes at most 64 values
 

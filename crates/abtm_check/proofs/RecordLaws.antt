@@ -16,7 +16,8 @@ use Rattle.hybit_core.specs.Domain.{sizesFit, few, many}
 use Rattle.hybit_core.specs.Floats.{zero64}
 use Rattle.hybit_core.proofs.BoolLaws.{and-left, and-right, and-both, and-four}
 use Rattle.lent.specs.Lists.{joined, each, starts, part, consIf, only, every, some, spread}
-use Rattle.lent.proofs.ListLaws.{joined-lengths, part-joined, every-map, every-joined, zip-maps, spread-map, map-id, every-all, each-cong, joined-cong}
+use Rattle.lent.proofs.PartLaws.{part-map}
+use Rattle.lent.proofs.ListLaws.{only-map, map-joined, joined-lengths, part-joined, every-map, every-joined, zip-maps, spread-map, map-id, every-all, each-cong, joined-cong}
 use Rattle.word.specs.Bits.{has, below, count, within, members, maskOf, hit, wordsOf, ceil64}
 use Rattle.word.proofs.BelowLaws.{below-cong}
 use Rattle.word.proofs.BitLaws.{has-mask-of, has-mask-at, has-listed, every-below, some-below}
@@ -28,15 +29,9 @@ use Rattle.abtm.specs.declared.AbtmConfig.{AbtmConfig}
 use Rattle.abtm.specs.Values.{solid, plusZero}
 use Rattle.abtm.specs.Tiles.{Tile, Tiles, Listed, wordIn, kindIn, isDense, placesOf, places, stored, kindOf, metaOf, tileOf, rowTilesOf, laid, masksOf, metasOf, offsetsOf, slotsOf, tilesOf, tileAt, listedTiles, rowTiles, inTile, inTiles, tileEntries, tileWords, tileSizes, valueRule, tileRule, gapless, slotRules, tilesRules, tilesAnswer}
 use Rattle.abtm.proofs.PlaceLaws.{map-below, kind-small, laid-long}
-use Rattle.abtm_check.proofs.MetaLaws.{part-map}
 use Rattle.abtm_check.proofs.TilesLaws.{row-listed}
 
 -- ---- lists
-
-map-joined : {A B : Type 0} (f : A → B) (g : ℕ → List A) (n : ℕ) → map f (joined g n) ≡ joined (λ r. map f (g r)) n
-unfolding joined
-map-joined f g zero = refl
-map-joined {B = B} f g (suc n) = map-append f (joined g n) (g n) ∙ ap (λ (l : List B). l ++ map f (g n)) (map-joined f g n)
 
 spread-concat : {A B : Type 0} (f : A → List B) (l : List A) → spread f l ≡ spread (λ (m : List B). m) (map f l)
 unfolding spread
@@ -63,15 +58,6 @@ some-never : {A : Type 0} (l : List A) → some (λ a. false) l ≡ false
 unfolding some
 some-never [] = refl
 some-never (a ∷ l) = some-never l
-
-only-map : {A B : Type 0} (q : B → Bool) (f : A → B) (l : List A) → only q (map f l) ≡ map f (only (λ a. q (f a)) l)
-unfolding only
-only-map q f [] = refl
-only-map {A} {B} q f (a ∷ l) = ap (consIf (q (f a)) (f a)) (only-map q f l) ∙ go (q (f a))
-  where
-    go : (t : Bool) → consIf t (f a) (map f (only (λ a. q (f a)) l)) ≡ map f (consIf t a (only (λ a. q (f a)) l))
-    go true = refl
-    go false = refl
 
 starts-cong : {A B : Type 0} (f : ℕ → List A) (g : ℕ → List B) (n : ℕ) → ((r : ℕ) → length (f r) ≡ length (g r)) → starts f n ≡ starts g n
 unfolding starts

@@ -19,7 +19,7 @@ use Rattle.csr32.proofs.FrameLaws.{RowIn, row-right, lists-sides, part-lengths}
 use Rattle.topology.specs.Words.{Words, wordRule, rowRule, rowRules, setBits, wordRules}
 use Rattle.topology.proofs.TopologyLaws.{Accepted}
 use Rattle.abtm.specs.Tiles.{Tiles, Listed, wordIn, kindIn, places, slotCount, stored, valueRule, tileAt, listedTiles, tileWords, tileSizes, tileRule, gapless, slotRules, tilesRules, tilesAnswer}
-use Rattle.abtm_check.proofs.MetaLaws.{part-zip, part-map, getD-zip, length-zip}
+use Rattle.lent.proofs.PartLaws.{part-zip, part-map, getD-zip, length-zip}
 
 -- ---- the facts of a record
 

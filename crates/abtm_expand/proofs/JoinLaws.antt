@@ -15,7 +15,7 @@ use Rattle.lent.proofs.LentLaws.{Filled, filled-none, filled-length, filled-mor
 use Rattle.word.specs.Bits.{has, wordOf}
 use Rattle.word.proofs.OpLaws.{word-is, has-word, word-cong}
 use Rattle.abtm.specs.Tiles.{wordIn}
-use Rattle.abtm_check.proofs.MetaLaws.{getD-zip, length-zip}
+use Rattle.lent.proofs.PartLaws.{getD-zip, length-zip}
 
 -- ---- words copied: the first k
 

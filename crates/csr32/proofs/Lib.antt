@@ -3,3 +3,4 @@ pub mod ScanLaws
 pub mod CsrLaws
 pub mod SumLaws
 pub mod MergedLaws
+pub mod MadeLaws

@@ -1,3 +1,4 @@
 pub mod BoolLaws
 pub mod AnswerLaws
 pub mod FloatLaws
+pub mod SumLaws

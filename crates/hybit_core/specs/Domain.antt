@@ -1,5 +1,5 @@
 -- The limits of document 01's domain.
-use Prim.Native.Nat.{ℕ, _^_}
+use Prim.Native.Nat.{ℕ, _-_, _^_, min}
 use mathlib.Core.Bool.{Bool, _&&_}
 use lib.Dec.{leb}
 
@@ -20,3 +20,7 @@ many n = leb n maxEntries
 -- 1 finds nothing in a record of so many rows and columns with two lists side by side of a and b places
 unfoldable pub sizesFit : ℕ → ℕ → ℕ → ℕ → Bool
 sizesFit rows cols a b = few rows && few cols && many a && many b
+
+-- a sum or product of counts as 64 bits hold it: at most 2^64 − 1
+abbrev pub saturated : ℕ → ℕ
+saturated n = min n (2 ^ 64 - 1)

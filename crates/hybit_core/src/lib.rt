@@ -1,10 +1,10 @@
 // hybit-core/src/lib.rs: the refusals and what carries them, the limits of the domain, counts as floats.
-ghost use Prim.Native.Nat.{_%_, _^_};
+ghost use Prim.Native.Nat.{_+_, _*_, _%_, _^_};
 ghost use mathlib.Core.Path.{_≡_};
 ghost use lib.Ieee.{Float};
 ghost use Rattle.hybit_core.specs.Answer.{numberIn};
 ghost use Rattle.hybit_core.specs.Table.{paper, told};
-ghost use Rattle.hybit_core.specs.Domain.{few, many, sizesFit};
+ghost use Rattle.hybit_core.specs.Domain.{few, many, sizesFit, saturated};
 ghost use Rattle.hybit_core.specs.Floats.{finite, countAsFloat, ratioOf};
 
 // Rows, columns and mask lengths go up to this.
@@ -173,6 +173,29 @@ pub fn narrow(n: usize) -> u32
     ensures { λ r. ⌜ r ≡ n % 2 ^ 32 ⌝ }
 {
     (n % 4294967296) as u32
+}
+
+// a + b, at most 2^64 − 1: the Rust's `saturating_add`.
+pub fn saturating_add(a: usize, b: usize) -> usize
+    ensures { λ r. ⌜ r ≡ saturated (a + b) ⌝ }
+{
+    if b <= 18446744073709551615 - a {
+        return a + b;
+    }
+    18446744073709551615
+}
+
+// a × b, at most 2^64 − 1: the Rust's `saturating_mul`.
+pub fn saturating_mul(a: usize, b: usize) -> usize
+    ensures { λ r. ⌜ r ≡ saturated (a * b) ⌝ }
+{
+    if a == 0 {
+        return 0;
+    }
+    if b <= 18446744073709551615 / a {
+        return a * b;
+    }
+    18446744073709551615
 }
 
 // The f64 nearest to a count, ties to even.

@@ -1,2 +1,3 @@
 pub mod ListLaws
+pub mod PartLaws
 pub mod LentLaws

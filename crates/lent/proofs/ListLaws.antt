@@ -1,6 +1,6 @@
 -- Laws of lists made row after row, and of tests over lists. Assumes nothing.
 use mathlib.Core.Bool.{Bool, true, false, not, _&&_, _||_, or-false, or-true, true≢false, false≢true}
-use mathlib.Core.List.{List, [], _∷_, _++_, map, zip, zipWith, foldl, append-assoc, append-nil}
+use mathlib.Core.List.{List, [], _∷_, _++_, map, zip, zipWith, foldl, append-assoc, append-nil, map-append}
 use mathlib.Core.Path.{_≡_, refl, sym, ap, ap₂, _∙_}
 use Prim.Native.Nat.{ℕ, zero, suc, _+_, _-_, _≤_, _<_}
 use native.Mathlib.Nat.{sub-zero, le-refl, not-suc-le-zero}
@@ -223,6 +223,27 @@ only-append p (a ∷ l) m = go (p a) (only-append p l m)
     go true e = ap (λ (s : List _). a ∷ s) e
     go false e = e
 
+pub only-map : {A B : Type 0} (q : B → Bool) (f : A → B) (l : List A) → only q (map f l) ≡ map f (only (λ a. q (f a)) l)
+unfolding only
+only-map q f [] = refl
+only-map {A} {B} q f (a ∷ l) = ap (consIf (q (f a)) (f a)) (only-map q f l) ∙ go (q (f a))
+  where
+    go : (t : Bool) → consIf t (f a) (map f (only (λ a. q (f a)) l)) ≡ map f (consIf t a (only (λ a. q (f a)) l))
+    go true = refl
+    go false = refl
+
+-- row after row
+
+pub map-joined : {A B : Type 0} (g : A → B) (f : ℕ → List A) (n : ℕ) → map g (joined f n) ≡ joined (λ r. map g (f r)) n
+unfolding joined
+map-joined g f zero = refl
+map-joined {A} {B} g f (suc n) = map-append g (joined f n) (f n) ∙ ap (λ (l : List B). l ++ map g (f n)) (map-joined g f n)
+
+pub only-joined : {A : Type 0} (p : A → Bool) (f : ℕ → List A) (n : ℕ) → only p (joined f n) ≡ joined (λ r. only p (f r)) n
+unfolding joined only
+only-joined p f zero = refl
+only-joined {A} p f (suc n) = only-append p (joined f n) (f n) ∙ ap (λ (l : List A). l ++ only p (f n)) (only-joined p f n)
+
 -- ---- f 0, f 1, .. with one place stored to, and place by place
 
 pub each-set : {A : Type 0} (d : A) (f g : ℕ → A) (n i : ℕ) (l : List A) (a : A) → l ≡ each f n → i < n → a ≡ g i → ((j : ℕ) → j < n → (j ≡ i → ⊥) → g j ≡ f j) → set l i a ≡ each g n
@@ -297,7 +318,13 @@ module _ (l : List ℕ) (a i : ℕ) (inv : rises 0 l ≡ rises a (drop i l)) whe
   unfolding rises
   rises-done h = sym (inv ∙ rw drop-of-length-le)
 
--- ---- a test of the left of two lists side by side
+-- ---- a test of one of two lists side by side
+
+pub every-right : {A B : Type 0} (p : B → Bool) (l : List A) (m : List B) → every p m ≡ true → every (λ (e : A × B). p (e .1)) (zip l m) ≡ true
+unfolding every zip zipWith
+every-right p [] m e = refl
+every-right p (a ∷ l) [] e = refl
+every-right {A} {B} p (a ∷ l) (b ∷ m) e = and-both (p b) (every (λ (e : A × B). p (e .1)) (zip l m)) (and-left (p b) (every p m) e) (every-right p l m (and-right (p b) (every p m) e))
 
 pub every-left : {A B : Type 0} (p : A → Bool) (l : List A) (m : List B) → every p l ≡ true → every (λ (e : A × B). p (e .0)) (zip l m) ≡ true
 unfolding every zip zipWith

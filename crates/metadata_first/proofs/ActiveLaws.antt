@@ -12,29 +12,26 @@ use Rattle.hybit_core.proofs.BoolLaws.{and-left, and-right}
 use Rattle.lent.specs.Lists.{consIf, only, some}
 use Rattle.lent.proofs.ListLaws.{only-only, every-all}
 use Rattle.csr32.specs.Csr.{Entry, ofColumn, present, merged}
+use Rattle.csr32.specs.Made.{entriesIn}
 use Rattle.metadata_first.specs.Dot.{dotOf, threeOf, demanded}
 use Rattle.metadata_first.proofs.DotLaws.{three-cong}
 
 module _ (t : ℕ → Bool) where
-  -- the entries in the columns of t
-  abbrev pub entriesIn : List Entry → List Entry
-  entriesIn es = only (λ (e : Entry). t (e .0)) es
-
-  pub present-in : (es : List Entry) (c : ℕ) → present (entriesIn es) c ≡ (present es c && t c)
+  pub present-in : (es : List Entry) (c : ℕ) → present (entriesIn t es) c ≡ (present es c && t c)
   unfolding present some only
   present-in [] c = refl
   present-in (e ∷ es) c = go (eqb (e .0) c) (t (e .0)) refl refl (present-in es c)
     where
-      go : (s b : Bool) → eqb (e .0) c ≡ s → t (e .0) ≡ b → some (ofColumn c) (entriesIn es) ≡ (some (ofColumn c) es && t c)
-          → some (ofColumn c) (consIf b e (entriesIn es)) ≡ ((s || some (ofColumn c) es) && t c)
-      go true true x y h = ap (λ (b : Bool). b || some (ofColumn c) (entriesIn es)) x ∙ sym y ∙ ap t (eqb-true (e .0) c x)
+      go : (s b : Bool) → eqb (e .0) c ≡ s → t (e .0) ≡ b → some (ofColumn c) (entriesIn t es) ≡ (some (ofColumn c) es && t c)
+          → some (ofColumn c) (consIf b e (entriesIn t es)) ≡ ((s || some (ofColumn c) es) && t c)
+      go true true x y h = ap (λ (b : Bool). b || some (ofColumn c) (entriesIn t es)) x ∙ sym y ∙ ap t (eqb-true (e .0) c x)
       go true false x y h =
           let z : t c ≡ false = sym (ap t (eqb-true (e .0) c x)) ∙ y in
           h ∙ ap (λ (b : Bool). some (ofColumn c) es && b) z ∙ and-false (some (ofColumn c) es) ∙ sym z
-      go false true x y h = ap (λ (b : Bool). b || some (ofColumn c) (entriesIn es)) x ∙ h
+      go false true x y h = ap (λ (b : Bool). b || some (ofColumn c) (entriesIn t es)) x ∙ h
       go false false x y h = h
 
-  pub merged-in : (es : List Entry) (c : ℕ) → t c ≡ true → merged (entriesIn es) c ≡ merged es c
+  pub merged-in : (es : List Entry) (c : ℕ) → t c ≡ true → merged (entriesIn t es) c ≡ merged es c
   unfolding merged
   merged-in es c h =
       ap (foldl (λ (s : Float) (e : Entry). add binary64 s (e .1)) zero64)

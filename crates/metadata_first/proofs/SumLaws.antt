@@ -1,17 +1,15 @@
--- Sums of counts and of bytes: whether they fit into 64 bits, and what stands for them where they don't. Assumes nothing.
+-- Sums of counts: whether they fit into 64 bits. Assumes nothing.
 use mathlib.Core.Bool.{Bool, true, false, not, _&&_}
 use mathlib.Core.Path.{_≡_, sym, ap, _∙_}
 use Prim.Native.Nat.{ℕ, _+_, _-_, _^_, _<_}
-use native.Mathlib.Nat.{min-eq-left, min-eq-right}
 use native.Mathlib.Omega.{arith}
 use lib.Dec.{leb, ltb}
 use lib.Ieee.{Float}
-use borrow.Author.Tests.{le-leb, lt-ltb, leb-true, ltb-true, ltb-false}
+use borrow.Author.Tests.{le-leb, lt-ltb, leb-true, ltb-true}
 use Rattle.hybit_core.specs.Answer.{gives, refuses, plain, answers, demand}
 use Rattle.hybit_core.specs.Floats.{ratioOf}
 use Rattle.hybit_core.proofs.BoolLaws.{and-left, and-right, same-test, flag-on, flag-off}
 use Rattle.metadata_first.specs.declared.AbtmProductPruningStats.{AbtmProductPruningStats}
-use Rattle.metadata_first.specs.Store.{saturated}
 use Rattle.metadata_first.specs.Dot.{accumulated, totalsFit, accumulateAnswer}
 
 pub sum-test : (a b : ℕ) → a < 2 ^ 64 → leb b (18446744073709551615 - a) ≡ ltb (a + b) (2 ^ 64)
@@ -19,18 +17,6 @@ sum-test a b h =
     same-test (leb b (18446744073709551615 - a)) (ltb (a + b) (2 ^ 64))
     (λ e. lt-ltb (a + b) (2 ^ 64) (omega (arith, leb-true b (18446744073709551615 - a) e)))
     (λ e. le-leb b (18446744073709551615 - a) (omega (arith, ltb-true (a + b) (2 ^ 64) e)))
-
--- ---- bytes
-
-module _ (n : ℕ) (x : Bool) (e : x ≡ ltb n (2 ^ 64)) where
-  pub sum-small : x ≡ true → n < 2 ^ 64
-  sum-small h = ltb-true n (2 ^ 64) (sym e ∙ h)
-
-  pub saturated-whole : x ≡ true → n ≡ saturated n
-  saturated-whole h = sym (min-eq-left (omega (arith, sum-small h)))
-
-  pub saturated-full : x ≡ false → 18446744073709551615 ≡ saturated n
-  saturated-full h = sym (min-eq-right (omega (arith, ltb-false n (2 ^ 64) (sym e ∙ h))))
 
 -- ---- counts
 

@@ -1,12 +1,12 @@
 -- The packed store (document 01, "Packed store"): the record of a membership and values, the value of a column, and its rules.
-use Prim.Native.Nat.{ℕ, _+_, _*_, _-_, _^_, min}
+use Prim.Native.Nat.{ℕ, _+_, _*_}
 use mathlib.Core.Bool.{Bool, true, _&&_}
 use mathlib.Core.List.{List, map}
 use lib.Dec.{eqb, ltb}
 use lib.ListN.{length, getD}
 use lib.Ieee.{Float, nan}
 use Rattle.hybit_core.specs.Answer.{Answer, Given, gives, refuses, demand, _andThen_}
-use Rattle.hybit_core.specs.Domain.{many}
+use Rattle.hybit_core.specs.Domain.{many, saturated}
 use Rattle.hybit_core.specs.Floats.{finite}
 use Rattle.hybit_core.specs.Table.{paper}
 use Rattle.lent.specs.Lists.{joined, starts, part, every}
@@ -81,10 +81,6 @@ storeStats s = record {
 abbrev pub toldStoreStats : StoreStatsAnswer → Given AbtmMetadataFirstStats
 toldStoreStats (statistics.Stats s) = gives s
 toldStoreStats (statistics.Refused e) = refuses (paper e)
-
--- a sum of bytes, at most 2^64 − 1
-abbrev pub saturated : ℕ → ℕ
-saturated n = min n (2 ^ 64 - 1)
 
 abbrev pub estimatedBytes : AbtmMetadataFirstStats → ℕ
 estimatedBytes s = saturated (s .«topology_metadata_bytes» + s .«value_row_ptr_bytes» + s .«packed_value_bytes»)

@@ -13,7 +13,7 @@ ghost use Rattle.lent.specs.Lists.{part};
 ghost use Rattle.csr32.specs.Csr.{framed};
 ghost use Rattle.topology.specs.Words.{asWords, wordAnswer, setBits};
 ghost use Rattle.topology.specs.Calls.{partGiven};
-ghost use Rattle.metadata_first.specs.Store.{asStore, valueRules, storeRules, storeAnswer, storeRowAnswer, storeStats, toldStoreStats, saturated, estimatedBytes};
+ghost use Rattle.metadata_first.specs.Store.{asStore, valueRules, storeRules, storeAnswer, storeRowAnswer, storeStats, toldStoreStats, estimatedBytes};
 ghost use Rattle.metadata_first.specs.Dot.{countsOf, pruningRatio, emptyWordRatio, accumulated, totalsFit, accumulateAnswer, toldTotals};
 use hybit_core::HybitError;
 use hybit_core::Verdict;
@@ -68,16 +68,6 @@ fn sum_fits(a: usize, b: usize) -> bool
     ensures { λ r. ⌜ r ≡ ltb (a + b) (2 ^ 64) ⌝ }
 {
     b <= 18446744073709551615 - a
-}
-
-// a + b, at most 2^64 − 1: the Rust's `saturating_add`.
-fn saturating_add(a: usize, b: usize) -> usize
-    ensures { λ r. ⌜ r ≡ saturated (a + b) ⌝ }
-{
-    if sum_fits(a, b) {
-        return a + b;
-    }
-    18446744073709551615
 }
 
 // Whether the five totals of two counts are at most 2^64 − 1.
@@ -167,8 +157,8 @@ impl AbtmMetadataFirstStats {
     pub fn total_estimated_bytes(self) -> usize
         ensures { λ r. ⌜ r ≡ estimatedBytes self ⌝ }
     {
-        saturating_add(
-            saturating_add(self.topology_metadata_bytes, self.value_row_ptr_bytes),
+        hybit_core::saturating_add(
+            hybit_core::saturating_add(self.topology_metadata_bytes, self.value_row_ptr_bytes),
             self.packed_value_bytes,
         )
     }

@@ -17,6 +17,7 @@ use Rattle.hybit_core.proofs.AnswerLaws.{demand-accepted, then-first, then-seco
 use Rattle.lent.proofs.LentLaws.{handed-used}
 use Rattle.mask.specs.Mask.{Mask, active, maskRules}
 use Rattle.csr32.specs.Csr.{Csr, entries, present, merged, at}
+use Rattle.csr32.specs.Made.{entriesIn}
 use Rattle.csr32.proofs.CsrLaws.{Valid, valid}
 use Rattle.topology.specs.Words.{topologyOf}
 use Rattle.topology.proofs.TopologyLaws.{accepted-facts, topology-pointers, topology-sides}
@@ -25,7 +26,7 @@ use Rattle.topology_build.proofs.AnswerLaws.{built-accepted as words-accepted}
 use Rattle.metadata_first.specs.Store.{Store, packedOf, valueAt, storeSizes, storeFaults, storeAnswer}
 use Rattle.metadata_first.specs.Dot.{dotOf, dotOn, operandsAnswer, dotAnswer, sparseDotRow, threeOf, demanded}
 use Rattle.metadata_first.proofs.DotLaws.{demanded-three}
-use Rattle.metadata_first.proofs.ActiveLaws.{entriesIn, demanded-same}
+use Rattle.metadata_first.proofs.ActiveLaws.{demanded-same}
 use Rattle.metadata_first.proofs.StoreLaws.{value-of-packed, dot-of-packed, packed-checked}
 use Rattle.metadata_first_build.specs.Pack.{storeOf, StoreRoom, packAnswer, packed, prunedDot, wanted}
 use Rattle.metadata_first_build.proofs.RowsLaws.{store-long, columns-in}

@@ -1,1 +1,3 @@
+pub mod HeldLaws
+pub mod ZeroSumLaws
 pub mod Demand3

@@ -1,5 +1,7 @@
 pub mod HeldLaws
+pub mod OnlyLaws
 pub mod ZeroSumLaws
 pub mod PackedLaws
 pub mod RestrictingLaws
+pub mod TilingLaws
 pub mod Demand3

@@ -1,6 +1,6 @@
 -- Restricting a packable plot list to the active columns, packing the rest, and the dot with every column active: no call is refused,
 -- and the dot has the three of the source. Assumes nothing.
-use mathlib.Core.Bool.{Bool, true, _&&_}
+use mathlib.Core.Bool.{true, _&&_}
 use mathlib.Core.List.{List}
 use mathlib.Core.Path.{_≡_, sym, ap, _∙_}
 use Prim.Native.Nat.{ℕ, _^_, _≤_, _<_}

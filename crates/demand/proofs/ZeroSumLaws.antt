@@ -1,13 +1,13 @@
 -- A running sum with and without terms that are zeros: the two differ at most in the sign of a zero. So a merged value is finite
 -- exactly where the merged value of the nonzero entries is. Assumes nothing.
 use mathlib.Core.Path.{_≡_, refl, sym, ap, ap₂, _∙_, subst}
-use mathlib.Core.Bool.{Bool, true, false, not, _&&_, Bool·beq, cond, false≢true}
+use mathlib.Core.Bool.{Bool, true, false, not, cond, false≢true}
 use mathlib.Core.List.{List, [], _∷_, foldl}
 use mathlib.Core.Logic.{_⊎_, inl, inr}
-use Prim.Native.Nat.{ℕ, zero, suc, _+_, _-_, _*_, _<_}
+use Prim.Native.Nat.{ℕ, zero, suc, _-_, _*_, _<_}
 use native.Mathlib.Nat.{zero-lt-suc, zero-mul, add-zero, zero-add, sub-zero, mul-pos, mul-comm, mul-assoc}
 use lib.IntN.{ℤ, pos}
-use lib.Dec.{T, eqb, leb, ltb, lt→ltb, leb·suc-zero}
+use lib.Dec.{T, ltb, lt→ltb, leb·suc-zero}
 use lib.Ieee.{Float, nan, inf, fin, Format, binary64, up, down, round, sum, add, fits, ofBits}
 use lib.Ieee.Bits.{is-true}
 use lib.Ieee.Fits.{up-pos, down-pos, add-fits}
@@ -17,6 +17,7 @@ use Rattle.hybit_core.specs.Floats.{zero64, finite}
 use Rattle.lent.specs.Lists.{consIf, only}
 use Rattle.csr32.specs.Csr.{Entry, ofColumn, merged}
 use Rattle.abtm.specs.Values.{isZero, mergedNonzero}
+use Rattle.demand.proofs.OnlyLaws.{only-turned}
 use Rattle.demand.proofs.HeldLaws.{zero-exp, round-zero, round-self}
 
 -- one float, or two zeros
@@ -148,17 +149,7 @@ same-finite x y (inr z) = zero-finite x (z .0) ∙ sym (zero-finite y (z .1))
     zero-finite (inf s) z = z
     zero-finite (fin s m e) z = refl
 
--- two tests in either order
-only-turned : {A : Type 0} (p q : A → Bool) (l : List A) → only p (only q l) ≡ only q (only p l)
-unfolding only
-only-turned p q [] = refl
-only-turned {A} p q (a ∷ l) = go (p a) (q a) refl refl (only-turned p q l)
-  where
-    go : (s t : Bool) → p a ≡ s → q a ≡ t → only p (only q l) ≡ only q (only p l) → only p (consIf t a (only q l)) ≡ only q (consIf s a (only p l))
-    go true true x y e = ap (λ (b : Bool). consIf b a (only p (only q l))) x ∙ ap (λ (l : List A). a ∷ l) e ∙ sym (ap (λ (b : Bool). consIf b a (only q (only p l))) y)
-    go true false x y e = e ∙ sym (ap (λ (b : Bool). consIf b a (only q (only p l))) y)
-    go false true x y e = ap (λ (b : Bool). consIf b a (only p (only q l))) x ∙ e
-    go false false x y e = e
+-- ---- merged values
 
 pub finite-nonzero : (es : List Entry) (c : ℕ) → finite (mergedNonzero es c) ≡ finite (merged es c)
 unfolding mergedNonzero merged

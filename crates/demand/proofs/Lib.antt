@@ -5,3 +5,4 @@ pub mod PackedLaws
 pub mod RestrictingLaws
 pub mod TilingLaws
 pub mod Demand3
+pub mod InstanceLaws

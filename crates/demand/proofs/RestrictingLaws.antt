@@ -51,8 +51,8 @@ module _ (m : Csr) (k : Packable m) (a : Mask) where
       every-map finite (merged (cut r)) (below (present (cut r)) (m .cols))
       ∙ every-below (λ c. finite (merged (cut r) c)) (present (cut r)) (m .cols)
       (λ c l e.
-        let b : (present (entries m r) c && active a c) ≡ true = sym (present-in (active a) (entries m r) c) ∙ e in
-        ap finite (merged-in (active a) (entries m r) c (and-right (present (entries m r) c) (active a c) b)) ∙ merged-at m k r c h l (and-left (present (entries m r) c) (active a c) b))
+      let b : (present (entries m r) c && active a c) ≡ true = sym (present-in (active a) (entries m r) c) ∙ e in
+      ap finite (merged-in (active a) (entries m r) c (and-right (present (entries m r) c) (active a c) b)) ∙ merged-at m k r c h l (and-left (present (entries m r) c) (active a c) b))
 
   restricted-finite : mergedFinite (restricted m a) ≡ true
   unfolding mergedFinite restricted csrOf

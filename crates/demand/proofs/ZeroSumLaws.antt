@@ -79,10 +79,10 @@ zero-added f (fin s (suc m) e) (fin t n d) h z =
     let a : ℕ = suc m * up e in
     let p : 0 < a * down d = mul-pos (mul-pos (zero-lt-suc m) (up-pos e)) (down-pos d) in
     inl (
-      ap (λ (k : ℕ). sum f s (a * down d) t k (down e * down d)) (ap (λ (k : ℕ). k * up d * down e) (eqb-true n 0 z) ∙ none-times (up d) (down e))
-      ∙ zero-second f s (a * down d) t (down e * down d) p
-      ∙ round-same f s (a * down d) (down e * down d) a (down e) (mul-pos (down-pos e) (down-pos d)) (down-pos e) (mul-assoc a (down d) (down e) ∙ ap (λ (k : ℕ). a * k) (mul-comm (down d) (down e)))
-      ∙ round-self f s (suc m) e h
+    ap (λ (k : ℕ). sum f s (a * down d) t k (down e * down d)) (ap (λ (k : ℕ). k * up d * down e) (eqb-true n 0 z) ∙ none-times (up d) (down e))
+    ∙ zero-second f s (a * down d) t (down e * down d) p
+    ∙ round-same f s (a * down d) (down e * down d) a (down e) (mul-pos (down-pos e) (down-pos d)) (down-pos e) (mul-assoc a (down d) (down e) ∙ ap (λ (k : ℕ). a * k) (mul-comm (down d) (down e)))
+    ∙ round-self f s (suc m) e h
     )
 
 -- a zero that the format holds is written in one way for each sign
@@ -112,7 +112,7 @@ same-added f x y z h k (inr e) =
     let p = one-zero f x h (e .0) in
     let q = one-zero f y k (e .1) in
     subst (λ (v : Float). SameValue v (add f y z)) (sym (ap (λ (v : Float). add f v z) (p .1))) (
-      subst (λ (v : Float). SameValue (add f (fin (p .0) 0 (pos 0)) z) v) (sym (ap (λ (v : Float). add f v z) (q .1))) (to-zeros f (p .0) (q .0) z)
+    subst (λ (v : Float). SameValue (add f (fin (p .0) 0 (pos 0)) z) v) (sym (ap (λ (v : Float). add f v z) (q .1))) (to-zeros f (p .0) (q .0) z)
     )
 
 -- ---- running sums

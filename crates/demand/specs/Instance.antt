@@ -1,7 +1,7 @@
 -- Two small matrices that demand 3 speaks of: they list the same in active plots and differ in masked ones, and so do two vectors.
 -- What the definitions give of them.
 use Prim.Native.Nat.{ℕ}
-use mathlib.Core.Bool.{Bool, false, true, cond}
+use mathlib.Core.Bool.{false, true, cond}
 use mathlib.Core.List.{List, [], _∷_}
 use mathlib.Core.Path.{_≡_}
 use lib.Dec.{eqb}

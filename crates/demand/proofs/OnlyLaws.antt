@@ -33,7 +33,7 @@ only-all {A} p (a ∷ l) e = ap (λ (b : Bool). consIf b a (only p l)) (and-left
 
 -- ---- merging without stored zeros
 
-abbrev nonzero : Entry → Bool
+abbrev pub nonzero : Entry → Bool
 nonzero e = not (isZero (e .1))
 
 -- in a column of a test under which no entry is zero

@@ -17,7 +17,7 @@ use Rattle.hybit_core.specs.Floats.{zero64, finite}
 use Rattle.lent.specs.Lists.{consIf, only}
 use Rattle.csr32.specs.Csr.{Entry, ofColumn, merged}
 use Rattle.abtm.specs.Values.{isZero, mergedNonzero}
-use Rattle.demand.proofs.OnlyLaws.{only-turned}
+use Rattle.demand.proofs.OnlyLaws.{only-turned, nonzero}
 use Rattle.demand.proofs.HeldLaws.{zero-exp, round-zero, round-self}
 
 -- one float, or two zeros
@@ -116,9 +116,6 @@ same-added f x y z h k (inr e) =
     )
 
 -- ---- running sums
-
-abbrev nonzero : Entry → Bool
-nonzero e = not (isZero (e .1))
 
 abbrev summed : Float → List Entry → Float
 summed s es = foldl (λ (s : Float) (e : Entry). add binary64 s (e .1)) s es

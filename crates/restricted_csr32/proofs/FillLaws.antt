@@ -1,7 +1,7 @@
 -- The rows of a restricted list, one after another: what an accepted call says, and what the code holds row after row. Assumes nothing.
 use mathlib.Core.Bool.{Bool, true, _&&_}
 use mathlib.Core.List.{List, [], _∷_, _++_, map, map-append, zip}
-use mathlib.Core.Path.{_≡_, refl, sym, ap, ap₂, _∙_}
+use mathlib.Core.Path.{_≡_, refl, sym, ap, ap₂, subst, _∙_}
 use Prim.Native.Nat.{ℕ, suc, _+_, _-_, _%_, _^_, _≤_, _<_}
 use native.Mathlib.Numerals.{add-one}
 use native.Mathlib.Omega.{arith}
@@ -22,7 +22,7 @@ use Rattle.mask.proofs.MaskLaws as masks
 use Rattle.csr32.specs.Csr.{Csr, Entry, csrSizes, csrRules, csrAnswer, entries}
 use Rattle.csr32.specs.Made.{entriesIn, csrOf, CsrRoom, fitsCsr}
 use Rattle.csr32.proofs.FrameLaws.{Framed, parts-all}
-use Rattle.csr32.proofs.CsrLaws.{Valid, valid, row-sides, entries-lent}
+use Rattle.csr32.proofs.CsrLaws.{Valid, valid, row-of, row-sides, pointers-few, entries-lent}
 use Rattle.csr32.proofs.MadeLaws.{made-pointers, made-columns, made-values}
 use Rattle.restricted.specs.Restricted.{restricted, restrictAnswer}
 use Rattle.restricted_csr32.proofs.KeepLaws.{length-kept}
@@ -82,6 +82,30 @@ restrict-facts m a room e =
       values = omega (arith, made-values (m .rows) (m .cols) (keptRow m a), leb-true (length (restricted m a .val)) (room .val) (and-right (p && c) v fits));
     }
 
+-- row r, whose pointers the code reads as b and z, can be read
+pub record RowPlaces (m : Csr) (r b z : ℕ) : Type 0 where
+  pub here : r < length (m .ptr)
+  pub next : r + 1 < length (m .ptr)
+  pub order : b ≤ z
+  pub in-columns : z ≤ length (m .col)
+  pub in-values : z ≤ length (m .val)
+  pub pointers : length (m .ptr) ≤ 2 ^ 20 + 1
+  pub entries : length (m .col) ≤ 2 ^ 24
+
+pub row-places : (m : Csr) (a : Mask) (room : CsrRoom) → restrictAnswer m a room ≡ accepted → (r : ℕ) → r < m .rows → (b z : ℕ) → b ≡ getD (m .ptr) r 0 → z ≡ getD (m .ptr) (r + 1) 0 → RowPlaces m r b z
+row-places m a room e r h b z eb ez =
+    let v = restrict-facts m a room e .list in
+    let i = row-of v h in
+    record {
+      here = i .here;
+      next = i .next;
+      order = omega (arith, i .order);
+      in-columns = omega (arith, i .inside);
+      in-values = omega (arith, i .inside, v .sides);
+      pointers = pointers-few v;
+      entries = v .entries-in;
+    }
+
 -- ---- the first r rows are written
 
 pub record Filling (row : ℕ → List Entry) (op oc : List ℕ) (ov : List Float) (r at : ℕ) (np nc : List ℕ) (nv : List Float) : Type 0 where
@@ -113,7 +137,7 @@ joined-suc row r = ap (joined row) (add-one r)
 
 module _ (m : Csr) (a : Mask) (op oc : List ℕ) (ov : List Float) (r at : ℕ) (np nc : List ℕ) (nv : List Float) (inv : Filling (keptRow m a) op oc ov r at np nc nv) (room : CsrRoom) (ok : Restrictable m a room) where
   pub filling-at : at ≡ length (joined (keptRow m a) r)
-  filling-at = inv .columns .next ∙ length-map (joined (keptRow m a) r) (λ (e : Entry). e .0)
+  filling-at = omega (arith, inv .columns .next, length-map (joined (keptRow m a) r) (λ (e : Entry). e .0))
 
   pub filling-few : r ≤ m .rows → at ≤ 2 ^ 24
   filling-few h = omega (arith, filling-at, length-joined-le (keptRow m a) r (m .rows) h, kept-few m a (ok .list))
@@ -138,3 +162,38 @@ module _ (m : Csr) (a : Mask) (op oc : List ℕ) (ov : List Float) (r at : ℕ) 
 
     pub filling-value : room .val ≡ length ov → at + length (entriesIn (active a) (zip (take (z - b) (drop b (m .col))) (take (z - b) (drop b (m .val))))) ≤ length nv
     filling-value s = rw lent (omega (arith, next, ok .values, inv .long-values))
+
+    -- a row more: p and the row's entries are written
+    pub filling-more : (p : ℕ) → p ≡ at % 2 ^ 32 → room .ptr ≡ length op → (at′ : ℕ) (nc′ : List ℕ) (nv′ : List Float)
+        → Appended (map (λ (e : Entry). e .0) (entriesIn (active a) (zip (take (z - b) (drop b (m .col))) (take (z - b) (drop b (m .val)))))) at at′ nc nc′
+        → Appended (map (λ (e : Entry). e .1) (entriesIn (active a) (zip (take (z - b) (drop b (m .col))) (take (z - b) (drop b (m .val)))))) at at′ nv nv′
+        → length nc′ ≡ length nc → length nv′ ≡ length nv → Filling (keptRow m a) op oc ov (r + 1) at′ (set np r p) nc′ nv′
+    filling-more p e s at′ nc′ nv′ kc kv lc lv = record {
+      pointers = next-pointer (omega arith) p e (omega (arith, ok .pointers));
+      columns = rw (joined-suc (keptRow m a) r, map-append) (appended-join _ _ 0 at at′ oc nc nc′ (inv .columns) (rw lent at kc));
+      values = rw (joined-suc (keptRow m a) r, map-append) (appended-join _ _ 0 at at′ ov nv nv′ (inv .values) (rw lent at kv));
+      long-pointers = length-set np r p ∙ inv .long-pointers;
+      long-columns = lc ∙ inv .long-columns;
+      long-values = lv ∙ inv .long-values;
+    }
+
+  -- all rows are written, and p, the last pointer
+  module _ (h : r ≤ m .rows) (g : m .rows ≤ r) where
+    last : r ≡ m .rows
+    last = omega arith
+
+    pub done-count : at ≡ length (restricted m a .val)
+    done-count = filling-at ∙ ap (λ (k : ℕ). length (joined (keptRow m a) k)) last ∙ sym (kept-values m a)
+
+    pub done-pointers : (p : ℕ) → p ≡ at % 2 ^ 32 → room .ptr ≡ length op → Appended (restricted m a .ptr) 0 (m .rows + 1) op (set np (m .rows) p)
+    unfolding restricted csrOf starts
+    done-pointers p e s =
+        rw (← add-one (m .rows)) (subst (λ (k : ℕ). Appended (each (λ i. length (joined (keptRow m a) i)) (k + 1)) 0 (k + 1) op (set np k p)) last (next-pointer h p e (omega (arith, ok .pointers))))
+
+    pub done-columns : Appended (restricted m a .col) 0 at oc nc
+    unfolding restricted csrOf
+    done-columns = subst (λ (k : ℕ). Appended (map (λ (e : Entry). e .0) (joined (keptRow m a) k)) 0 at oc nc) last (inv .columns)
+
+    pub done-values : Appended (restricted m a .val) 0 at ov nv
+    unfolding restricted csrOf
+    done-values = subst (λ (k : ℕ). Appended (map (λ (e : Entry). e .1) (joined (keptRow m a) k)) 0 at ov nv) last (inv .values)

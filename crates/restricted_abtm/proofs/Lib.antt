@@ -1,1 +1,3 @@
 pub mod BitsLaws
+pub mod ReadyLaws
+pub mod KeptLaws

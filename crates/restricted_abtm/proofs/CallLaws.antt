@@ -19,14 +19,15 @@ use Rattle.hybit_core.proofs.BoolLaws.{and-first, and-next, is-within, is-above
 use Rattle.hybit_core.proofs.AnswerLaws.{test-fails, test-passes, last-fails, last-passes, length-wrong, length-right, call-refused, call-accepted, accepted-by}
 use Rattle.lent.specs.Lists.{joined, every}
 use Rattle.lent.proofs.ListLaws.{every-map}
-use Rattle.mask.specs.Mask.{asMask, maskRules, maskAnswer}
+use Rattle.mask.specs.Mask.{Mask, asMask, maskRules, maskAnswer}
 use Rattle.mask.proofs.MaskLaws.{Valid, checked}
 use Rattle.csr32.specs.Csr.{Csr, Entry}
 use Rattle.csr32.specs.Made.{csrOf, CsrRoom, asCsrRoom, fitsCsr}
 use Rattle.csr32.proofs.MadeLaws.{made-columns, made-values, made-pointers}
 use Rattle.abtm.specs.Tiles.{Tiles, tileSizes, tilesRules, tilesAnswer, listedTiles}
 use Rattle.abtm_check.proofs.TilesLaws.{AcceptedTiles, tiles-facts}
-use Rattle.restricted.specs.Restricted.{restrictedTiles, restrictTilesAnswer}
+use Rattle.restricted.specs.declared.ColumnRestriction.{ColumnRestriction}
+use Rattle.restricted.specs.Restricted.{restrictedTiles, restrictTilesAnswer, tileRestrictionOf}
 use Rattle.restricted_abtm.specs.Kept.{keptAll, keptAnswer, tileReady}
 use Rattle.restricted_abtm.proofs.EntryLaws.{rowKept, all-kept, all-ready}
 
@@ -150,3 +151,12 @@ module _ (t : Tiles) (n : ℕ) (ws : List ℕ) (np nc nv : ℕ) where
           pub by-kept : (a : Answer) → a ≡ keptAnswer (t .rows) (keptAll (t .vals) ws (zip (t .mask) (zip (t .offset) (t .meta)))) (asCsrRoom np nc nv) → a ≡ whole
           unfolding listedTiles
           by-kept a e = by-own a (length-right (t .cols) n _ a l (e ∙ last-is t tiles-good n ws (checked n ws m hm km) (asCsrRoom np nc nv)))
+
+-- ---- the numbers of an accepted build
+
+pub restriction-is : (t : Tiles) (a : Mask) (k : ℕ) → k ≡ length (restrictedTiles t a .val) → record { nrows = t .rows; ncols = t .cols; «source_nnz» = t .nnz; «retained_nnz» = k } ≡ tileRestrictionOf t a
+unfolding tileRestrictionOf
+restriction-is t a k e = ap (numbers t) e
+  where
+    numbers : Tiles → ℕ → ColumnRestriction
+    numbers t k = record { nrows = t .rows; ncols = t .cols; «source_nnz» = t .nnz; «retained_nnz» = k }

@@ -1,7 +1,7 @@
 -- An accepted build: its facts, and its three lists row after row. Assumes nothing.
 use mathlib.Core.Bool.{Bool, true, _&&_}
 use mathlib.Core.List.{List, [], _∷_, _++_, map, zip, map-append}
-use mathlib.Core.Path.{_≡_, refl, sym, ap, _∙_}
+use mathlib.Core.Path.{_≡_, refl, sym, ap, subst, _∙_}
 use Prim.Native.Nat.{ℕ, suc, _+_, _-_, _%_, _≤_, _<_, _^_}
 use native.Mathlib.Numerals.{add-one}
 use native.Mathlib.Omega.{arith}
@@ -123,9 +123,6 @@ module _ (t : Tiles) (n : ℕ) (ws : List ℕ) (np nc nv : ℕ) (ok : restrictTi
   facts : Restrictable t n ws np nc nv
   facts = restrict-facts t n ws np nc nv ok
 
-  row : ℕ → List Entry
-  row = rowKept t (asMask n ws)
-
   pub rows-few : t .rows ≤ 2 ^ 20
   rows-few = facts .tiles .rows-in
 
@@ -190,8 +187,8 @@ module _ (t : Tiles) (n : ℕ) (ws : List ℕ) (np nc nv : ℕ) (ok : restrictTi
           let ps : each (λ r. length (joined f r)) (r + 1) ≡ each (λ r. length (joined f r)) r ++ (u ∷ []) = each-more (λ r. length (joined f r)) r ∙ ap (λ (k : ℕ). each (λ r. length (joined f r)) r ++ (k ∷ [])) (sym number) in
           let joinedC = appended-join (map (λ (e : Entry). e .0) (joined f r)) (map (λ (e : Entry). e .0) lent) 0 at to oldC outC lastC (inv .columns) c in
           record {
-            inside = h;
-            place = joinedC .next ∙ sym (ap length cs) ∙ length-map (joined f (r + 1)) (λ (e : Entry). e .0);
+            inside = omega arith;
+            place = omega (arith, joinedC .next, ap length cs, length-map (joined f (r + 1)) (λ (e : Entry). e .0));
             pointers = rw ps (appended-snoc (each (λ r. length (joined f r)) r) 0 r oldP outP u (inv .pointers) (omega (arith, inv .pointers-same, facts .pointers-fit)));
             columns = rw cs joinedC;
             values = rw vs (appended-join (map (λ (e : Entry). e .1) (joined f r)) (map (λ (e : Entry). e .1) lent) 0 at to oldV outV lastV (inv .values) v);
@@ -220,13 +217,13 @@ module _ (t : Tiles) (n : ℕ) (ws : List ℕ) (np nc nv : ℕ) (ok : restrictTi
           let g : ℕ → ℕ = λ r. length (joined f r) in
           let number : u ≡ g (t .rows) = omega (arith, inv .place, ap g last-row, facts .few-kept) in
           let all : each g (suc (t .rows)) ≡ each g (t .rows) ++ (u ∷ []) = ap (each g) (sym (add-one (t .rows))) ∙ each-more g (t .rows) ∙ ap (λ (k : ℕ). each g (t .rows) ++ (k ∷ [])) (sym number) in
-          let before : Appended (each g (t .rows)) 0 (t .rows) oldP outP = rw (← last-row) (inv .pointers) in
+          let before : Appended (each g (t .rows)) 0 (t .rows) oldP outP = subst (λ (k : ℕ). Appended (each g k) 0 k oldP outP) last-row (inv .pointers) in
           rw all (appended-snoc (each g (t .rows)) 0 (t .rows) oldP outP u before (pointer-room (t .rows) (omega arith)))
 
       pub filled-columns : Appended (restrictedTiles t (asMask n ws) .col) 0 at oldC outC
       unfolding restrictedTiles csrOf
-      filled-columns = rw (← last-row) (inv .columns)
+      filled-columns = subst (λ (k : ℕ). Appended (map (λ (e : Entry). e .0) (joined (rowKept t (asMask n ws)) k)) 0 at oldC outC) last-row (inv .columns)
 
       pub filled-values : Appended (restrictedTiles t (asMask n ws) .val) 0 at oldV outV
       unfolding restrictedTiles csrOf
-      filled-values = rw (← last-row) (inv .values)
+      filled-values = subst (λ (k : ℕ). Appended (map (λ (e : Entry). e .1) (joined (rowKept t (asMask n ws)) k)) 0 at oldV outV) last-row (inv .values)

@@ -1,62 +1,51 @@
+-- `restricted_abtm::examine` meets its contract. Assumes nothing.
 use borrow.Author.Needs.{needs}
+use native.Mathlib.Omega.{arith}
+use Rattle.hybit_core.proofs.BoolLaws.{flag-on, flag-off}
+use Rattle.abtm.specs.Tiles.{asTiles}
+use Rattle.restricted_abtm.proofs.CallLaws.{mask-large, tiles-refused, mask-refused, wrong-size, many-tiles, offsets-long, metas-long, tiles-ready, by-kept}
 use Rattle.restricted_abtm.proofs.examine.Statement.{statement}
 use Rattle.restricted_abtm.proofs.examine.Tie as tie
-use Rattle.restricted_abtm.proofs.examine.Reads as reads
-use Rattle.restricted_abtm.proofs.examine.Lts as lts
-use Rattle.abtm_check.proofs.check.Reads as check-reads
-use Rattle.hybit_core.proofs.dimension_fits.Reads as dimension-fits-reads
-use Rattle.mask.proofs.check.Reads as check-reads′
-use Rattle.restricted_abtm.proofs.examine_kept.Reads as examine-kept-reads
 
--- src/lib.rt:272:9
 dimension-fits-requires : tie.Need-dimension-fits-requires
-dimension-fits-requires c κs = ?
+dimension-fits-requires c κs = search needs
 
--- src/lib.rt:273:9
 returns : tie.Need-returns
-returns c = ?
+returns c = mask-large _ _ _ _ _ _ (flag-off _ _ (c .before .dimension-fits .ensures) (c .if1 .taken))
 
--- src/lib.rt:275:9
 check-requires : tie.Need-check-requires
-check-requires c κs = ?
+check-requires c κs = search needs
 
--- src/lib.rt:285:29
 enum-known-v : tie.Need-enum-known-v
-enum-known-v c = ?
+enum-known-v c = search needs
 
--- src/lib.rt:286:9
 returns-2 : tie.Need-returns-2
-returns-2 c = ?
+returns-2 c = tiles-refused _ _ _ _ _ _ (flag-on _ _ (c .before .before .before .before .before .dimension-fits .ensures) (c .before .before .before .before .if1 .left)) _ _ (c .before .before .before .check .ensures) (c .before .v .given .1)
 
 enum-told : tie.Need-enum-told
-enum-told c = ?
+enum-told c = search needs
 
--- src/lib.rt:288:9
 check-requires-2 : tie.Need-check-requires-2
-check-requires-2 c κs = ?
+check-requires-2 c κs = search needs
 
--- src/lib.rt:289:29
 enum-known-m : tie.Need-enum-known-m
-enum-known-m c = ?
+enum-known-m c = search needs
 
--- src/lib.rt:290:9
 returns-3 : tie.Need-returns-3
-returns-3 c = ?
+returns-3 c = mask-refused _ _ _ _ _ _ (flag-on _ _ (c .before .before .before .before .before .before .before .before .dimension-fits .ensures) (c .before .before .before .before .before .before .before .if1 .left)) _ (c .before .before .before .before .before .before .check .ensures) (c .before .before .before .before .enum-told .given .1) _ _ (c .before .before .before .check2 .ensures) (c .before .m .given .1)
 
 enum-told-2 : tie.Need-enum-told-2
-enum-told-2 c = ?
+enum-told-2 c = search needs
 
--- src/lib.rt:293:9
 returns-4 : tie.Need-returns-4
-returns-4 c = ?
+returns-4 c = wrong-size _ _ _ _ _ _ (flag-on _ _ (c .before .before .before .before .before .before .before .before .dimension-fits .ensures) (c .before .before .before .before .before .before .before .if1 .left)) _ (c .before .before .before .before .before .before .check .ensures) (c .before .before .before .before .enum-told .given .1) _ (c .before .before .before .check2 .ensures) (c .before .enum-told2 .given .1) (c .if2 .taken)
 
--- src/lib.rt:298:5
 examine-kept-requires : tie.Need-examine-kept-requires
-examine-kept-requires c κs = ?
+examine-kept-requires c κs =
+    ((offsets-long (asTiles (c .before .before .before .before .before .before .before .before .before .before .before .before .before .before .before .args .nrows) (c .before .before .before .before .before .before .before .before .before .before .before .before .before .before .before .args .ncols) (c .before .before .before .before .before .before .before .before .before .before .before .before .before .before .before .args .row-tile-ptr .now) (c .before .before .before .before .before .before .before .before .before .before .before .before .before .before .before .args .masks .now) (c .before .before .before .before .before .before .before .before .before .before .before .before .before .before .before .args .value-offsets .now) (c .before .before .before .before .before .before .before .before .before .before .before .before .before .before .before .args .metas .now) (c .before .before .before .before .before .before .before .before .before .before .before .before .before .before .before .args .values .now) (c .before .before .before .before .before .before .before .before .before .before .before .before .before .before .before .args .matrix-nnz)) (c .before .before .before .before .before .before .before .before .before .before .before .before .before .before .before .args .mask-len) (c .before .before .before .before .before .before .before .before .before .before .before .before .before .before .before .args .mask .now) (c .before .before .before .before .before .before .before .before .before .before .before .before .before .before .before .args .pointer-room) (c .before .before .before .before .before .before .before .before .before .before .before .before .before .before .before .args .column-room) (c .before .before .before .before .before .before .before .before .before .before .before .before .before .before .before .args .value-room) (flag-on _ _ (c .before .before .before .before .before .before .before .before .dimension-fits .ensures) (c .before .before .before .before .before .before .before .if1 .left)) _ (c .before .before .before .before .before .before .check .ensures) (c .before .before .before .before .enum-told .given .1) _ (c .before .before .before .check2 .ensures) (c .before .enum-told2 .given .1), metas-long (asTiles (c .before .before .before .before .before .before .before .before .before .before .before .before .before .before .before .args .nrows) (c .before .before .before .before .before .before .before .before .before .before .before .before .before .before .before .args .ncols) (c .before .before .before .before .before .before .before .before .before .before .before .before .before .before .before .args .row-tile-ptr .now) (c .before .before .before .before .before .before .before .before .before .before .before .before .before .before .before .args .masks .now) (c .before .before .before .before .before .before .before .before .before .before .before .before .before .before .before .args .value-offsets .now) (c .before .before .before .before .before .before .before .before .before .before .before .before .before .before .before .args .metas .now) (c .before .before .before .before .before .before .before .before .before .before .before .before .before .before .before .args .values .now) (c .before .before .before .before .before .before .before .before .before .before .before .before .before .before .before .args .matrix-nnz)) (c .before .before .before .before .before .before .before .before .before .before .before .before .before .before .before .args .mask-len) (c .before .before .before .before .before .before .before .before .before .before .before .before .before .before .before .args .mask .now) (c .before .before .before .before .before .before .before .before .before .before .before .before .before .before .before .args .pointer-room) (c .before .before .before .before .before .before .before .before .before .before .before .before .before .before .before .args .column-room) (c .before .before .before .before .before .before .before .before .before .before .before .before .before .before .before .args .value-room) (flag-on _ _ (c .before .before .before .before .before .before .before .before .dimension-fits .ensures) (c .before .before .before .before .before .before .before .if1 .left)) _ (c .before .before .before .before .before .before .check .ensures) (c .before .before .before .before .enum-told .given .1) _ (c .before .before .before .check2 .ensures) (c .before .enum-told2 .given .1)), (tiles-ready (asTiles (c .before .before .before .before .before .before .before .before .before .before .before .before .before .before .before .args .nrows) (c .before .before .before .before .before .before .before .before .before .before .before .before .before .before .before .args .ncols) (c .before .before .before .before .before .before .before .before .before .before .before .before .before .before .before .args .row-tile-ptr .now) (c .before .before .before .before .before .before .before .before .before .before .before .before .before .before .before .args .masks .now) (c .before .before .before .before .before .before .before .before .before .before .before .before .before .before .before .args .value-offsets .now) (c .before .before .before .before .before .before .before .before .before .before .before .before .before .before .before .args .metas .now) (c .before .before .before .before .before .before .before .before .before .before .before .before .before .before .before .args .values .now) (c .before .before .before .before .before .before .before .before .before .before .before .before .before .before .before .args .matrix-nnz)) (c .before .before .before .before .before .before .before .before .before .before .before .before .before .before .before .args .mask-len) (c .before .before .before .before .before .before .before .before .before .before .before .before .before .before .before .args .mask .now) (c .before .before .before .before .before .before .before .before .before .before .before .before .before .before .before .args .pointer-room) (c .before .before .before .before .before .before .before .before .before .before .before .before .before .before .before .args .column-room) (c .before .before .before .before .before .before .before .before .before .before .before .before .before .before .before .args .value-room) (flag-on _ _ (c .before .before .before .before .before .before .before .before .dimension-fits .ensures) (c .before .before .before .before .before .before .before .if1 .left)) _ (c .before .before .before .before .before .before .check .ensures) (c .before .before .before .before .enum-told .given .1) _ (c .before .before .before .check2 .ensures) (c .before .enum-told2 .given .1) (omega arith) (λ k. c .before .before .before .before .before .before .before .before .before .before .before .before .before .shared-slice-known2 .given k .fits), many-tiles (asTiles (c .before .before .before .before .before .before .before .before .before .before .before .before .before .before .before .args .nrows) (c .before .before .before .before .before .before .before .before .before .before .before .before .before .before .before .args .ncols) (c .before .before .before .before .before .before .before .before .before .before .before .before .before .before .before .args .row-tile-ptr .now) (c .before .before .before .before .before .before .before .before .before .before .before .before .before .before .before .args .masks .now) (c .before .before .before .before .before .before .before .before .before .before .before .before .before .before .before .args .value-offsets .now) (c .before .before .before .before .before .before .before .before .before .before .before .before .before .before .before .args .metas .now) (c .before .before .before .before .before .before .before .before .before .before .before .before .before .before .before .args .values .now) (c .before .before .before .before .before .before .before .before .before .before .before .before .before .before .before .args .matrix-nnz)) (c .before .before .before .before .before .before .before .before .before .before .before .before .before .before .before .args .mask-len) (c .before .before .before .before .before .before .before .before .before .before .before .before .before .before .before .args .mask .now) (c .before .before .before .before .before .before .before .before .before .before .before .before .before .before .before .args .pointer-room) (c .before .before .before .before .before .before .before .before .before .before .before .before .before .before .before .args .column-room) (c .before .before .before .before .before .before .before .before .before .before .before .before .before .before .before .args .value-room) (flag-on _ _ (c .before .before .before .before .before .before .before .before .dimension-fits .ensures) (c .before .before .before .before .before .before .before .if1 .left)) _ (c .before .before .before .before .before .before .check .ensures) (c .before .before .before .before .enum-told .given .1) _ (c .before .before .before .check2 .ensures) (c .before .enum-told2 .given .1)))
 
--- src/lib.rt:255:1
 returns-5 : tie.Need-returns-5
-returns-5 c = ?
+returns-5 c = by-kept _ _ _ _ _ _ (flag-on _ _ (c .before .before .before .before .before .before .before .before .before .dimension-fits .ensures) (c .before .before .before .before .before .before .before .before .if1 .left)) _ (c .before .before .before .before .before .before .before .check .ensures) (c .before .before .before .before .before .enum-told .given .1) _ (c .before .before .before .before .check2 .ensures) (c .before .before .enum-told2 .given .1) (omega arith) _ (c .examine-kept .ensures)
 
 pub examine-spec : {M : Type 1} → statement M
 examine-spec =

@@ -1,47 +1,39 @@
+-- `restricted_abtm::examine_kept` meets its contract. Assumes nothing.
 use borrow.Author.Needs.{needs}
+use mathlib.Core.Path.{sym, _∙_}
+use native.Mathlib.Omega.{arith}
+use Rattle.hybit_core.proofs.BoolLaws.{flag-on, flag-off}
+use Rattle.restricted_abtm.proofs.ReadyLaws.{kept-length, ready-words}
+use Rattle.restricted_abtm.proofs.CallLaws.{kept-infinite, kept-many, few-pointers, few-columns, few-values, kept-good}
 use Rattle.restricted_abtm.proofs.examine_kept.Statement.{statement}
 use Rattle.restricted_abtm.proofs.examine_kept.Tie as tie
-use Rattle.restricted_abtm.proofs.examine_kept.Reads as reads
-use Rattle.restricted_abtm.proofs.examine_kept.Lts as lts
-use Rattle.hybit_core.proofs.entries_fit.Reads as entries-fit-reads
-use Rattle.restricted_abtm.proofs.count_kept.Reads as count-kept-reads
-use Rattle.restricted_abtm.proofs.kept_finite.Reads as kept-finite-reads
 
--- src/lib.rt:236:9
 kept-finite-requires : tie.Need-kept-finite-requires
-kept-finite-requires c κs = ?
+kept-finite-requires c κs = (c .before .before .before .before .before .pre .0, c .before .before .before .before .before .pre .1 .0)
 
--- src/lib.rt:237:9
 returns : tie.Need-returns
-returns c = ?
+returns c = kept-infinite _ _ _ _ _ (flag-off _ _ (c .before .kept-finite .ensures) (c .if1 .taken))
 
--- src/lib.rt:239:9
 count-kept-requires : tie.Need-count-kept-requires
-count-kept-requires c κs = ?
+count-kept-requires c κs = (c .before .before .before .before .before .before .before .pre .1 .1, (c .before .before .before .before .before .before .before .pre .0 .1, ready-words _ _ _ _ _ (c .before .before .before .before .before .before .before .pre .0 .0) (c .before .before .before .before .before .before .before .pre .0 .1) (c .before .before .before .before .before .before .before .pre .1 .0)))
 
--- src/lib.rt:240:9
 entries-fit-requires : tie.Need-entries-fit-requires
-entries-fit-requires c κs = ?
+entries-fit-requires c κs = search needs
 
--- src/lib.rt:241:9
 returns-2 : tie.Need-returns-2
-returns-2 c = ?
+returns-2 c = kept-many _ _ _ _ _ (flag-on _ _ (c .before .before .before .before .kept-finite .ensures) (c .before .before .before .if1 .left)) _ (c .before .before .count-kept .ensures ∙ sym (kept-length (c .before .before .before .before .before .before .before .before .before .before .args .values .now) (c .before .before .before .before .before .before .before .before .before .before .args .mask .now) (c .before .before .before .before .before .before .before .before .before .before .args .masks .now) (c .before .before .before .before .before .before .before .before .before .before .args .value-offsets .now) (c .before .before .before .before .before .before .before .before .before .before .args .metas .now) (c .before .before .before .before .before .before .before .before .before .before .pre .0 .0) (c .before .before .before .before .before .before .before .before .before .before .pre .0 .1))) (flag-off _ _ (c .before .entries-fit .ensures) (c .if2 .taken))
 
--- src/lib.rt:244:9
 returns-3 : tie.Need-returns-3
-returns-3 c = ?
+returns-3 c = few-pointers _ _ _ _ _ (flag-on _ _ (c .before .before .before .before .before .kept-finite .ensures) (c .before .before .before .before .if1 .left)) _ (c .before .before .before .count-kept .ensures ∙ sym (kept-length (c .before .before .before .before .before .before .before .before .before .before .before .args .values .now) (c .before .before .before .before .before .before .before .before .before .before .before .args .mask .now) (c .before .before .before .before .before .before .before .before .before .before .before .args .masks .now) (c .before .before .before .before .before .before .before .before .before .before .before .args .value-offsets .now) (c .before .before .before .before .before .before .before .before .before .before .before .args .metas .now) (c .before .before .before .before .before .before .before .before .before .before .before .pre .0 .0) (c .before .before .before .before .before .before .before .before .before .before .before .pre .0 .1))) (flag-on _ _ (c .before .before .entries-fit .ensures) (c .before .if2 .left)) (omega arith)
 
--- src/lib.rt:247:9
 returns-4 : tie.Need-returns-4
-returns-4 c = ?
+returns-4 c = few-columns _ _ _ _ _ (flag-on _ _ (c .before .before .before .before .before .before .kept-finite .ensures) (c .before .before .before .before .before .if1 .left)) _ (c .before .before .before .before .count-kept .ensures ∙ sym (kept-length (c .before .before .before .before .before .before .before .before .before .before .before .before .args .values .now) (c .before .before .before .before .before .before .before .before .before .before .before .before .args .mask .now) (c .before .before .before .before .before .before .before .before .before .before .before .before .args .masks .now) (c .before .before .before .before .before .before .before .before .before .before .before .before .args .value-offsets .now) (c .before .before .before .before .before .before .before .before .before .before .before .before .args .metas .now) (c .before .before .before .before .before .before .before .before .before .before .before .before .pre .0 .0) (c .before .before .before .before .before .before .before .before .before .before .before .before .pre .0 .1))) (flag-on _ _ (c .before .before .before .entries-fit .ensures) (c .before .before .if2 .left)) (omega arith) (omega arith)
 
--- src/lib.rt:250:9
 returns-5 : tie.Need-returns-5
-returns-5 c = ?
+returns-5 c = few-values _ _ _ _ _ (flag-on _ _ (c .before .before .before .before .before .before .before .kept-finite .ensures) (c .before .before .before .before .before .before .if1 .left)) _ (c .before .before .before .before .before .count-kept .ensures ∙ sym (kept-length (c .before .before .before .before .before .before .before .before .before .before .before .before .before .args .values .now) (c .before .before .before .before .before .before .before .before .before .before .before .before .before .args .mask .now) (c .before .before .before .before .before .before .before .before .before .before .before .before .before .args .masks .now) (c .before .before .before .before .before .before .before .before .before .before .before .before .before .args .value-offsets .now) (c .before .before .before .before .before .before .before .before .before .before .before .before .before .args .metas .now) (c .before .before .before .before .before .before .before .before .before .before .before .before .before .pre .0 .0) (c .before .before .before .before .before .before .before .before .before .before .before .before .before .pre .0 .1))) (flag-on _ _ (c .before .before .before .before .entries-fit .ensures) (c .before .before .before .if2 .left)) (omega arith) (omega arith) (omega arith)
 
--- src/lib.rt:222:1
 returns-6 : tie.Need-returns-6
-returns-6 c = ?
+returns-6 c = kept-good _ _ _ _ _ (flag-on _ _ (c .before .before .before .before .before .before .before .kept-finite .ensures) (c .before .before .before .before .before .before .if1 .left)) _ (c .before .before .before .before .before .count-kept .ensures ∙ sym (kept-length (c .before .before .before .before .before .before .before .before .before .before .before .before .before .args .values .now) (c .before .before .before .before .before .before .before .before .before .before .before .before .before .args .mask .now) (c .before .before .before .before .before .before .before .before .before .before .before .before .before .args .masks .now) (c .before .before .before .before .before .before .before .before .before .before .before .before .before .args .value-offsets .now) (c .before .before .before .before .before .before .before .before .before .before .before .before .before .args .metas .now) (c .before .before .before .before .before .before .before .before .before .before .before .before .before .pre .0 .0) (c .before .before .before .before .before .before .before .before .before .before .before .before .before .pre .0 .1))) (flag-on _ _ (c .before .before .before .before .entries-fit .ensures) (c .before .before .before .if2 .left)) (omega arith) (omega arith) (omega arith)
 
 pub examine-kept-spec : {M : Type 1} → statement M
 examine-kept-spec =

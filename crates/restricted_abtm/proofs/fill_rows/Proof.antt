@@ -1,155 +1,147 @@
+-- `restricted_abtm::fill_rows` meets its contract. Assumes nothing.
 use borrow.Author.Needs.{needs}
+use mathlib.Core.Path.{refl}
+use Prim.Native.Nat.{_-_}
+use native.Mathlib.Omega.{arith}
+use lib.ListN.{length-set}
+use Rattle.abtm.specs.Tiles.{asTiles}
+use Rattle.restricted_abtm.proofs.FillLaws.{Filling, filling-none, rows-few, words-few, row-places, lent-offsets, lent-metas, lent-ready, column-room, value-room, filling-more, pointer-room, filled-kept, filled-pointers, filled-columns, filled-values}
 use Rattle.restricted_abtm.proofs.fill_rows.Statement.{statement}
 use Rattle.restricted_abtm.proofs.fill_rows.Tie as tie
-use Rattle.restricted_abtm.proofs.fill_rows.Reads as reads
-use Rattle.restricted_abtm.proofs.fill_rows.Lts as lts
-use Rattle.hybit_core.proofs.narrow.Reads as narrow-reads
-use Rattle.hybit_core.proofs.wide.Reads as wide-reads
-use Rattle.restricted_abtm.proofs.keep_row.Reads as keep-row-reads
 
 abbrev Inv-loop : tie.InvT-loop
-Inv-loop nrows ncols row-tile-ptr masks value-offsets metas values matrix-nnz mask-len mask out-row-ptr₀ out-col-idx₀ out-values₀ at₀ row₀ out-row-ptr out-col-idx out-values at row =
-    ?
+Inv-loop nrows ncols row-tile-ptr masks value-offsets metas values matrix-nnz mask-len mask out-row-ptr₀ out-col-idx₀ out-values₀ at₀ row₀ out-row-ptr out-col-idx out-values at row = Filling (asTiles nrows ncols row-tile-ptr masks value-offsets metas values matrix-nnz) mask-len mask out-row-ptr₀ out-col-idx₀ out-values₀ row at out-row-ptr out-col-idx out-values
 
 abbrev μ-loop : tie.MeasureT-loop
-μ-loop nrows ncols row-tile-ptr masks value-offsets metas values matrix-nnz mask-len mask out-row-ptr₀ out-col-idx₀ out-values₀ at₀ row₀ out-row-ptr out-col-idx out-values at row =
-    ?
+μ-loop nrows ncols row-tile-ptr masks value-offsets metas values matrix-nnz mask-len mask out-row-ptr₀ out-col-idx₀ out-values₀ at₀ row₀ out-row-ptr out-col-idx out-values at row = nrows - row
 
--- src/lib.rt:124:5
 loop-holds : tie.Need-loop-holds Inv-loop μ-loop
-loop-holds c = ?
+loop-holds c = filling-none _ _ _ _ _ _
 
--- src/lib.rt:125:28
 narrow-requires : tie.Need-narrow-requires Inv-loop μ-loop
-narrow-requires c κs = ?
+narrow-requires c κs = search needs
 
--- src/lib.rt:125:9
 mul-out-row-ptr : tie.Need-mul-out-row-ptr Inv-loop μ-loop
-mul-out-row-ptr c = ?
+mul-out-row-ptr c = omega (arith, rows-few _ _ _ _ _ _ (c .before .before .before .before .before .before .before .before .before .before .before .before .pre))
 
--- src/lib.rt:125:9
 slice-write-out-row-ptr : tie.Need-slice-write-out-row-ptr Inv-loop μ-loop
-slice-write-out-row-ptr c = ?
+slice-write-out-row-ptr c = pointer-room _ _ _ _ _ _ (c .before .before .before .before .before .before .before .before .before .before .before .before .pre) _ _ _ refl _ _ _ _ _ (c .before .before .loop .inv) _ (omega arith)
 
--- src/lib.rt:126:38
 mul-wide : tie.Need-mul-wide Inv-loop μ-loop
-mul-wide c = ?
+mul-wide c = omega (arith, rows-few _ _ _ _ _ _ (c .before .before .before .before .before .before .before .before .before .before .before .before .pre))
 
--- src/lib.rt:126:38
 shared-slice-read-wide : tie.Need-shared-slice-read-wide Inv-loop μ-loop
-shared-slice-read-wide c = ?
+shared-slice-read-wide c = omega (arith, row-places _ _ _ _ _ _ (c .before .before .before .before .before .before .before .before .before .before .before .before .before .pre) (c .before .before .before .loop .row) _ _ (omega arith) refl refl .here)
 
--- src/lib.rt:126:13
 wide-requires : tie.Need-wide-requires Inv-loop μ-loop
-wide-requires c κs = ?
+wide-requires c κs = search needs
 
--- src/lib.rt:127:49
 add-wide : tie.Need-add-wide Inv-loop μ-loop
-add-wide c = ?
+add-wide c = omega (arith, rows-few _ _ _ _ _ _ (c .before .before .before .before .before .before .before .before .before .before .before .before .before .before .pre))
 
--- src/lib.rt:127:36
 mul-wide-2 : tie.Need-mul-wide-2 Inv-loop μ-loop
-mul-wide-2 c = ?
+mul-wide-2 c = omega (arith, rows-few _ _ _ _ _ _ (c .before .before .before .before .before .before .before .before .before .before .before .before .before .before .pre))
 
--- src/lib.rt:127:36
 shared-slice-read-wide-2 : tie.Need-shared-slice-read-wide-2 Inv-loop μ-loop
-shared-slice-read-wide-2 c = ?
+shared-slice-read-wide-2 c = omega (arith, row-places _ _ _ _ _ _ (c .before .before .before .before .before .before .before .before .before .before .before .before .before .before .before .pre) (c .before .before .before .before .before .loop .row) _ _ (omega arith) refl refl .next)
 
--- src/lib.rt:127:13
 wide-requires-2 : tie.Need-wide-requires-2 Inv-loop μ-loop
-wide-requires-2 c κs = ?
+wide-requires-2 c κs = search needs
 
--- src/lib.rt:129:13
 mul-keep-row : tie.Need-mul-keep-row Inv-loop μ-loop
-mul-keep-row c = ?
+mul-keep-row c =
+    let p = row-places _ _ _ _ _ _ (c .before .before .before .before .before .before .before .before .before .before .before .before .before .before .before .before .pre) (c .before .before .before .before .before .before .loop .row) _ _ (omega arith) (c .before .before .wide .ensures) (c .wide2 .ensures) in
+    omega (arith, p .order, p .in-masks)
 
--- src/lib.rt:129:13
 sub-keep-row : tie.Need-sub-keep-row Inv-loop μ-loop
-sub-keep-row c = ?
+sub-keep-row c =
+    let p = row-places _ _ _ _ _ _ (c .before .before .before .before .before .before .before .before .before .before .before .before .before .before .before .before .pre) (c .before .before .before .before .before .before .loop .row) _ _ (omega arith) (c .before .before .wide .ensures) (c .wide2 .ensures) in
+    omega (arith, p .order, p .in-masks)
 
--- src/lib.rt:129:13
 part-keep-row-start : tie.Need-part-keep-row-start Inv-loop μ-loop
-part-keep-row-start c = ?
+part-keep-row-start c =
+    let p = row-places _ _ _ _ _ _ (c .before .before .before .before .before .before .before .before .before .before .before .before .before .before .before .before .pre) (c .before .before .before .before .before .before .loop .row) _ _ (omega arith) (c .before .before .wide .ensures) (c .wide2 .ensures) in
+    omega (arith, p .order, p .in-masks)
 
--- src/lib.rt:129:13
 part-keep-row-end : tie.Need-part-keep-row-end Inv-loop μ-loop
-part-keep-row-end c = ?
+part-keep-row-end c =
+    let p = row-places _ _ _ _ _ _ (c .before .before .before .before .before .before .before .before .before .before .before .before .before .before .before .before .pre) (c .before .before .before .before .before .before .loop .row) _ _ (omega arith) (c .before .before .wide .ensures) (c .wide2 .ensures) in
+    omega (arith, p .order, p .in-masks)
 
--- src/lib.rt:130:13
 mul-keep-row-2 : tie.Need-mul-keep-row-2 Inv-loop μ-loop
-mul-keep-row-2 c = ?
+mul-keep-row-2 c =
+    let p = row-places _ _ _ _ _ _ (c .before .before .before .before .before .before .before .before .before .before .before .before .before .before .before .before .before .pre) (c .before .before .before .before .before .before .before .loop .row) _ _ (omega arith) (c .before .before .before .wide .ensures) (c .before .wide2 .ensures) in
+    omega (arith, p .order, p .in-offsets)
 
--- src/lib.rt:130:13
 sub-keep-row-2 : tie.Need-sub-keep-row-2 Inv-loop μ-loop
-sub-keep-row-2 c = ?
+sub-keep-row-2 c =
+    let p = row-places _ _ _ _ _ _ (c .before .before .before .before .before .before .before .before .before .before .before .before .before .before .before .before .before .pre) (c .before .before .before .before .before .before .before .loop .row) _ _ (omega arith) (c .before .before .before .wide .ensures) (c .before .wide2 .ensures) in
+    omega (arith, p .order, p .in-offsets)
 
--- src/lib.rt:130:13
 part-keep-row-start-2 : tie.Need-part-keep-row-start-2 Inv-loop μ-loop
-part-keep-row-start-2 c = ?
+part-keep-row-start-2 c =
+    let p = row-places _ _ _ _ _ _ (c .before .before .before .before .before .before .before .before .before .before .before .before .before .before .before .before .before .pre) (c .before .before .before .before .before .before .before .loop .row) _ _ (omega arith) (c .before .before .before .wide .ensures) (c .before .wide2 .ensures) in
+    omega (arith, p .order, p .in-offsets)
 
--- src/lib.rt:130:13
 part-keep-row-end-2 : tie.Need-part-keep-row-end-2 Inv-loop μ-loop
-part-keep-row-end-2 c = ?
+part-keep-row-end-2 c =
+    let p = row-places _ _ _ _ _ _ (c .before .before .before .before .before .before .before .before .before .before .before .before .before .before .before .before .before .pre) (c .before .before .before .before .before .before .before .loop .row) _ _ (omega arith) (c .before .before .before .wide .ensures) (c .before .wide2 .ensures) in
+    omega (arith, p .order, p .in-offsets)
 
--- src/lib.rt:131:13
 mul-keep-row-3 : tie.Need-mul-keep-row-3 Inv-loop μ-loop
-mul-keep-row-3 c = ?
+mul-keep-row-3 c =
+    let p = row-places _ _ _ _ _ _ (c .before .before .before .before .before .before .before .before .before .before .before .before .before .before .before .before .before .before .pre) (c .before .before .before .before .before .before .before .before .loop .row) _ _ (omega arith) (c .before .before .before .before .wide .ensures) (c .before .before .wide2 .ensures) in
+    omega (arith, p .order, p .in-metas)
 
--- src/lib.rt:131:13
 sub-keep-row-3 : tie.Need-sub-keep-row-3 Inv-loop μ-loop
-sub-keep-row-3 c = ?
+sub-keep-row-3 c =
+    let p = row-places _ _ _ _ _ _ (c .before .before .before .before .before .before .before .before .before .before .before .before .before .before .before .before .before .before .pre) (c .before .before .before .before .before .before .before .before .loop .row) _ _ (omega arith) (c .before .before .before .before .wide .ensures) (c .before .before .wide2 .ensures) in
+    omega (arith, p .order, p .in-metas)
 
--- src/lib.rt:131:13
 part-keep-row-start-3 : tie.Need-part-keep-row-start-3 Inv-loop μ-loop
-part-keep-row-start-3 c = ?
+part-keep-row-start-3 c =
+    let p = row-places _ _ _ _ _ _ (c .before .before .before .before .before .before .before .before .before .before .before .before .before .before .before .before .before .before .pre) (c .before .before .before .before .before .before .before .before .loop .row) _ _ (omega arith) (c .before .before .before .before .wide .ensures) (c .before .before .wide2 .ensures) in
+    omega (arith, p .order, p .in-metas)
 
--- src/lib.rt:131:13
 part-keep-row-end-3 : tie.Need-part-keep-row-end-3 Inv-loop μ-loop
-part-keep-row-end-3 c = ?
+part-keep-row-end-3 c =
+    let p = row-places _ _ _ _ _ _ (c .before .before .before .before .before .before .before .before .before .before .before .before .before .before .before .before .before .before .pre) (c .before .before .before .before .before .before .before .before .loop .row) _ _ (omega arith) (c .before .before .before .before .wide .ensures) (c .before .before .wide2 .ensures) in
+    omega (arith, p .order, p .in-metas)
 
--- src/lib.rt:128:9
 keep-row-requires : tie.Need-keep-row-requires Inv-loop μ-loop
-keep-row-requires c κs = ?
+keep-row-requires c κs =
+    ((lent-offsets _ _ _ _ _ _ (c .before .before .before .before .before .before .before .before .before .before .before .before .before .before .before .before .before .before .before .before .before .pre) (c .before .before .before .before .before .before .before .before .before .before .before .loop .row) _ _ (omega arith) (c .before .before .before .before .before .before .before .wide .ensures) (c .before .before .before .before .before .wide2 .ensures), lent-metas _ _ _ _ _ _ (c .before .before .before .before .before .before .before .before .before .before .before .before .before .before .before .before .before .before .before .before .before .pre) (c .before .before .before .before .before .before .before .before .before .before .before .loop .row) _ _ (omega arith) (c .before .before .before .before .before .before .before .wide .ensures) (c .before .before .before .before .before .wide2 .ensures)), (lent-ready _ _ _ _ _ _ (c .before .before .before .before .before .before .before .before .before .before .before .before .before .before .before .before .before .before .before .before .before .pre) (c .before .before .before .before .before .before .before .before .before .before .before .loop .row) _ _ (omega arith) (c .before .before .before .before .before .before .before .wide .ensures) (c .before .before .before .before .before .wide2 .ensures) (λ k. c .before .before .before .before .before .before .before .before .before .before .before .before .before .before .before .before .before .before .before .shared-slice-known2 .given k .fits), (words-few _ _ _ _ _ _ (c .before .before .before .before .before .before .before .before .before .before .before .before .before .before .before .before .before .before .before .before .before .pre), (column-room _ _ _ _ _ _ (c .before .before .before .before .before .before .before .before .before .before .before .before .before .before .before .before .before .before .before .before .before .pre) (c .before .before .before .before .before .before .before .before .before .before .before .loop .row) _ _ (omega arith) (c .before .before .before .before .before .before .before .wide .ensures) (c .before .before .before .before .before .wide2 .ensures) _ _ _ refl refl refl _ _ _ _ (c .before .before .before .before .before .before .before .before .before .before .before .loop .inv), value-room _ _ _ _ _ _ (c .before .before .before .before .before .before .before .before .before .before .before .before .before .before .before .before .before .before .before .before .before .pre) (c .before .before .before .before .before .before .before .before .before .before .before .loop .row) _ _ (omega arith) (c .before .before .before .before .before .before .before .wide .ensures) (c .before .before .before .before .before .wide2 .ensures) _ _ _ refl refl refl _ _ _ _ (c .before .before .before .before .before .before .before .before .before .before .before .loop .inv)))))
 
--- src/lib.rt:138:9
 add-row : tie.Need-add-row Inv-loop μ-loop
-add-row c = ?
+add-row c = omega (arith, rows-few _ _ _ _ _ _ (c .before .before .before .before .before .before .before .before .before .before .before .before .before .before .before .before .before .before .before .before .before .before .before .before .before .before .pre))
 
--- src/lib.rt:124:5
 loop-less : tie.Need-loop-less Inv-loop μ-loop
-loop-less c = ?
+loop-less c = search needs
 
--- src/lib.rt:124:5
 loop-again : tie.Need-loop-again Inv-loop μ-loop
-loop-again c = ?
+loop-again c = filling-more _ _ _ _ _ _ (c .before .before .before .before .before .before .before .before .before .before .before .before .before .before .before .before .before .before .before .before .before .before .before .before .before .before .pre) (c .before .before .before .before .before .before .before .before .before .before .before .before .before .before .before .before .loop .row) _ _ (omega arith) (c .before .before .before .before .before .before .before .before .before .before .before .before .wide .ensures) (c .before .before .before .before .before .before .before .before .before .before .wide2 .ensures) _ _ _ refl refl refl _ _ _ _ (c .before .before .before .before .before .before .before .before .before .before .before .before .before .before .before .before .loop .inv) _ _ _ _ (c .before .before .before .before .before .before .before .before .before .before .before .before .before .before .narrow .ensures) (c .before .before .before .before .keep-row .ensures .0) (c .before .before .before .before .keep-row .ensures .1) (c .before .before .before .before .keep-row .kept .1 .1 .1 .1 .1 .1 .0) (c .before .before .before .before .keep-row .kept .1 .1 .1 .1 .1 .1 .1 .0)
 
--- src/lib.rt:140:26
 narrow-requires-2 : tie.Need-narrow-requires-2 Inv-loop μ-loop
-narrow-requires-2 c κs = ?
+narrow-requires-2 c κs = search needs
 
--- src/lib.rt:140:5
 mul-out-row-ptr-2 : tie.Need-mul-out-row-ptr-2 Inv-loop μ-loop
-mul-out-row-ptr-2 c = ?
+mul-out-row-ptr-2 c = omega (arith, rows-few _ _ _ _ _ _ (c .before .before .before .before .before .before .before .before .before .before .before .before .pre))
 
--- src/lib.rt:140:5
 slice-write-out-row-ptr-2 : tie.Need-slice-write-out-row-ptr-2 Inv-loop μ-loop
-slice-write-out-row-ptr-2 c = ?
+slice-write-out-row-ptr-2 c = pointer-room _ _ _ _ _ _ (c .before .before .before .before .before .before .before .before .before .before .before .before .pre) _ _ _ refl _ _ _ _ _ (c .before .before .loop .inv) _ (omega arith)
 
--- src/lib.rt:101:1
 same-length : tie.Need-same-length Inv-loop μ-loop
-same-length c = ?
+same-length c = simp length-set (c .before .before .loop .inv .pointers-same)
 
--- src/lib.rt:101:1
 same-length-2 : tie.Need-same-length-2 Inv-loop μ-loop
-same-length-2 c = ?
+same-length-2 c = c .before .before .loop .inv .columns-same
 
--- src/lib.rt:101:1
 same-length-3 : tie.Need-same-length-3 Inv-loop μ-loop
-same-length-3 c = ?
+same-length-3 c = c .before .before .loop .inv .values-same
 
--- src/lib.rt:101:1
 returns : tie.Need-returns Inv-loop μ-loop
-returns c = ?
+returns c =
+    (filled-kept _ _ _ _ _ _ (c .before .before .before .before .before .before .before .before .before .before .before .before .pre) _ _ _ refl _ _ _ _ _ (c .before .before .loop .inv) (omega arith), (filled-pointers _ _ _ _ _ _ (c .before .before .before .before .before .before .before .before .before .before .before .before .pre) _ _ _ refl _ _ _ _ _ (c .before .before .loop .inv) (omega arith) _ (c .narrow2 .ensures), (filled-columns _ _ _ _ _ _ (c .before .before .before .before .before .before .before .before .before .before .before .before .pre) _ _ _ refl _ _ _ _ _ (c .before .before .loop .inv) (omega arith), filled-values _ _ _ _ _ _ (c .before .before .before .before .before .before .before .before .before .before .before .before .pre) _ _ _ refl _ _ _ _ _ (c .before .before .loop .inv) (omega arith))))
 
 pub fill-rows-spec : {M : Type 1} → statement M
 fill-rows-spec =

@@ -1,87 +1,72 @@
+-- `restricted_abtm::from_abtm` meets its contract. Assumes nothing.
 use borrow.Author.Needs.{needs}
+use mathlib.Core.Path.{refl}
+use native.Mathlib.Omega.{arith}
+use Rattle.hybit_core.proofs.AnswerLaws.{accepted-by, given-refused, given-accepted}
+use Rattle.lent.proofs.LentLaws.{built-refused, built-accepted, appended-cleared}
+use Rattle.restricted_abtm.proofs.FillLaws.{rows-few}
+use Rattle.restricted_abtm.proofs.CallLaws.{restriction-is}
 use Rattle.restricted_abtm.proofs.from_abtm.Statement.{statement}
 use Rattle.restricted_abtm.proofs.from_abtm.Tie as tie
-use Rattle.restricted_abtm.proofs.from_abtm.Reads as reads
-use Rattle.restricted_abtm.proofs.from_abtm.Lts as lts
-use Rattle.lent.proofs.clear_from_f64.Reads as clear-from-f64-reads
-use Rattle.lent.proofs.clear_from_u32.Reads as clear-from-u32-reads
-use Rattle.restricted_abtm.proofs.examine.Reads as examine-reads
-use Rattle.restricted_abtm.proofs.fill_rows.Reads as fill-rows-reads
 
--- src/lib.rt:333:9
 examine-requires : tie.Need-examine-requires
-examine-requires c κs = ?
+examine-requires c κs = search needs
 
--- src/lib.rt:348:29
 enum-known-v : tie.Need-enum-known-v
-enum-known-v c = ?
+enum-known-v c = search needs
 
--- src/lib.rt:349:9
 clear-from-u32-requires : tie.Need-clear-from-u32-requires
-clear-from-u32-requires c κs = ?
+clear-from-u32-requires c κs = search needs
 
--- src/lib.rt:350:9
 clear-from-u32-requires-2 : tie.Need-clear-from-u32-requires-2
-clear-from-u32-requires-2 c κs = ?
+clear-from-u32-requires-2 c κs = search needs
 
--- src/lib.rt:351:9
 clear-from-f64-requires : tie.Need-clear-from-f64-requires
-clear-from-f64-requires c κs = ?
+clear-from-f64-requires c κs = search needs
 
--- src/lib.rt:352:9
 same-length : tie.Need-same-length
-same-length c = ?
+same-length c = search needs
 
--- src/lib.rt:352:9
 same-length-2 : tie.Need-same-length-2
-same-length-2 c = ?
+same-length-2 c = search needs
 
--- src/lib.rt:352:9
 same-length-3 : tie.Need-same-length-3
-same-length-3 c = ?
+same-length-3 c = search needs
 
--- src/lib.rt:352:9
 returns : tie.Need-returns
-returns c = ?
+returns c =
+    (given-refused _ _ _ _ (c .before .before .before .before .before .before .before .before .before .before .before .before .before .before .before .examine .ensures) (c .before .before .before .before .before .before .before .before .before .before .before .before .before .v .given .1), (built-refused _ _ _ _ _ _ _ (c .before .before .before .before .before .before .before .before .before .before .before .before .before .before .before .examine .ensures) (c .before .before .before .before .before .before .before .before .before .before .before .before .before .v .given .1) (c .before .before .before .before .before .before .before .before .before .before .clear-from-u32 .ensures), (built-refused _ _ _ _ _ _ _ (c .before .before .before .before .before .before .before .before .before .before .before .before .before .before .before .examine .ensures) (c .before .before .before .before .before .before .before .before .before .before .before .before .before .v .given .1) (c .before .before .before .before .before .before .clear-from-u322 .ensures), built-refused _ _ _ _ _ _ _ (c .before .before .before .before .before .before .before .before .before .before .before .before .before .before .before .examine .ensures) (c .before .before .before .before .before .before .before .before .before .before .before .before .before .v .given .1) (c .before .before .clear-from-f64 .ensures))))
 
 enum-told : tie.Need-enum-told
-enum-told c = ?
+enum-told c = search needs
 
--- src/lib.rt:354:9
 fill-rows-requires : tie.Need-fill-rows-requires
-fill-rows-requires c κs = ?
+fill-rows-requires c κs = accepted-by _ _ (c .before .before .before .before .before .examine .ensures) (c .before .before .before .enum-told .given .1)
 
--- src/lib.rt:369:39
 add-clear-from-u32 : tie.Need-add-clear-from-u32
-add-clear-from-u32 c = ?
+add-clear-from-u32 c = omega (arith, rows-few _ _ _ _ _ _ (accepted-by _ _ (c .before .before .before .before .before .before .before .before .before .before .before .before .before .examine .ensures) (c .before .before .before .before .before .before .before .before .before .before .before .enum-told .given .1)))
 
--- src/lib.rt:369:5
 clear-from-u32-requires-3 : tie.Need-clear-from-u32-requires-3
-clear-from-u32-requires-3 c κs = ?
+clear-from-u32-requires-3 c κs = search needs
 
--- src/lib.rt:370:5
 clear-from-u32-requires-4 : tie.Need-clear-from-u32-requires-4
-clear-from-u32-requires-4 c κs = ?
+clear-from-u32-requires-4 c κs = search needs
 
--- src/lib.rt:371:5
 clear-from-f64-requires-2 : tie.Need-clear-from-f64-requires-2
-clear-from-f64-requires-2 c κs = ?
+clear-from-f64-requires-2 c κs = search needs
 
--- src/lib.rt:313:1
 same-length-4 : tie.Need-same-length-4
-same-length-4 c = ?
+same-length-4 c = search needs
 
--- src/lib.rt:313:1
 same-length-5 : tie.Need-same-length-5
-same-length-5 c = ?
+same-length-5 c = search needs
 
--- src/lib.rt:313:1
 same-length-6 : tie.Need-same-length-6
-same-length-6 c = ?
+same-length-6 c = search needs
 
--- src/lib.rt:313:1
 returns-2 : tie.Need-returns-2
-returns-2 c = ?
+returns-2 c =
+    (given-accepted _ _ _ _ (c .before .before .before .before .before .before .before .before .before .before .before .before .before .before .before .before .before .before .before .before .before .before .before .before .examine .ensures) (c .before .before .before .before .before .before .before .before .before .before .before .before .before .before .before .before .before .before .before .before .before .before .enum-told .given .1) (restriction-is _ _ _ (c .before .before .before .before .before .before .before .before .before .before .before .before .before .before .before .before .before .before .fill-rows .ensures .0)), (built-accepted _ _ _ _ _ _ (c .before .before .before .before .before .before .before .before .before .before .before .before .before .before .before .before .before .before .before .before .before .before .before .before .examine .ensures) (c .before .before .before .before .before .before .before .before .before .before .before .before .before .before .before .before .before .before .before .before .before .before .enum-told .given .1) (appended-cleared _ _ _ _ _ _ (c .before .before .before .before .before .before .before .before .before .before .before .before .before .before .before .before .before .before .fill-rows .ensures .1 .0) (c .before .before .before .before .before .before .before .before .before .before .before .before .before .before .before .before .before .before .fill-rows .kept .1 .1 .1 .1 .1 .1 .1 .1 .1 .1 .0) (c .before .before .before .before .before .before .before .before .before .before .clear-from-u323 .ensures)), (built-accepted _ _ _ _ _ _ (c .before .before .before .before .before .before .before .before .before .before .before .before .before .before .before .before .before .before .before .before .before .before .before .before .examine .ensures) (c .before .before .before .before .before .before .before .before .before .before .before .before .before .before .before .before .before .before .before .before .before .before .enum-told .given .1) (appended-cleared _ _ _ _ _ _ (c .before .before .before .before .before .before .before .before .before .before .before .before .before .before .before .before .before .before .fill-rows .ensures .1 .1 .0) (c .before .before .before .before .before .before .before .before .before .before .before .before .before .before .before .before .before .before .fill-rows .kept .1 .1 .1 .1 .1 .1 .1 .1 .1 .1 .1 .0) (c .before .before .before .before .before .before .clear-from-u324 .ensures)), built-accepted _ _ _ _ _ _ (c .before .before .before .before .before .before .before .before .before .before .before .before .before .before .before .before .before .before .before .before .before .before .before .before .examine .ensures) (c .before .before .before .before .before .before .before .before .before .before .before .before .before .before .before .before .before .before .before .before .before .before .enum-told .given .1) (appended-cleared _ _ _ _ _ _ (c .before .before .before .before .before .before .before .before .before .before .before .before .before .before .before .before .before .before .fill-rows .ensures .1 .1 .1) (c .before .before .before .before .before .before .before .before .before .before .before .before .before .before .before .before .before .before .fill-rows .kept .1 .1 .1 .1 .1 .1 .1 .1 .1 .1 .1 .1 .0) (c .before .before .clear-from-f642 .ensures)))))
 
 pub from-abtm-spec : {M : Type 1} → statement M
 from-abtm-spec =

@@ -1,13 +1,12 @@
 -- The checks at each return of the code, and what a call answers. Assumes nothing.
 use mathlib.Core.Bool.{Bool, true, false, _&&_}
-use mathlib.Core.List.{List, map, zip}
-use mathlib.Core.Path.{_≡_, refl, sym, ap, ap₂, _∙_}
-use Prim.Native.Nat.{ℕ, suc, _+_, _≤_, _<_, _^_}
+use mathlib.Core.List.{List, zip}
+use mathlib.Core.Path.{_≡_, refl, sym, ap, _∙_}
+use Prim.Native.Nat.{ℕ, _+_, _≤_, _<_, _^_}
 use native.Mathlib.Numerals.{add-one}
 use native.Mathlib.Omega.{arith}
 use lib.Dec.{leb}
 use lib.ListN.{length, getD}
-use lib.Ieee.{Float}
 use Rattle.hybit_core.specs.Answer.{Answer, accepted, refused, plain, lengthsDiffer, demand, lengthIs, _andThen_}
 use Rattle.hybit_core.specs.Domain.{few, many}
 use Rattle.hybit_core.specs.Floats.{finite}

@@ -26,7 +26,7 @@ use Rattle.topology.specs.Words.{wordRule}
 use Rattle.topology.proofs.RowLaws.{small-is, word-inside}
 use Rattle.abtm.specs.Tiles.{Tile, Tiles, Listed, wordIn, kindIn, placesOf, places, stored, tileAt, listedTiles, rowTiles, tileEntries}
 use Rattle.abtm_check.proofs.TilesLaws.{AcceptedTiles, slotsInside, rowListed, row-listed, row-inside, row-words}
-use Rattle.restricted_abtm.specs.Kept.{placeIn, valueIn, activeBits, keptOf, keptAll, tileReady}
+use Rattle.restricted_abtm.specs.Kept.{placeIn, valueIn, entryIn, activeBits, keptOf, keptAll, tileReady}
 
 -- ---- the values of a tile, by the places of its columns
 
@@ -67,7 +67,7 @@ module _ (vals : List Float) (mask offset meta : ℕ) (h : offset + length (plac
           let k : j < length ps = omega (arith, long) in
           getD-drop offset (take end vals) j nan ∙ getD-take end vals (offset + j) nan (omega arith) ∙ value-of vals mask offset meta j k ∙ sym (getD-map-lt (valueIn vals mask offset meta) ps j 0 nan k)
 
-  stored-are : stored (tileAt vals (mask, (offset, meta))) ≡ map (λ i. (64 * wordIn meta + i, valueIn vals mask offset meta i)) (places mask meta)
+  stored-are : stored (tileAt vals (mask, (offset, meta))) ≡ map (entryIn vals (mask, (offset, meta))) (places mask meta)
   unfolding stored tileAt
   stored-are =
       ap (zip (map (λ i. 64 * wordIn meta + i) (places mask meta))) slots-are
@@ -105,7 +105,7 @@ unfolding keptOf
 tile-kept vals n ws ok e s =
     let mask : ℕ = e .0 in
     let meta : ℕ = e .1 .1 in
-    let g : ℕ → Entry = λ i. (64 * wordIn meta + i, valueIn vals mask (e .1 .0) meta i) in
+    let g : ℕ → Entry = entryIn vals e in
     let q : Entry → Bool = λ (x : Entry). has mask (x .0 % 64) in
     let a : Entry → Bool = λ (x : Entry). active (asMask n ws) (x .0) in
     ap (λ (l : List Entry). only a (only q l)) (stored-are vals mask (e .1 .0) meta (leb-true (e .1 .0 + length (places mask meta)) (length vals) s))

@@ -21,7 +21,7 @@ use Rattle.lent.proofs.LentLaws.{appended-none, appended-join, appended-snoc}
 use Rattle.mask.specs.Mask.{asMask, maskRules}
 use Rattle.mask.proofs.MaskLaws.{Valid, rules-valid, few-words}
 use Rattle.csr32.specs.Csr.{Csr, Entry}
-use Rattle.csr32.specs.Made.{csrOf, CsrRoom, asCsrRoom, fitsCsr}
+use Rattle.csr32.specs.Made.{csrOf, asCsrRoom, fitsCsr}
 use Rattle.csr32.proofs.FrameLaws.{RowIn}
 use Rattle.csr32.proofs.MadeLaws.{made-columns, made-values, made-pointers}
 use Rattle.abtm.specs.Tiles.{Tiles, tileSizes, tilesRules}

@@ -22,7 +22,7 @@ use Rattle.word.proofs.BitLaws.{every-below}
 use Rattle.word.proofs.OpLaws.{has-word}
 use Rattle.csr32.specs.Csr.{Entry}
 use Rattle.abtm.specs.Tiles.{Listed, wordIn, kindIn, placesOf, places}
-use Rattle.restricted_abtm.specs.Kept.{placeIn, valueIn, activeBits, keptOf, keptAll, keptCount, bitsInside, tileReady}
+use Rattle.restricted_abtm.specs.Kept.{placeIn, valueIn, entryIn, activeBits, keptOf, keptAll, keptCount, bitsInside, tileReady}
 
 -- ---- the place of a present column is one of the tile's
 
@@ -70,7 +70,7 @@ pub tile-all-finite : (vals : List Float) (ws : List ℕ) (nw : ℕ) (e : Listed
 unfolding keptOf valueIn members
 tile-all-finite vals ws nw e a ok =
     let bits : ℕ = activeBits ws (e .0) (e .1 .1) in
-    every-map (λ (x : Entry). finite (x .1)) (λ i. (64 * wordIn (e .1 .1) + i, getD vals (e .1 .0 + placeIn (e .1 .1) (e .0) i) nan)) (below (has bits) 64)
+    every-map (λ (x : Entry). finite (x .1)) (entryIn vals e) (below (has bits) 64)
     ∙ every-below (λ i. finite (getD vals (e .1 .0 + placeIn (e .1 .1) (e .0) i) nan)) (has bits) 64
     (λ i l h. every-getD finite vals (e .1 .0 + placeIn (e .1 .1) (e .0) i) nan a (ready-place (length vals) nw e ok ws i l h))
 
@@ -109,8 +109,8 @@ kept-length vals ws (m ∷ ms) [] ks e f = absurd (omega arith)
 kept-length vals ws (m ∷ ms) (o ∷ os) [] e f = absurd (omega arith)
 kept-length vals ws (m ∷ ms) (o ∷ os) (k ∷ ks) e f =
     let bits : List ℕ = members (activeBits ws m k) in
-    length-append (map (λ i. (64 * wordIn k + i, valueIn vals m o k i)) bits) (spread (keptOf vals ws) (zip ms (zip os ks)))
-    ∙ ap₂ (λ (x y : ℕ). x + y) (length-map bits (λ i. (64 * wordIn k + i, valueIn vals m o k i))) (kept-length vals ws ms os ks (omega arith) (omega arith))
+    length-append (map (entryIn vals (m, (o, k))) bits) (spread (keptOf vals ws) (zip ms (zip os ks)))
+    ∙ ap₂ (λ (x y : ℕ). x + y) (length-map bits (entryIn vals (m, (o, k)))) (kept-length vals ws ms os ks (omega arith) (omega arith))
     ∙ sym (length-append bits (spread (λ (e : ℕ × ℕ). members (activeBits ws (e .0) (e .1))) (zip ms ks)))
 
 pub ready-words : (nv nw : ℕ) (ms os ks : List ℕ) → length os ≡ length ms → length ks ≡ length ms → every (tileReady nv nw) (zip ms (zip os ks)) ≡ true → every (λ k. ltb (wordIn k) nw) ks ≡ true
@@ -174,27 +174,27 @@ module _ (masks offs metas : List ℕ) (vals : List Float) (ws : List ℕ) (eo :
       unfolding activeBits
       bits-are = eb ∙ ap (λ (v : ℕ). wordOf (λ i. has (getD masks k 0) i && has (getD ws v 0) i)) ew
 
-      pub tile-kept : keptOf vals ws tile ≡ map (λ i. (64 * wordIn (getD metas k 0) + i, valueIn vals (getD masks k 0) o (getD metas k 0) i)) (members bits)
+      pub tile-kept : keptOf vals ws tile ≡ map (entryIn vals tile) (members bits)
       unfolding keptOf
-      tile-kept = ap (λ (b : ℕ). map (λ i. (64 * wordIn (getD metas k 0) + i, valueIn vals (getD masks k 0) o (getD metas k 0) i)) (members b)) (sym bits-are)
+      tile-kept = ap (λ (b : ℕ). map (entryIn vals tile) (members b)) (sym bits-are)
 
       pub tile-columns : map (λ (e : Entry). e .0) (keptOf vals ws tile) ≡ map (λ i. 64 * wordIn (getD metas k 0) + i) (members bits)
       tile-columns =
           ap (map (λ (e : Entry). e .0)) tile-kept
-          ∙ map-map (λ (e : Entry). e .0) (λ i. (64 * wordIn (getD metas k 0) + i, valueIn vals (getD masks k 0) o (getD metas k 0) i)) (members bits)
+          ∙ map-map (λ (e : Entry). e .0) (entryIn vals tile) (members bits)
 
       pub tile-values : map (λ (e : Entry). e .1) (keptOf vals ws tile) ≡ map (valueIn vals (getD masks k 0) o (getD metas k 0)) (members bits)
       tile-values =
           ap (map (λ (e : Entry). e .1)) tile-kept
-          ∙ map-map (λ (e : Entry). e .1) (λ i. (64 * wordIn (getD metas k 0) + i, valueIn vals (getD masks k 0) o (getD metas k 0) i)) (members bits)
+          ∙ map-map (λ (e : Entry). e .1) (entryIn vals tile) (members bits)
 
       pub tile-tested : every (λ (e : Entry). finite (e .1)) (keptOf vals ws tile) ≡ every (λ i. finite (valueIn vals (getD masks k 0) o (getD metas k 0) i)) (members bits)
       tile-tested =
           ap (every (λ (e : Entry). finite (e .1))) tile-kept
-          ∙ every-map (λ (e : Entry). finite (e .1)) (λ i. (64 * wordIn (getD metas k 0) + i, valueIn vals (getD masks k 0) o (getD metas k 0) i)) (members bits)
+          ∙ every-map (λ (e : Entry). finite (e .1)) (entryIn vals tile) (members bits)
 
       pub tile-length : length (keptOf vals ws tile) ≡ length (members bits)
-      tile-length = ap length tile-kept ∙ length-map (members bits) (λ i. (64 * wordIn (getD metas k 0) + i, valueIn vals (getD masks k 0) o (getD metas k 0) i))
+      tile-length = ap length tile-kept ∙ length-map (members bits) (entryIn vals tile)
 
       module _ (ok : every (tileReady (length vals) (length ws)) (zip masks (zip offs metas)) ≡ true) where
         pub word-in : w < length ws

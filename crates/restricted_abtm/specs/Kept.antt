@@ -23,13 +23,17 @@ placeIn meta mask i = cond (isDense meta) i (count (has mask) i)
 unfoldable pub valueIn : List Float → ℕ → ℕ → ℕ → ℕ → Float
 valueIn vals mask offset meta i = getD vals (offset + placeIn meta mask i) nan
 
+-- column i of a listed tile with its value
+abbrev pub entryIn : List Float → Listed → ℕ → Entry
+entryIn vals e i = (64 * wordIn (e .1 .1) + i, valueIn vals (e .0) (e .1 .0) (e .1 .1) i)
+
 -- the members of a mask that are active: ws are the words of the active columns
 unfoldable pub activeBits : List ℕ → ℕ → ℕ → ℕ
 activeBits ws mask meta = wordOf (λ i. has mask i && has (getD ws (wordIn meta) 0) i)
 
 -- the entries of a listed tile in active columns, ascending
 unfoldable pub keptOf : List Float → List ℕ → Listed → List Entry
-keptOf vals ws e = map (λ i. (64 * wordIn (e .1 .1) + i, valueIn vals (e .0) (e .1 .0) (e .1 .1) i)) (members (activeBits ws (e .0) (e .1 .1)))
+keptOf vals ws e = map (entryIn vals e) (members (activeBits ws (e .0) (e .1 .1)))
 
 unfoldable pub keptAll : List Float → List ℕ → List Listed → List Entry
 keptAll vals ws l = spread (keptOf vals ws) l

@@ -171,9 +171,9 @@ fn active_finite(
     let mut k: usize = 0;
     while k < masks.len() {
         let word = hybit_core::wide(abtm::word_in(metas[k]));
-        let bits = word::intersection(masks[k], mask[word]);
+        let tested = word::intersection(masks[k], mask[word]);
         if !tile_finite(
-            bits,
+            tested,
             masks[k],
             hybit_core::wide(value_offsets[k]),
             metas[k],

@@ -1,6 +1,5 @@
 -- `restricted_abtm::from_abtm` meets its contract. Assumes nothing.
 use borrow.Author.Needs.{needs}
-use mathlib.Core.Path.{refl}
 use native.Mathlib.Omega.{arith}
 use Rattle.hybit_core.proofs.AnswerLaws.{accepted-by, given-refused, given-accepted}
 use Rattle.lent.proofs.LentLaws.{built-refused, built-accepted, appended-cleared}

@@ -1,0 +1,4 @@
+pub mod KeepLaws
+pub mod MemberLaws
+pub mod RegionLaws
+pub mod RowsLaws

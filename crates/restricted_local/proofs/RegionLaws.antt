@@ -57,10 +57,11 @@ module _ (a : Mask) (old : List ℕ) where
         pub putting-more : (v : ℕ) → a .size ≤ 2 ^ 20 → v ≡ r % 2 ^ 32 → Putting a old (r + 1) (at + 1) (set out at v)
         putting-more v small q =
             let is : v ≡ r = q ∙ mod-eq-of-lt (omega arith) in
+            let more : below (active a) (r + 1) ≡ below (active a) r ++ (v ∷ []) = below-in (active a) r e ∙ ap (λ (k : ℕ). below (active a) r ++ (k ∷ [])) (sym is) in
             record {
               inside = omega arith;
               same = length-set out at v ∙ inv .same;
-              done = rw (below-in (active a) r e, ← is) (appended-snoc (below (active a) r) 0 at old out v (inv .done) putting-room);
+              done = rw more (appended-snoc (below (active a) r) 0 at old out v (inv .done) putting-room);
             }
 
       pub putting-other : false ≡ active a r → Putting a old (r + 1) at out

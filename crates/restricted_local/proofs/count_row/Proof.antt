@@ -33,7 +33,7 @@ one-if-requires : tie.Need-one-if-requires Inv-loop μ-loop
 one-if-requires c κs = search needs
 
 add-kept : tie.Need-add-kept Inv-loop μ-loop
-add-kept c = omega (arith, counted-le _ _ _ _ (c .before .before .before .before .before .loop .inv), byte-small _ _ (c .one-if .ensures))
+add-kept c = omega (arith, counted-le _ _ _ _ (c .before .before .before .before .before .loop .inv), byte-small (c .before .is-member .result) _ (c .one-if .ensures))
 
 add-p : tie.Need-add-p Inv-loop μ-loop
 add-p c = search needs

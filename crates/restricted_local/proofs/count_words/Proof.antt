@@ -25,7 +25,7 @@ mul-counts : tie.Need-mul-counts Inv-loop μ-loop
 mul-counts c = search needs
 
 slice-write-counts : tie.Need-slice-write-counts Inv-loop μ-loop
-slice-write-counts c = omega (arith, c .before .before .before .before .loop .inv .1 .same)
+slice-write-counts c = omega (arith, c .before .before .loop .inv .1 .same)
 
 mul-popcount : tie.Need-mul-popcount Inv-loop μ-loop
 mul-popcount c = search needs

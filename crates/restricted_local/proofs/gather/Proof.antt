@@ -31,7 +31,7 @@ wide-requires : tie.Need-wide-requires Inv-loop μ-loop
 wide-requires c κs = search needs
 
 mul-local : tie.Need-mul-local Inv-loop μ-loop
-mul-local c = search needs
+mul-local c = omega (arith, column-below _ _ _ _ (c .before .before .before .before .before .before .before .before .pre .0) (omega arith) (c .before .wide .ensures))
 
 shared-slice-read-local : tie.Need-shared-slice-read-local Inv-loop μ-loop
 shared-slice-read-local c = column-below _ _ _ _ (c .before .before .before .before .before .before .before .before .pre .0) (omega arith) (c .before .wide .ensures)
@@ -51,7 +51,7 @@ loop-less c = search needs
 loop-again : tie.Need-loop-again Inv-loop μ-loop
 loop-again c =
     let inv = c .before .before .before .before .loop .inv in
-    (inv .0, omega arith, filled-more _ _ _ _ (inv .2) _ (ap (at _) (c .before .wide .ensures)) (omega arith))
+    (inv .0, omega arith, filled-more _ _ _ _ (inv .2) _ (ap (at (c .before .before .before .before .before .before .before .before .args .global .now)) (c .before .wide .ensures)) (omega arith))
 
 same-length : tie.Need-same-length Inv-loop μ-loop
 same-length c = filled-length _ _ _ _ (c .before .loop .inv .2) (omega arith)

@@ -1,10 +1,12 @@
 -- `restricted_local::keep_row` meets its contract. Assumes nothing.
 use borrow.Author.Needs.{needs}
+use mathlib.Core.List.{zip}
 use mathlib.Core.Path.{_∙_, sym, ap}
 use Prim.Native.Nat.{_-_}
 use native.Mathlib.Omega.{arith}
 use lib.ListN.{length}
 use Rattle.csr32.specs.Csr.{Entry}
+use Rattle.csr32.specs.Made.{entriesIn}
 use Rattle.csr32.proofs.CsrLaws.{column-below}
 use Rattle.word.specs.Bits.{count}
 use Rattle.mask.specs.Mask.{asMask, active}
@@ -83,8 +85,11 @@ same-length-2 c = c .before .loop .inv .long-values
 
 returns : tie.Need-returns Inv-loop μ-loop
 returns c =
+    let s = c .before .before .before .before .before .before .before .before .args in
+    let a = asMask (s .region-len) (s .region .now) in
+    let es = entriesIn (active a) (zip (s .cols .now) (s .vals .now)) in
     let k = keeping-done _ _ _ _ _ _ _ _ _ _ _ (c .before .loop .inv) (omega arith) in
-    (kept-columns _ _ _ _ _ _ (k .0), kept-values _ _ _ _ _ _ (k .1))
+    (kept-columns a es _ _ _ _ (k .0), kept-values a es _ _ _ _ (k .1))
 
 pub keep-row-spec : {M : Type 1} → statement M
 keep-row-spec =

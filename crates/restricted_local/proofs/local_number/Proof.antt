@@ -11,7 +11,7 @@ mul-wide : tie.Need-mul-wide
 mul-wide c = search needs
 
 shared-slice-read-wide : tie.Need-shared-slice-read-wide
-shared-slice-read-wide c = omega (arith, c .before .before .before .before .pre .0 .counts-room)
+shared-slice-read-wide c = omega (arith, c .before .before .before .pre .0 .counts-room)
 
 wide-requires : tie.Need-wide-requires
 wide-requires c κs = search needs
@@ -20,7 +20,7 @@ mul-ones-below : tie.Need-mul-ones-below
 mul-ones-below c = search needs
 
 shared-slice-read-ones-below : tie.Need-shared-slice-read-ones-below
-shared-slice-read-ones-below c = omega (arith, c .before .before .before .before .before .before .pre .0 .words-room)
+shared-slice-read-ones-below c = omega (arith, c .before .before .before .before .before .pre .0 .words-room)
 
 ones-below-requires : tie.Need-ones-below-requires
 ones-below-requires c κs = search needs

@@ -27,7 +27,7 @@ narrow-requires : tie.Need-narrow-requires Inv-loop μ-loop
 narrow-requires c κs = search needs
 
 mul-out : tie.Need-mul-out Inv-loop μ-loop
-mul-out c = search needs
+mul-out c = omega (arith, putting-room _ _ _ _ _ (c .before .before .before .before .loop .inv) (omega arith) (sym (c .before .if1 .taken) ∙ c .before .before .is-member .ensures) (c .before .before .before .before .before .before .before .pre .1))
 
 slice-write-out : tie.Need-slice-write-out Inv-loop μ-loop
 slice-write-out c = putting-room _ _ _ _ _ (c .before .before .before .before .loop .inv) (omega arith) (sym (c .before .if1 .taken) ∙ c .before .before .is-member .ensures) (c .before .before .before .before .before .before .before .pre .1)

@@ -31,7 +31,7 @@ wide-requires : tie.Need-wide-requires Inv-loop μ-loop
 wide-requires c κs = search needs
 
 mul-local : tie.Need-mul-local Inv-loop μ-loop
-mul-local c = omega (arith, column-below _ _ _ _ (c .before .before .before .before .before .before .before .before .pre .0) (omega arith) (c .before .wide .ensures))
+mul-local c = omega (arith, column-below _ _ _ _ (c .before .before .before .before .before .before .before .pre .0) (omega arith) (c .wide .ensures))
 
 shared-slice-read-local : tie.Need-shared-slice-read-local Inv-loop μ-loop
 shared-slice-read-local c = column-below _ _ _ _ (c .before .before .before .before .before .before .before .before .pre .0) (omega arith) (c .before .wide .ensures)

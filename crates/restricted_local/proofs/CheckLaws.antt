@@ -2,9 +2,11 @@
 use mathlib.Core.Bool.{Bool, true, false, not, _&&_}
 use mathlib.Core.List.{List, []}
 use mathlib.Core.Path.{_≡_, refl, sym, ap, _∙_}
-use Prim.Native.Nat.{ℕ}
+use Prim.Native.Nat.{ℕ, _-_}
 use native.Mathlib.Omega.{arith}
 use lib.Dec.{eqb}
+use lib.ListN.{length, take, replicate}
+use lib.Seq.{take-at}
 use borrow.Author.Tests.{not-false, eqb-true}
 use Rattle.hybit_core.specs.Answer.{Told, plain, Answer, accepted, refused, demand, lengthIs, _andThen_, Given, gives, refuses, answers}
 use Rattle.hybit_core.specs.Domain.{few}
@@ -22,7 +24,7 @@ use Rattle.restricted.specs.Local.{localList, fitsLocal, localAnswer, regionOf,
 use Rattle.restricted.specs.declared.LocalRegion.{LocalRegion}
 use Rattle.restricted.specs.declared.LocalAnswer.{LocalAnswer}
 use Rattle.restricted.specs.declared.LocalAnswer.the-variants as region
-use Rattle.restricted_local.specs.Region.{regionChecks, Region}
+use Rattle.restricted_local.specs.Region.{regionChecks, regionAnswer, Region}
 
 then-assoc : (a b c : Answer) → (a andThen b) andThen c ≡ a andThen (b andThen c)
 then-assoc accepted b c = refl
@@ -105,41 +107,48 @@ module _ (m : Csr) (a : Mask) where
 
     -- v is the verdict of the checks before 13
     module _ (v : Verdict) (h : told v ≡ regionChecks m a) where
-      pub local-refused : (e : HybitError) → v ≡ Refused e → refuses (paper e) ≡ answers (localAnswer m a places room) (regionOf m a)
+      pub local-refused : (e : HybitError) → v ≡ Refused e → refuses (paper e) ≡ regionAnswer m a places room
+      unfolding regionAnswer
       local-refused e k = let r : regionChecks m a ≡ refused (paper e) = refused-by (regionChecks m a) v e h k in rw (local-chain, r)
 
       module _ (k : v ≡ Accepted) where
         pub local-region : Region m a
         local-region = region-facts (accepted-by (regionChecks m a) v h k)
 
-        pub local-short : false ≡ fitsLocal m a places room → refuses (plain 13) ≡ answers (localAnswer m a places room) (regionOf m a)
+        pub local-short : false ≡ fitsLocal m a places room → refuses (plain 13) ≡ regionAnswer m a places room
+        unfolding regionAnswer
         local-short f = let r : regionChecks m a ≡ accepted = accepted-by (regionChecks m a) v h k in rw (local-chain, r, ← f)
 
-        pub local-built : (s : LocalRegion) → true ≡ fitsLocal m a places room → s ≡ regionOf m a → gives s ≡ answers (localAnswer m a places room) (regionOf m a)
+        pub local-built : (s : LocalRegion) → true ≡ fitsLocal m a places room → s ≡ regionOf m a → gives s ≡ regionAnswer m a places room
+        unfolding regionAnswer
         local-built s f q = let r : regionChecks m a ≡ accepted = accepted-by (regionChecks m a) v h k in rw (local-chain, r, ← f) (ap gives q)
 
 -- ---- what the answer of a build says of its checks and of a lent list
 
-module _ (x : Answer) (s : LocalRegion) (v : LocalAnswer) (h : toldRegion v ≡ answers x s) where
-  pub built-accepts : (t : LocalRegion) → v ≡ region.Built t → x ≡ accepted
-  built-accepts t k = go x (sym (ap toldRegion k) ∙ h)
+module _ (m : Csr) (a : Mask) (places : ℕ) (room : CsrRoom) (v : LocalAnswer) (h : toldRegion v ≡ regionAnswer m a places room) where
+  pub built-accepts : (t : LocalRegion) → v ≡ region.Built t → localAnswer m a places room ≡ accepted
+  unfolding regionAnswer
+  built-accepts t k = go (localAnswer m a places room) (sym (ap toldRegion k) ∙ h)
     where
-      go : (y : Answer) → gives t ≡ answers y s → y ≡ accepted
+      go : (y : Answer) → gives t ≡ answers y (regionOf m a) → y ≡ accepted
       go accepted e = refl
       go (refused r) e = cc
 
-  pub built-answer : (e : HybitError) → v ≡ region.Refused e → refuses (paper e) ≡ answers x s
+  pub built-answer : (e : HybitError) → v ≡ region.Refused e → refuses (paper e) ≡ answers (localAnswer m a places room) (regionOf m a)
+  unfolding regionAnswer
   built-answer e k = sym (ap toldRegion k) ∙ h
 
-  pub built-nothing : {A : Type 0} (e : HybitError) (z : A) (n : ℕ) (new out : List A) → v ≡ region.Refused e → out ≡ padded z n [] → out ≡ built z n x new
-  built-nothing {A} e z n new out k q = go x (sym (ap toldRegion k) ∙ h)
+  pub built-nothing : {A : Type 0} (e : HybitError) (z : A) (n : ℕ) (new out : List A) → v ≡ region.Refused e → out ≡ padded z n [] → out ≡ built z n (localAnswer m a places room) new
+  built-nothing {A} e z n new out k q = go (localAnswer m a places room) (built-answer e k)
     where
-      go : (y : Answer) → refuses (paper e) ≡ answers y s → out ≡ built z n y new
-      go accepted r = let w : _≡_ {A = ℕ} 0 1 = cc in absurd (never w)
-        where
-          never : _≡_ {A = ℕ} 0 1 → ⊥
-          never w = omega arith
-      go (refused r) q′ = q
+      go : (y : Answer) → refuses (paper e) ≡ answers y (regionOf m a) → out ≡ built z n y new
+      go accepted r = let w : _≡_ {A = ℕ} 0 1 = cc in absurd (omega arith)
+      go (refused t) r = q
 
 pub built-all : {A : Type 0} (x : Answer) (z : A) (n : ℕ) (new out : List A) → x ≡ accepted → out ≡ padded z n new → out ≡ built z n x new
 built-all x z n new out e q = rw e q
+
+-- the used part of it
+pub front-used : {A : Type 0} (z : A) (n k : ℕ) (l out : List A) → out ≡ padded z n l → k ≡ length l → take k out ≡ l
+unfolding padded
+front-used z n k l out e q = ap (take k) e ∙ take-at l (replicate (n - length l) z) k (sym q)

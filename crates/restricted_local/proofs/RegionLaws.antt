@@ -18,10 +18,11 @@ use Rattle.lent.proofs.PartLaws.{length-zip}
 use Rattle.word.specs.Bits.{has, below, count, ceil64}
 use Rattle.word.proofs.BelowLaws.{below-snoc, below-zero, below-cong, length-below-le, length-block, rank-lt}
 use Rattle.mask.specs.Mask.{Mask, asMask, bitAt, active}
-use Rattle.mask.proofs.MaskLaws.{Valid, active-is, word-bit}
+use Rattle.mask.proofs.MaskLaws.{Valid, valid, active-is, word-bit, few-words}
 use Rattle.mask.proofs.CallLaws.{Counted, counted-none, counted-le, counted-more}
+use Rattle.csr32.specs.Csr.{Csr}
 use Rattle.restricted.specs.Local.{regionMembers}
-use Rattle.restricted_local.specs.Region.{Numbered}
+use Rattle.restricted_local.specs.Region.{Region, Numbered}
 
 -- ---- one row more: it is a member, or it is none
 
@@ -126,3 +127,12 @@ module _ (a : Mask) (counts : List ℕ) (c : ℕ) (num : Numbered a counts) (h :
 
   pub number-told : (r : ℕ) → r ≡ (b + o) % 2 ^ 32 → r ≡ count (active a) c
   number-told r q = q ∙ mod-eq-of-lt (omega (arith, number-small)) ∙ number-read
+
+-- ---- a region that the checks accept
+
+pub words-few : (m : Csr) (n : ℕ) (ws : List ℕ) → Region m (asMask n ws) → length ws ≤ 2 ^ 14
+words-few m n ws reg = few-words n ws (valid n ws (reg .mask-accepted))
+
+pub region-numbered : (m : Csr) (n : ℕ) (ws old out : List ℕ) → Region m (asMask n ws) → 2 ^ 14 ≤ length old → length out ≡ length old
+    → Appended (each (λ w. count (bitAt ws) (64 * w)) (length ws)) 0 (length ws) old out → Numbered (asMask n ws) out
+region-numbered m n ws old out reg room same done = numbered n ws old out (valid n ws (reg .mask-accepted)) (omega (arith, words-few m n ws reg)) done

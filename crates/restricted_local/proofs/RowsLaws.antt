@@ -52,6 +52,10 @@ member-row {m} {a} reg rows i row q h e =
     let long : length rows ≡ length (regionMembers a) = ap length q in
     omega (arith, here, selects (active a) (a .size) i (omega (arith, long)) .bound, reg .size-is)
 
+pub members-few : {m : Csr} {a : Mask} → Region m a → (rows : List ℕ) → rows ≡ regionMembers a → length rows ≤ 2 ^ 20
+unfolding regionMembers
+members-few {m} {a} reg rows q = omega (arith, ap length q, length-below-le (active a) (a .size), reg .size-is, valid m (reg .list-accepted) .rows-in)
+
 module _ (m : Csr) (a : Mask) (op oc : List ℕ) (ov : List Float) where
   pub rowing-none : Rowing m a op oc ov 0 0 op oc ov
   unfolding each joined

@@ -5,11 +5,14 @@ use mathlib.Core.Bool.{_&&_}
 use mathlib.Core.Path.{_≡_}
 use lib.Dec.{eqb}
 use lib.ListN.{length, getD}
-use Rattle.hybit_core.specs.Answer.{Answer, accepted, demand, lengthIs, _andThen_}
+use Rattle.hybit_core.specs.Answer.{Answer, accepted, demand, lengthIs, _andThen_, Given, answers}
 use Rattle.hybit_core.specs.Domain.{few}
 use Rattle.word.specs.Bits.{has, count, ceil64}
 use Rattle.mask.specs.Mask.{Mask, active, maskRules, maskAnswer}
 use Rattle.csr32.specs.Csr.{Csr, csrSizes, csrRules, csrAnswer}
+use Rattle.csr32.specs.Made.{CsrRoom}
+use Rattle.restricted.specs.Local.{localAnswer, regionOf}
+use Rattle.restricted.specs.declared.LocalRegion.{LocalRegion}
 
 -- the checks of from_csr32 before 13: 1; 2, 3, 4; 5; 10; 6
 unfoldable pub regionChecks : Csr → Mask → Answer
@@ -20,7 +23,11 @@ regionChecks m a =
     andThen demand (eqb (m .rows) (m .cols)) 10
     andThen lengthIs (m .rows) (a .size)
 
--- a plot list and a region that these checks accept
+-- what from_csr32 answers
+unfoldable pub regionAnswer : Csr → Mask → ℕ → CsrRoom → Given LocalRegion
+regionAnswer m a places room = answers (localAnswer m a places room) (regionOf m a)
+
+-- a plot list and a region that the checks before 13 accept
 pub record Region (m : Csr) (a : Mask) : Type 0 where
   pub list-accepted : csrAnswer m ≡ accepted
   pub mask-accepted : maskAnswer a ≡ accepted

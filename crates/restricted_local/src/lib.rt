@@ -18,7 +18,7 @@ ghost use Rattle.mask.specs.Mask.{asMask, active, bitAt};
 ghost use Rattle.csr32.specs.Csr.{asCsr, Entry};
 ghost use Rattle.csr32.specs.Made.{entriesIn, asCsrRoom, fitsCsr};
 ghost use Rattle.restricted.specs.Local.{regionMembers, renumbered, localList, localAnswer, regionOf, toldRegion, memberRules, membersAnswer, gatherAnswer, gathered};
-ghost use Rattle.restricted_local.specs.Region.{regionChecks, Region, Numbered};
+ghost use Rattle.restricted_local.specs.Region.{regionChecks, regionAnswer, Region, Numbered};
 use hybit_core::HybitError;
 use hybit_core::Verdict;
 use restricted::LocalAnswer;
@@ -128,7 +128,7 @@ fn examine(
     column_room: usize,
     value_room: usize,
 ) -> LocalAnswer
-    ensures { λ r. ⌜ toldRegion r ≡ answers (localAnswer (asCsr nrows ncols (now («row_ptr» .entry)) (now («col_idx» .entry)) (now (values .entry))) (asMask «region_len» (now (region .entry))) «member_room» (asCsrRoom «pointer_room» «column_room» «value_room»)) (regionOf (asCsr nrows ncols (now («row_ptr» .entry)) (now («col_idx» .entry)) (now (values .entry))) (asMask «region_len» (now (region .entry)))) ⌝ }
+    ensures { λ r. ⌜ toldRegion r ≡ regionAnswer (asCsr nrows ncols (now («row_ptr» .entry)) (now («col_idx» .entry)) (now (values .entry))) (asMask «region_len» (now (region .entry))) «member_room» (asCsrRoom «pointer_room» «column_room» «value_room») ⌝ }
 {
     let v = examine_region(nrows, ncols, row_ptr, col_idx, values, region_len, region);
     if let Verdict::Refused(e) = v {

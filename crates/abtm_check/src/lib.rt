@@ -12,7 +12,7 @@ ghost use Rattle.lent.specs.Lists.{part, every, climbs};
 ghost use Rattle.word.specs.Bits.{has, below, count};
 ghost use Rattle.csr32.specs.Csr.{framedLists};
 ghost use Rattle.csr32.proofs.FrameLaws.{RowIn};
-ghost use Rattle.topology.specs.Words.{asWords, wordRule, rowRule, rowRules, wordRules};
+ghost use Rattle.topology.specs.Words.{asWords, wordRule, rowRule, rowRules, setBits, wordRules};
 ghost use Rattle.abtm.specs.Values.{solid, plusZero};
 ghost use Rattle.abtm.specs.Tiles.{Listed, wordIn, kindIn, stored, tileAt, asTiles, valueRule, gapless, slotRules, tilesRules, tilesAnswer};
 use hybit_core::HybitError;
@@ -191,18 +191,70 @@ fn values_hold(masks: &[u64], value_offsets: &[u32], metas: &[u32], values: &[f6
     all_solid(&values[from..])
 }
 
-// The tiles' values follow one another without gaps and keep their rules.
-fn slots_hold(masks: &[u64], value_offsets: &[u32], metas: &[u32], values: &[f64]) -> bool
-    requires { ⌜ (length (now «value_offsets») ≡ length (now masks)) × (length (now metas) ≡ length (now masks)) ⌝ }
-    ensures { λ r. ⌜ r ≡ slotRules (now (values .entry)) (zip (now (masks .entry)) (zip (now («value_offsets» .entry)) (now (metas .entry)))) ⌝ }
+fn also_compact(holds: bool, meta: u32) -> bool
+    ensures { λ r. ⌜ r ≡ (holds && leb (kindIn meta) 1) ⌝ }
+{
+    if abtm::kind_in(meta) <= 1 {
+        return holds;
+    }
+    false
+}
+
+// No Dense tile and no kind 3.
+fn all_compact(metas: &[u32]) -> bool
+    ensures { λ r. ⌜ r ≡ every (λ m. leb (kindIn m) 1) (now (metas .entry)) ⌝ }
+{
+    let mut holds = true;
+    let mut i: usize = 0;
+    while i < metas.len() {
+        holds = also_compact(holds, metas[i]);
+        i += 1;
+    }
+    holds
+}
+
+// The count and the values of tiles that follow one another without gaps, whatever their kinds.
+fn mixed_hold(
+    masks: &[u64],
+    value_offsets: &[u32],
+    metas: &[u32],
+    values: &[f64],
+    matrix_nnz: usize,
+) -> bool
+    requires { ⌜ (length (now «value_offsets») ≡ length (now masks)) × (length (now metas) ≡ length (now masks)) ⌝ ∗ ⌜ length (now masks) ≤ 2 ^ 24 ⌝ ∗ ⌜ gapless 0 (length (now values)) (zip (now masks) (zip (now «value_offsets») (now metas))) ≡ true ⌝ }
+    ensures { λ r. ⌜ r ≡ (eqb «matrix_nnz» (setBits (now (masks .entry))) && slotRules (now (values .entry)) (zip (now (masks .entry)) (zip (now («value_offsets» .entry)) (now (metas .entry))))) ⌝ }
+{
+    if !kinds_hold(metas) {
+        return false;
+    }
+    if matrix_nnz != topology::count_bits(masks) {
+        return false;
+    }
+    values_hold(masks, value_offsets, metas, values)
+}
+
+// The tiles' values follow one another without gaps and keep their rules, and the count is right. Without a Dense tile there is a
+// value for each set bit and no other, so neither bits nor kinds are looked at again.
+fn slots_hold(
+    masks: &[u64],
+    value_offsets: &[u32],
+    metas: &[u32],
+    values: &[f64],
+    matrix_nnz: usize,
+) -> bool
+    requires { ⌜ (length (now «value_offsets») ≡ length (now masks)) × (length (now metas) ≡ length (now masks)) ⌝ ∗ ⌜ length (now masks) ≤ 2 ^ 24 ⌝ }
+    ensures { λ r. ⌜ r ≡ (eqb «matrix_nnz» (setBits (now (masks .entry))) && slotRules (now (values .entry)) (zip (now (masks .entry)) (zip (now («value_offsets» .entry)) (now (metas .entry))))) ⌝ }
 {
     if !offsets_follow(masks, value_offsets, metas, values.len()) {
         return false;
     }
-    if !kinds_hold(metas) {
+    if !all_compact(metas) {
+        return mixed_hold(masks, value_offsets, metas, values, matrix_nnz);
+    }
+    if matrix_nnz != values.len() {
         return false;
     }
-    values_hold(masks, value_offsets, metas, values)
+    all_solid(values)
 }
 
 // The two tests of a row below run to its end, as all_solid does.
@@ -318,25 +370,20 @@ fn rows_hold(nrows: usize, ncols: usize, row_tile_ptr: &[u32], masks: &[u64], me
     true
 }
 
-// The words and masks of the tiles keep the rules of words.
+// The words and masks of the tiles keep the rules of words, but for the count.
 fn words_hold(
     nrows: usize,
     ncols: usize,
     row_tile_ptr: &[u32],
     masks: &[u64],
     metas: &[u32],
-    matrix_nnz: usize,
 ) -> bool
-    requires { ⌜ length (now masks) ≤ 2 ^ 24 ⌝ }
-    ensures { λ r. ⌜ r ≡ wordRules (asWords nrows ncols (now («row_tile_ptr» .entry)) (map wordIn (now (metas .entry))) (now (masks .entry)) «matrix_nnz») ⌝ }
+    ensures { λ r. ⌜ r ≡ wordRules (asWords nrows ncols (now («row_tile_ptr» .entry)) (map wordIn (now (metas .entry))) (now (masks .entry)) (setBits (now (masks .entry)))) ⌝ }
 {
     if !csr32::lists_hold(nrows, row_tile_ptr, metas.len(), masks.len()) {
         return false;
     }
-    if !rows_hold(nrows, ncols, row_tile_ptr, masks, metas) {
-        return false;
-    }
-    matrix_nnz == topology::count_bits(masks)
+    rows_hold(nrows, ncols, row_tile_ptr, masks, metas)
 }
 
 fn rules_hold(
@@ -352,13 +399,13 @@ fn rules_hold(
     requires { ⌜ length (now masks) ≤ 2 ^ 24 ⌝ }
     ensures { λ r. ⌜ r ≡ tilesRules (asTiles nrows ncols (now («row_tile_ptr» .entry)) (now (masks .entry)) (now («value_offsets» .entry)) (now (metas .entry)) (now (values .entry)) «matrix_nnz») ⌝ }
 {
-    if !words_hold(nrows, ncols, row_tile_ptr, masks, metas, matrix_nnz) {
+    if !words_hold(nrows, ncols, row_tile_ptr, masks, metas) {
         return false;
     }
     if value_offsets.len() != metas.len() {
         return false;
     }
-    slots_hold(masks, value_offsets, metas, values)
+    slots_hold(masks, value_offsets, metas, values, matrix_nnz)
 }
 
 // The rules that the Rust's private fields keep.

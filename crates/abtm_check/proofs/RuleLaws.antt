@@ -2,17 +2,20 @@
 use mathlib.Core.Bool.{Bool, true, false, not, _&&_, and-true, and-false}
 use mathlib.Core.List.{List, map, zip}
 use mathlib.Core.Path.{_≡_, refl, sym, ap, ap₂, _∙_}
-use Prim.Native.Nat.{ℕ, _^_, _≤_}
+use Prim.Native.Nat.{ℕ, _^_, _≤_, _<_}
 use lib.Dec.{eqb}
 use lib.ListN.{length, length-map}
 use lib.Ieee.{Float}
 use borrow.Author.Tests.{leb-true, not-false}
 use Rattle.hybit_core.specs.Domain.{few, many, sizesFit}
 use Rattle.hybit_core.proofs.BoolLaws.{and-left, and-right, and-first, is-equal, is-unequal}
+use Rattle.lent.specs.Lists.{part, every}
+use Rattle.lent.proofs.ListLaws.{every-joined}
+use Rattle.word.proofs.BitLaws.{every-below-at}
 use Rattle.csr32.specs.Csr.{framedLists}
-use Rattle.csr32.proofs.FrameLaws.{lists-sides}
-use Rattle.topology.specs.Words.{asWords, rowRules, setBits, wordRules}
-use Rattle.topology.proofs.CallLaws.{lists-fail, rows-decide}
+use Rattle.csr32.proofs.FrameLaws.{lists-sides, lists-frame, parts-all, part-lengths}
+use Rattle.topology.specs.Words.{asWords, rowRule, rowRules, setBits, wordRules}
+use Rattle.topology.proofs.LastLaws.{nonzero, row-with-empty}
 use Rattle.abtm.specs.Tiles.{wordIn, asTiles, listedTiles, slotRules, tilesRules}
 
 -- a list whose size passed
@@ -25,52 +28,69 @@ sizes-few a b c d r e h =
 pub and-second : (a b : Bool) → false ≡ b → false ≡ (a && b)
 and-second a b e = sym (ap (λ (t : Bool). a && t) (sym e) ∙ and-false a)
 
--- ---- words and masks
+-- the tests of one pass, each alone
+module _ (a b c : Bool) (e : true ≡ ((a && b) && c)) where
+  pub first-held : true ≡ a
+  first-held = sym (and-left a b (and-left (a && b) c (sym e)))
 
-module _ (n m : ℕ) (ps ks ms : List ℕ) where
-  -- the rules of the words but for the count
-  abbrev listsHold : Bool
-  listsHold = wordRules (asWords n m ps (map wordIn ks) ms (setBits ms))
+  pub second-held : true ≡ b
+  second-held = sym (and-right a b (and-left (a && b) c (sym e)))
 
-  framed-same : framedLists n ps (length ks) (length ms) ≡ framedLists n ps (length (map wordIn ks)) (length ms)
-  framed-same = ap (λ (l : ℕ). framedLists n ps l (length ms)) (sym (length-map ks wordIn))
+  pub third-held : true ≡ c
+  third-held = sym (and-right (a && b) c (sym e))
 
-  pub words-unframed : false ≡ framedLists n ps (length ks) (length ms) → false ≡ wordRules (asWords n m ps (map wordIn ks) ms (setBits ms))
-  words-unframed e = lists-fail n m ps (map wordIn ks) ms (e ∙ framed-same)
+-- ---- pointers, rows, lengths, count and values
 
-  pub words-ruled : true ≡ framedLists n ps (length ks) (length ms) → (r : Bool) → r ≡ rowRules (asWords n m ps (map wordIn ks) ms 0) → r ≡ wordRules (asWords n m ps (map wordIn ks) ms (setBits ms))
-  words-ruled e r h = rows-decide n m ps (map wordIn ks) ms (e ∙ framed-same) 0 r h
+module _ (n m : ℕ) (ps ks ms os : List ℕ) (vs : List Float) (t : ℕ) where
+  abbrev rows : Bool
+  rows = rowRules (asWords n m ps (map wordIn ks) ms 0)
 
-  pub words-sides : true ≡ wordRules (asWords n m ps (map wordIn ks) ms (setBits ms)) → length ks ≡ length ms
-  unfolding wordRules
-  words-sides e =
-      let f : Bool = framedLists n ps (length (map wordIn ks)) (length ms) in
-      let r : Bool = rowRules (asWords n m ps (map wordIn ks) ms (setBits ms)) in
-      sym (length-map ks wordIn) ∙ lists-sides n ps (length (map wordIn ks)) (length ms) (and-left f r (and-left (f && r) (eqb (setBits ms) (setBits ms)) (sym e)))
+  abbrev ruled : Bool
+  ruled = slotRules vs (zip ms (zip os ks))
 
-  -- ---- and the count and the values
+  apart : ((((framedLists n ps (length ks) (length ms) && rows) && eqb t (setBits ms)) && eqb (length os) (length ks)) && ruled) ≡ tilesRules (asTiles n m ps ms os ks vs t)
+  unfolding tilesRules listedTiles wordRules rowRules
+  apart = ap (λ (l : ℕ). (((framedLists n ps l (length ms) && rows) && eqb t (setBits ms)) && eqb (length os) (length ks)) && ruled) (sym (length-map ks wordIn))
 
-  module _ (os : List ℕ) (vs : List Float) (t : ℕ) where
-    -- the test of the count, apart
-    counted-apart : tilesRules (asTiles n m ps ms os ks vs t) ≡ (((listsHold && eqb t (setBits ms)) && eqb (length os) (length ks)) && slotRules vs (zip ms (zip os ks)))
-    unfolding tilesRules listedTiles wordRules rowRules
-    counted-apart =
-        let f : Bool = framedLists n ps (length (map wordIn ks)) (length ms) && rowRules (asWords n m ps (map wordIn ks) ms 0) in
-        ap (λ (b : Bool). ((b && eqb t (setBits ms)) && eqb (length os) (length ks)) && slotRules vs (zip ms (zip os ks)))
-        (sym (and-true f) ∙ ap (λ (b : Bool). f && b) (is-equal (setBits ms) (setBits ms) refl))
+  pub rules-unframed : false ≡ framedLists n ps (length ks) (length ms) → false ≡ tilesRules (asTiles n m ps ms os ks vs t)
+  rules-unframed e = ap (λ (f : Bool). (((f && rows) && eqb t (setBits ms)) && eqb (length os) (length ks)) && ruled) e ∙ apart
 
-    pub rules-words : false ≡ wordRules (asWords n m ps (map wordIn ks) ms (setBits ms)) → false ≡ tilesRules (asTiles n m ps ms os ks vs t)
-    rules-words e = ap (λ (w : Bool). ((w && eqb t (setBits ms)) && eqb (length os) (length ks)) && slotRules vs (zip ms (zip os ks))) e ∙ sym counted-apart
+  pub rules-unequal : (length os ≡ length ks → ⊥) → false ≡ tilesRules (asTiles n m ps ms os ks vs t)
+  rules-unequal d =
+      and-first (((framedLists n ps (length ks) (length ms) && rows) && eqb t (setBits ms)) && eqb (length os) (length ks)) ruled
+      (and-second ((framedLists n ps (length ks) (length ms) && rows) && eqb t (setBits ms)) (eqb (length os) (length ks)) (is-unequal (length os) (length ks) d))
+      ∙ apart
 
-    pub rules-unequal : (length os ≡ length ks → ⊥) → false ≡ tilesRules (asTiles n m ps ms os ks vs t)
-    rules-unequal d =
-        and-first ((listsHold && eqb t (setBits ms)) && eqb (length os) (length ks)) (slotRules vs (zip ms (zip os ks)))
-        (and-second (listsHold && eqb t (setBits ms)) (eqb (length os) (length ks)) (is-unequal (length os) (length ks) d))
-        ∙ sym counted-apart
+  module _ (f : true ≡ framedLists n ps (length ks) (length ms)) where
+    pub rules-rows : false ≡ rowRules (asWords n m ps (map wordIn ks) ms 0) → false ≡ tilesRules (asTiles n m ps ms os ks vs t)
+    rules-rows e = ap₂ (λ (g r : Bool). (((g && r) && eqb t (setBits ms)) && eqb (length os) (length ks)) && ruled) f e ∙ apart
 
-    pub rules-slots : true ≡ wordRules (asWords n m ps (map wordIn ks) ms (setBits ms)) → length os ≡ length ks → (r : Bool) → r ≡ (eqb t (setBits ms) && slotRules vs (zip ms (zip os ks))) → r ≡ tilesRules (asTiles n m ps ms os ks vs t)
-    rules-slots e d r q =
+    pub rules-counted : length os ≡ length ks → true ≡ rowRules (asWords n m ps (map wordIn ks) ms 0) → (r : Bool) → r ≡ (eqb t (setBits ms) && slotRules vs (zip ms (zip os ks))) → r ≡ tilesRules (asTiles n m ps ms os ks vs t)
+    rules-counted d e r q =
         q
-        ∙ ap (λ (b : Bool). b && slotRules vs (zip ms (zip os ks)))
-        (sym (and-true (eqb t (setBits ms))) ∙ ap₂ (λ (w l : Bool). (w && eqb t (setBits ms)) && l) e (is-equal (length os) (length ks) d))
-        ∙ sym counted-apart
+        ∙ ap (λ (b : Bool). b && ruled) (sym (and-true (eqb t (setBits ms))) ∙ ap (λ (l : Bool). eqb t (setBits ms) && l) (is-equal (length os) (length ks) d))
+        ∙ ap₂ (λ (g s : Bool). (((g && s) && eqb t (setBits ms)) && eqb (length os) (length ks)) && ruled) f e
+        ∙ apart
+
+    -- an empty mask stands in some row
+    sides : length ms ≡ length (map wordIn ks)
+    sides = sym (length-map ks wordIn ∙ lists-sides n ps (length ks) (length ms) (sym f))
+
+    row-full : (r : ℕ) → r < n → rowRules (asWords n m ps (map wordIn ks) ms 0) ≡ true → every nonzero (part ps ms r) ≡ true
+    unfolding rowRules
+    row-full r h e = go (every nonzero (part ps ms r)) refl
+      where
+        go : (b : Bool) → every nonzero (part ps ms r) ≡ b → b ≡ true
+        go true q = refl
+        go false q =
+            row-with-empty m (part ps (map wordIn ks) r) (part ps ms r) (part-lengths ps ms (map wordIn ks) r sides) (sym q)
+            ∙ every-below-at (λ r. rowRule m (part ps (map wordIn ks) r) (part ps ms r)) (λ r. true) n r e h refl
+
+    pub rules-empty : false ≡ every nonzero ms → false ≡ tilesRules (asTiles n m ps ms os ks vs t)
+    rules-empty e = rules-rows (go rows refl)
+      where
+        go : (b : Bool) → rows ≡ b → false ≡ b
+        go true q =
+            e ∙ sym (ap (every nonzero) (parts-all n ps ms (lists-frame n ps (length ks) (length ms) (sym f))))
+            ∙ every-joined nonzero (part ps ms) n (λ r h. row-full r h q)
+        go false q = refl

@@ -248,7 +248,8 @@ fn word_holds(ncols: usize, index: usize, mask: u64) -> bool
     word::trimmed(mask, ncols - base) == mask
 }
 
-// A row's part of the masks and metas; no mask is 0. Where the word numbers climb, no word before the last reaches the column count.
+// A row's part of the masks and metas; no mask is 0. Where the word numbers climb, no word before the last reaches the column count,
+// and the last mask is read only where the column count cuts its word.
 fn row_holds(ncols: usize, masks: &[u64], metas: &[u32]) -> bool
     requires { ⌜ length (now masks) ≡ length (now metas) ⌝ ∗ ⌜ every (λ m. not (eqb m 0)) (now masks) ≡ true ⌝ }
     ensures { λ r. ⌜ r ≡ rowRule ncols (map wordIn (now (metas .entry))) (now (masks .entry)) ⌝ }
@@ -260,11 +261,11 @@ fn row_holds(ncols: usize, masks: &[u64], metas: &[u32]) -> bool
         return false;
     }
     let last = metas.len() - 1;
-    word_holds(
-        ncols,
-        hybit_core::wide(abtm::word_in(metas[last])),
-        masks[last],
-    )
+    let index = hybit_core::wide(abtm::word_in(metas[last]));
+    if 64 * index + 64 <= ncols {
+        return true;
+    }
+    word_holds(ncols, index, masks[last])
 }
 
 // A row's part of a list of numbers, and of the masks.

@@ -5,7 +5,7 @@ use lib.ListN.{length-map}
 use Rattle.hybit_core.proofs.BoolLaws.{flag-on, flag-off}
 use Rattle.abtm.specs.Tiles.{wordIn}
 use Rattle.topology.proofs.LastLaws.{row-empty, row-not-climbing}
-use Rattle.abtm_check.proofs.MetaLaws.{row-by-last-meta, number-small}
+use Rattle.abtm_check.proofs.MetaLaws.{row-by-last-meta, row-inside}
 use borrow.Author.Needs.{needs}
 use Rattle.abtm_check.proofs.row_holds.Statement.{statement}
 use Rattle.abtm_check.proofs.row_holds.Tie as tie
@@ -34,6 +34,15 @@ word-in-requires c κs = search needs
 wide-requires : tie.Need-wide-requires
 wide-requires c κs = search needs
 
+mul-if3 : tie.Need-mul-if3
+mul-if3 c = search needs
+
+add-if3 : tie.Need-add-if3
+add-if3 c = search needs
+
+returns-3 : tie.Need-returns-3
+returns-3 c = row-inside _ (c .before .before .before .before .before .before .before .before .before .args .metas .now) _ (c .before .before .before .before .before .before .before .before .before .pre .0) (λ k. c .before .before .before .before .before .before .before .before .shared-slice-known .given k .fits) (c .before .before .before .before .before .before .if1 .left) (flag-on _ _ (c .before .before .before .before .before .numbers-climb .ensures) (c .before .before .before .before .if2 .left)) (c .before .before .before .before .before .before .before .before .before .pre .1) _ _ (c .before .before .word-in .ensures) (c .before .wide .ensures) (c .if3 .taken)
+
 mul-word-holds : tie.Need-mul-word-holds
 mul-word-holds c = search needs
 
@@ -41,10 +50,10 @@ shared-slice-read-word-holds : tie.Need-shared-slice-read-word-holds
 shared-slice-read-word-holds c = search needs
 
 word-holds-requires : tie.Need-word-holds-requires
-word-holds-requires c κs = number-small _ _ _ (c .before .before .word-in .ensures) (c .before .wide .ensures)
+word-holds-requires c κs = search needs
 
-returns-3 : tie.Need-returns-3
-returns-3 c = row-by-last-meta _ (c .before .before .before .before .before .before .before .before .before .before .args .metas .now) _ (c .before .before .before .before .before .before .before .before .before .before .pre .0) (λ k. c .before .before .before .before .before .before .before .before .before .shared-slice-known .given k .fits) (c .before .before .before .before .before .before .before .if1 .left) (flag-on _ _ (c .before .before .before .before .before .before .numbers-climb .ensures) (c .before .before .before .before .before .if2 .left)) (sym (c .before .before .before .before .before .before .before .before .before .before .pre .1)) _ _ _ (c .before .before .before .word-in .ensures) (c .before .before .wide .ensures) (c .word-holds .ensures)
+returns-4 : tie.Need-returns-4
+returns-4 c = row-by-last-meta _ (c .before .before .before .before .before .before .before .before .before .before .before .args .metas .now) _ (c .before .before .before .before .before .before .before .before .before .before .before .pre .0) (λ k. c .before .before .before .before .before .before .before .before .before .before .shared-slice-known .given k .fits) (c .before .before .before .before .before .before .before .before .if1 .left) (flag-on _ _ (c .before .before .before .before .before .before .before .numbers-climb .ensures) (c .before .before .before .before .before .before .if2 .left)) (sym (c .before .before .before .before .before .before .before .before .before .before .before .pre .1)) _ _ _ (c .before .before .before .before .word-in .ensures) (c .before .before .before .wide .ensures) (c .word-holds .ensures)
 
 pub row-holds-spec : {M : Type 1} → statement M
 row-holds-spec =
@@ -58,7 +67,10 @@ row-holds-spec =
     shared-slice-read-word-in
     word-in-requires
     wide-requires
+    mul-if3
+    add-if3
+    returns-3
     mul-word-holds
     shared-slice-read-word-holds
     word-holds-requires
-    returns-3)
+    returns-4)

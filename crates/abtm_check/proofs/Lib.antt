@@ -6,4 +6,5 @@ pub mod SlotLaws
 pub mod OffsetLaws
 pub mod RunLaws
 pub mod RuleLaws
+pub mod CompactLaws
 pub mod RecordLaws

@@ -12,9 +12,9 @@ ghost use Rattle.lent.specs.Lists.{part, every, climbs};
 ghost use Rattle.word.specs.Bits.{has, below, count};
 ghost use Rattle.csr32.specs.Csr.{framedLists};
 ghost use Rattle.csr32.proofs.FrameLaws.{RowIn};
-ghost use Rattle.topology.specs.Words.{asWords, wordRule, rowRule, rowRules, wordRules};
+ghost use Rattle.topology.specs.Words.{asWords, wordRule, rowRule, rowRules};
 ghost use Rattle.abtm.specs.Values.{solid, plusZero};
-ghost use Rattle.abtm.specs.Tiles.{Listed, wordIn, kindIn, stored, tileAt, asTiles, valueRule, gapless, slotRules, tilesRules, tilesAnswer};
+ghost use Rattle.abtm.specs.Tiles.{Listed, wordIn, kindIn, stored, tileAt, asTiles, valueRule, gapless, tilesRules, tilesAnswer};
 use hybit_core::HybitError;
 use hybit_core::Verdict;
 
@@ -191,21 +191,7 @@ fn values_hold(masks: &[u64], value_offsets: &[u32], metas: &[u32], values: &[f6
     all_solid(&values[from..])
 }
 
-// The tiles' values follow one another without gaps and keep their rules.
-fn slots_hold(masks: &[u64], value_offsets: &[u32], metas: &[u32], values: &[f64]) -> bool
-    requires { ⌜ (length (now «value_offsets») ≡ length (now masks)) × (length (now metas) ≡ length (now masks)) ⌝ }
-    ensures { λ r. ⌜ r ≡ slotRules (now (values .entry)) (zip (now (masks .entry)) (zip (now («value_offsets» .entry)) (now (metas .entry)))) ⌝ }
-{
-    if !offsets_follow(masks, value_offsets, metas, values.len()) {
-        return false;
-    }
-    if !kinds_hold(metas) {
-        return false;
-    }
-    values_hold(masks, value_offsets, metas, values)
-}
-
-// The two tests of a row below run to its end, as all_solid does.
+// The two tests below run to the end, as all_solid does.
 fn also_above(holds: bool, before: u32, number: u32) -> bool
     ensures { λ r. ⌜ r ≡ (holds && ltb before number) ⌝ }
 {
@@ -262,9 +248,10 @@ fn word_holds(ncols: usize, index: usize, mask: u64) -> bool
     word::trimmed(mask, ncols - base) == mask
 }
 
-// A row's part of the masks and metas. Where the word numbers climb, no word before the last reaches the column count.
+// A row's part of the masks and metas; no mask is 0. Where the word numbers climb, no word before the last reaches the column count,
+// and the last mask is read only where the column count cuts its word.
 fn row_holds(ncols: usize, masks: &[u64], metas: &[u32]) -> bool
-    requires { ⌜ length (now masks) ≡ length (now metas) ⌝ }
+    requires { ⌜ length (now masks) ≡ length (now metas) ⌝ ∗ ⌜ every (λ m. not (eqb m 0)) (now masks) ≡ true ⌝ }
     ensures { λ r. ⌜ r ≡ rowRule ncols (map wordIn (now (metas .entry))) (now (masks .entry)) ⌝ }
 {
     if metas.len() == 0 {
@@ -273,15 +260,12 @@ fn row_holds(ncols: usize, masks: &[u64], metas: &[u32]) -> bool
     if !numbers_climb(metas) {
         return false;
     }
-    if !masks_hold(masks) {
-        return false;
-    }
     let last = metas.len() - 1;
-    word_holds(
-        ncols,
-        hybit_core::wide(abtm::word_in(metas[last])),
-        masks[last],
-    )
+    let index = hybit_core::wide(abtm::word_in(metas[last]));
+    if 64 * index + 64 <= ncols {
+        return true;
+    }
+    word_holds(ncols, index, masks[last])
 }
 
 // A row's part of a list of numbers, and of the masks.
@@ -304,7 +288,7 @@ fn masks_of<'a>(row_tile_ptr: &[u32], masks: &'a [u64], row: usize) -> &'a [u64]
 }
 
 fn rows_hold(nrows: usize, ncols: usize, row_tile_ptr: &[u32], masks: &[u64], metas: &[u32]) -> bool
-    requires { ⌜ framedLists nrows (now «row_tile_ptr») (length (now metas)) (length (now masks)) ≡ true ⌝ }
+    requires { ⌜ framedLists nrows (now «row_tile_ptr») (length (now metas)) (length (now masks)) ≡ true ⌝ ∗ ⌜ every (λ m. not (eqb m 0)) (now masks) ≡ true ⌝ }
     ensures { λ r. ⌜ r ≡ rowRules (asWords nrows ncols (now («row_tile_ptr» .entry)) (map wordIn (now (metas .entry))) (now (masks .entry)) 0) ⌝ }
 {
     let mut row: usize = 0;
@@ -318,27 +302,80 @@ fn rows_hold(nrows: usize, ncols: usize, row_tile_ptr: &[u32], masks: &[u64], me
     true
 }
 
-// The words and masks of the tiles keep the rules of words.
-fn words_hold(
+fn also_compact(holds: bool, meta: u32) -> bool
+    ensures { λ r. ⌜ r ≡ (holds && leb (kindIn meta) 1) ⌝ }
+{
+    if abtm::kind_in(meta) <= 1 {
+        return holds;
+    }
+    false
+}
+
+fn also_next(holds: bool, mask: u64, offset: u32, meta: u32, next: usize) -> bool
+    ensures { λ r. ⌜ r ≡ (((holds && not (eqb mask 0)) && leb (kindIn meta) 1) && eqb (offset + count (has mask) 64) next) ⌝ }
+{
+    let some = also_some(holds, mask);
+    let compact = also_compact(some, meta);
+    also_at(compact, offset, word::popcount(mask), next)
+}
+
+// Whether no mask is 0, no tile is Dense or of kind 3, and the offsets follow as in offsets_follow: one pass for most records.
+fn compact_follow(masks: &[u64], value_offsets: &[u32], metas: &[u32], end: usize) -> bool
+    requires { ⌜ (length (now «value_offsets») ≡ length (now masks)) × (length (now metas) ≡ length (now masks)) ⌝ }
+    ensures { λ r. ⌜ r ≡ ((every (λ m. not (eqb m 0)) (now (masks .entry)) && every (λ m. leb (kindIn m) 1) (now (metas .entry))) && gapless 0 end (zip (now (masks .entry)) (zip (now («value_offsets» .entry)) (now (metas .entry))))) ⌝ }
+{
+    if masks.len() == 0 {
+        return end == 0;
+    }
+    let mut holds = value_offsets[0] == 0;
+    let mut i: usize = 1;
+    while i < masks.len() {
+        holds = also_next(
+            holds,
+            masks[i - 1],
+            value_offsets[i - 1],
+            metas[i - 1],
+            hybit_core::wide(value_offsets[i]),
+        );
+        i += 1;
+    }
+    let last = masks.len() - 1;
+    also_next(holds, masks[last], value_offsets[last], metas[last], end)
+}
+
+// The rules of tiles of any kinds, one after the other.
+fn mixed_hold(
     nrows: usize,
     ncols: usize,
     row_tile_ptr: &[u32],
     masks: &[u64],
+    value_offsets: &[u32],
     metas: &[u32],
+    values: &[f64],
     matrix_nnz: usize,
 ) -> bool
-    requires { ⌜ length (now masks) ≤ 2 ^ 24 ⌝ }
-    ensures { λ r. ⌜ r ≡ wordRules (asWords nrows ncols (now («row_tile_ptr» .entry)) (map wordIn (now (metas .entry))) (now (masks .entry)) «matrix_nnz») ⌝ }
+    requires { ⌜ framedLists nrows (now «row_tile_ptr») (length (now metas)) (length (now masks)) ≡ true ⌝ ∗ ⌜ (length (now «value_offsets») ≡ length (now masks)) × (length (now metas) ≡ length (now masks)) ⌝ ∗ ⌜ length (now masks) ≤ 2 ^ 24 ⌝ }
+    ensures { λ r. ⌜ r ≡ tilesRules (asTiles nrows ncols (now («row_tile_ptr» .entry)) (now (masks .entry)) (now («value_offsets» .entry)) (now (metas .entry)) (now (values .entry)) «matrix_nnz») ⌝ }
 {
-    if !csr32::lists_hold(nrows, row_tile_ptr, metas.len(), masks.len()) {
+    if !masks_hold(masks) {
         return false;
     }
     if !rows_hold(nrows, ncols, row_tile_ptr, masks, metas) {
         return false;
     }
-    matrix_nnz == topology::count_bits(masks)
+    if !offsets_follow(masks, value_offsets, metas, values.len()) {
+        return false;
+    }
+    if !kinds_hold(metas) {
+        return false;
+    }
+    if matrix_nnz != topology::count_bits(masks) {
+        return false;
+    }
+    values_hold(masks, value_offsets, metas, values)
 }
 
+// Without a Dense tile there is a value for each set bit and no other, so the bits are not counted again.
 fn rules_hold(
     nrows: usize,
     ncols: usize,
@@ -352,13 +389,31 @@ fn rules_hold(
     requires { ⌜ length (now masks) ≤ 2 ^ 24 ⌝ }
     ensures { λ r. ⌜ r ≡ tilesRules (asTiles nrows ncols (now («row_tile_ptr» .entry)) (now (masks .entry)) (now («value_offsets» .entry)) (now (metas .entry)) (now (values .entry)) «matrix_nnz») ⌝ }
 {
-    if !words_hold(nrows, ncols, row_tile_ptr, masks, metas, matrix_nnz) {
+    if !csr32::lists_hold(nrows, row_tile_ptr, metas.len(), masks.len()) {
         return false;
     }
     if value_offsets.len() != metas.len() {
         return false;
     }
-    slots_hold(masks, value_offsets, metas, values)
+    if !compact_follow(masks, value_offsets, metas, values.len()) {
+        return mixed_hold(
+            nrows,
+            ncols,
+            row_tile_ptr,
+            masks,
+            value_offsets,
+            metas,
+            values,
+            matrix_nnz,
+        );
+    }
+    if !rows_hold(nrows, ncols, row_tile_ptr, masks, metas) {
+        return false;
+    }
+    if matrix_nnz != values.len() {
+        return false;
+    }
+    all_solid(values)
 }
 
 // The rules that the Rust's private fields keep.

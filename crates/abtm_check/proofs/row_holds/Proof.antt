@@ -4,8 +4,8 @@ use mathlib.Core.Path.{sym, _∙_}
 use lib.ListN.{length-map}
 use Rattle.hybit_core.proofs.BoolLaws.{flag-on, flag-off}
 use Rattle.abtm.specs.Tiles.{wordIn}
-use Rattle.topology.proofs.LastLaws.{row-empty, row-not-climbing, row-with-empty}
-use Rattle.abtm_check.proofs.MetaLaws.{row-by-last-meta, number-small}
+use Rattle.topology.proofs.LastLaws.{row-empty, row-not-climbing}
+use Rattle.abtm_check.proofs.MetaLaws.{row-by-last-meta, row-inside}
 use borrow.Author.Needs.{needs}
 use Rattle.abtm_check.proofs.row_holds.Statement.{statement}
 use Rattle.abtm_check.proofs.row_holds.Tie as tie
@@ -18,12 +18,6 @@ numbers-climb-requires c κs = search needs
 
 returns-2 : tie.Need-returns-2
 returns-2 c = row-not-climbing _ _ _ (flag-off _ _ (c .before .numbers-climb .ensures) (c .if2 .taken))
-
-masks-hold-requires : tie.Need-masks-hold-requires
-masks-hold-requires c κs = search needs
-
-returns-3 : tie.Need-returns-3
-returns-3 c = row-with-empty _ (map wordIn (c .before .before .before .before .before .before .before .args .metas .now)) _ (c .before .before .before .before .before .before .before .pre ∙ sym (length-map (c .before .before .before .before .before .before .before .args .metas .now) wordIn)) (flag-off _ _ (c .before .masks-hold .ensures) (c .if3 .taken))
 
 sub-last : tie.Need-sub-last
 sub-last c = search needs
@@ -40,6 +34,15 @@ word-in-requires c κs = search needs
 wide-requires : tie.Need-wide-requires
 wide-requires c κs = search needs
 
+mul-if3 : tie.Need-mul-if3
+mul-if3 c = search needs
+
+add-if3 : tie.Need-add-if3
+add-if3 c = search needs
+
+returns-3 : tie.Need-returns-3
+returns-3 c = row-inside _ (c .before .before .before .before .before .before .before .before .before .args .metas .now) _ (c .before .before .before .before .before .before .before .before .before .pre .0) (λ k. c .before .before .before .before .before .before .before .before .shared-slice-known .given k .fits) (c .before .before .before .before .before .before .if1 .left) (flag-on _ _ (c .before .before .before .before .before .numbers-climb .ensures) (c .before .before .before .before .if2 .left)) (c .before .before .before .before .before .before .before .before .before .pre .1) _ _ (c .before .before .word-in .ensures) (c .before .wide .ensures) (c .if3 .taken)
+
 mul-word-holds : tie.Need-mul-word-holds
 mul-word-holds c = search needs
 
@@ -47,10 +50,10 @@ shared-slice-read-word-holds : tie.Need-shared-slice-read-word-holds
 shared-slice-read-word-holds c = search needs
 
 word-holds-requires : tie.Need-word-holds-requires
-word-holds-requires c κs = number-small _ _ _ (c .before .before .word-in .ensures) (c .before .wide .ensures)
+word-holds-requires c κs = search needs
 
 returns-4 : tie.Need-returns-4
-returns-4 c = row-by-last-meta _ (c .before .before .before .before .before .before .before .before .before .before .before .before .args .metas .now) _ (c .before .before .before .before .before .before .before .before .before .before .before .before .pre) (λ k. c .before .before .before .before .before .before .before .before .before .before .before .shared-slice-known .given k .fits) (c .before .before .before .before .before .before .before .before .before .if1 .left) (flag-on _ _ (c .before .before .before .before .before .before .before .before .numbers-climb .ensures) (c .before .before .before .before .before .before .before .if2 .left)) (flag-on _ _ (c .before .before .before .before .before .before .masks-hold .ensures) (c .before .before .before .before .before .if3 .left)) _ _ _ (c .before .before .before .word-in .ensures) (c .before .before .wide .ensures) (c .word-holds .ensures)
+returns-4 c = row-by-last-meta _ (c .before .before .before .before .before .before .before .before .before .before .before .args .metas .now) _ (c .before .before .before .before .before .before .before .before .before .before .before .pre .0) (λ k. c .before .before .before .before .before .before .before .before .before .before .shared-slice-known .given k .fits) (c .before .before .before .before .before .before .before .before .if1 .left) (flag-on _ _ (c .before .before .before .before .before .before .before .numbers-climb .ensures) (c .before .before .before .before .before .before .if2 .left)) (sym (c .before .before .before .before .before .before .before .before .before .before .before .pre .1)) _ _ _ (c .before .before .before .before .word-in .ensures) (c .before .before .before .wide .ensures) (c .word-holds .ensures)
 
 pub row-holds-spec : {M : Type 1} → statement M
 row-holds-spec =
@@ -59,13 +62,14 @@ row-holds-spec =
     returns
     numbers-climb-requires
     returns-2
-    masks-hold-requires
-    returns-3
     sub-last
     mul-word-in
     shared-slice-read-word-in
     word-in-requires
     wide-requires
+    mul-if3
+    add-if3
+    returns-3
     mul-word-holds
     shared-slice-read-word-holds
     word-holds-requires

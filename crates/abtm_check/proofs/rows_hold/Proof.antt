@@ -6,9 +6,11 @@ use mathlib.Core.Path.{_≡_, sym, ap, _∙_}
 use lib.ListN.{length}
 use Rattle.hybit_core.proofs.BoolLaws.{flag-on, flag-off}
 use Rattle.lent.specs.Lists.{every, part}
+use Rattle.lent.proofs.ListLaws.{every-part}
 use Rattle.word.specs.Bits.{from}
 use Rattle.csr32.proofs.FrameLaws.{row-left, row-right, lists-sides, part-lengths}
 use Rattle.topology.specs.Words.{asWords, rowRule, rowRules}
+use Rattle.topology.proofs.LastLaws.{nonzero}
 use Rattle.topology.proofs.ScanLaws.{rows-none, rows-more, rows-fail, rows-done}
 use Rattle.abtm.specs.Tiles.{wordIn}
 use Rattle.abtm_check.proofs.MetaLaws.{row-told}
@@ -27,13 +29,13 @@ unfolding rowRules
 loop-holds c = rows-none _ _
 
 numbers-of-requires : tie.Need-numbers-of-requires Inv-loop μ-loop
-numbers-of-requires c κs = row-left _ _ _ _ (c .before .before .before .before .before .pre) _ (search needs)
+numbers-of-requires c κs = row-left _ _ _ _ (c .before .before .before .before .before .pre .0) _ (search needs)
 
 masks-of-requires : tie.Need-masks-of-requires Inv-loop μ-loop
-masks-of-requires c κs = row-right _ _ _ _ (c .before .before .before .before .before .before .pre) _ (search needs)
+masks-of-requires c κs = row-right _ _ _ _ (c .before .before .before .before .before .before .pre .0) _ (search needs)
 
 row-holds-requires : tie.Need-row-holds-requires Inv-loop μ-loop
-row-holds-requires c κs = ap length (c .masks-of .ensures) ∙ part-lengths _ _ _ _ (sym (lists-sides _ _ _ _ (c .before .before .before .before .before .before .before .pre))) ∙ sym (ap length (c .before .numbers-of .ensures))
+row-holds-requires c κs = (ap length (c .masks-of .ensures) ∙ part-lengths _ _ _ _ (sym (lists-sides _ _ _ _ (c .before .before .before .before .before .before .before .pre .0))) ∙ sym (ap length (c .before .numbers-of .ensures)), ap (every nonzero) (c .masks-of .ensures) ∙ every-part nonzero _ _ _ (c .before .before .before .before .before .before .before .pre .1))
 
 returns : tie.Need-returns Inv-loop μ-loop
 unfolding rowRules

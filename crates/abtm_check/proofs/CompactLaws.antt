@@ -1,0 +1,193 @@
+-- The pass over tiles none of which is Dense; the count and the values of gapless tiles of any kinds. Assumes nothing.
+use mathlib.Core.Bool.{Bool, true, false, _&&_}
+use mathlib.Core.List.{List, [], _∷_, zip, zipWith}
+use mathlib.Core.Path.{_≡_, refl, sym, ap, ap₂, _∙_}
+use Prim.Native.Nat.{ℕ, zero, suc, _+_, _-_, _%_, _^_, _≤_, _<_}
+use native.Mathlib.Numerals.{add-one}
+use native.Mathlib.Omega.{arith}
+use lib.Dec.{leb, eqb}
+use lib.ListN.{length, getD}
+use lib.Seq.{take-all}
+use lib.Ieee.{Float}
+use borrow.Author.Tests.{eqb-true, leb-true, le-leb}
+use Rattle.hybit_core.proofs.BoolLaws.{and-left, and-right, and-first, and-next, is-equal, is-unequal}
+use Rattle.lent.specs.Lists.{every}
+use Rattle.lent.proofs.ListLaws.{every-by, every-getD}
+use Rattle.word.specs.Bits.{has, count, members}
+use Rattle.csr32.proofs.ScanLaws.{Passed, passed-none, passed-more, passed-done}
+use Rattle.word.proofs.BelowLaws.{length-below-le}
+use Rattle.word.proofs.OpLaws.{members-count}
+use Rattle.topology.specs.Words.{setBits}
+use Rattle.topology.proofs.ScanLaws.{bits-append, bits-one}
+use Rattle.topology.proofs.CallLaws.{bits-whole}
+use Rattle.topology.proofs.LastLaws.{nonzero}
+use Rattle.abtm.specs.Values.{solid}
+use Rattle.abtm.specs.Tiles.{kindIn, places, gapless, slotRules}
+use Rattle.abtm.proofs.KindLaws.{compact-places, compact-count}
+use Rattle.abtm_check.proofs.OffsetLaws.{Following, follow-empty, follow-none, follow-more, follow-done}
+use Rattle.abtm_check.proofs.RuleLaws.{and-second, first-held, second-held, third-held}
+use Rattle.abtm_check.proofs.RunLaws.{Tested, tested-none, tested-compact, tested-done, valuesOf, kindHolds, slots-apart, slots-kind, slots-values}
+
+-- Sparse or Bitmap
+abbrev pub compactKind : ℕ → Bool
+compactKind m = leb (kindIn m) 1
+
+not-dense : (m : ℕ) → compactKind m ≡ true → kindIn m ≡ 2 → ⊥
+not-dense m e d = omega (arith, leb-true (kindIn m) 1 e, d)
+
+-- ---- the pass: the flag joins three tests of the tiles before place i - 1, and that of offset i - 1
+
+pub record Compacting (ms os ks : List ℕ) (n : ℕ) (holds : Bool) (i : ℕ) : Type 0 where
+  pub full : Bool
+  pub compact : Bool
+  pub follows : Bool
+  pub is : holds ≡ ((full && compact) && follows)
+  pub masks : Passed nonzero ms (i - 1) full
+  pub kinds : Passed compactKind ks (i - 1) compact
+  pub offsets : Following ms os ks n follows i
+
+-- one tile more; its end is that of its bits where its kind passes
+regroup : (a b c s k d e : Bool) → (k ≡ true → d ≡ e) → (((((a && b) && c) && s) && k) && d) ≡ (((a && s) && (b && k)) && (c && e))
+regroup false b c s k d e h = refl
+regroup true false c true k d e h = refl
+regroup true false c false k d e h = refl
+regroup true true false false k d e h = refl
+regroup true true false true false d e h = refl
+regroup true true false true true d e h = refl
+regroup true true true false k d e h = refl
+regroup true true true true false d e h = refl
+regroup true true true true true d e h = h refl
+
+none-left : (p : ℕ → Bool) (l : List ℕ) → length l ≡ 0 → true ≡ every p l
+unfolding every
+none-left p [] e = refl
+none-left p (x ∷ l) e = absurd (omega arith)
+
+-- what the code tests of one tile
+pub next-is : (h s k r : Bool) (m x o p next : ℕ) → s ≡ (h && nonzero m) → k ≡ (s && compactKind x) → p ≡ count (has m) 64 → r ≡ (k && eqb (o + p) next)
+    → r ≡ (((h && nonzero m) && compactKind x) && eqb (o + count (has m) 64) next)
+next-is h s k r m x o p next es ek ep er = er ∙ ap₂ (λ (b : Bool) (l : ℕ). b && eqb (o + l) next) (ek ∙ ap (λ (b : Bool). b && compactKind x) es) ep
+
+pub ones-few : (m p : ℕ) → p ≡ count (has m) 64 → p ≤ 64
+ones-few m p e = omega (arith, e, length-below-le (has m) 64)
+
+module _ (ms os ks : List ℕ) (n : ℕ) where
+  -- the three tests of an accepted pass
+  module _ (e : true ≡ ((every nonzero ms && every compactKind ks) && gapless 0 n (zip ms (zip os ks)))) where
+    pub pass-full : every nonzero ms ≡ true
+    pass-full = sym (first-held (every nonzero ms) (every compactKind ks) (gapless 0 n (zip ms (zip os ks))) e)
+
+    pub pass-compact : true ≡ every compactKind ks
+    pass-compact = second-held (every nonzero ms) (every compactKind ks) (gapless 0 n (zip ms (zip os ks))) e
+
+    pub pass-gapless : true ≡ gapless 0 n (zip ms (zip os ks))
+    pass-gapless = third-held (every nonzero ms) (every compactKind ks) (gapless 0 n (zip ms (zip os ks))) e
+
+  pub compacting-empty : length ks ≡ length ms → length ms ≡ 0 → eqb n 0 ≡ ((every nonzero ms && every compactKind ks) && gapless 0 n (zip ms (zip os ks)))
+  compacting-empty sk e = follow-empty ms os ks n e ∙ ap₂ (λ (a b : Bool). (a && b) && gapless 0 n (zip ms (zip os ks))) (none-left nonzero ms e) (none-left compactKind ks (sk ∙ e))
+
+  pub compacting-none : length os ≡ length ms → length ks ≡ length ms → (length ms ≡ 0 → ⊥) → Compacting ms os ks n (eqb (getD os 0 0) 0) 1
+  compacting-none so sk h = record { full = true; compact = true; follows = eqb (getD os 0 0) 0; is = refl; masks = passed-none nonzero ms; kinds = passed-none compactKind ks; offsets = follow-none ms os ks n so sk h }
+
+  -- what the code tests at place j, and what the flag becomes
+  abbrev tileTest : Bool → ℕ → ℕ → Bool
+  tileTest holds j next = ((holds && nonzero (getD ms j 0)) && compactKind (getD ks j 0)) && eqb (getD os j 0 + count (has (getD ms j 0)) 64) next
+
+  abbrev size : ℕ → ℕ
+  size j = length (places (getD ms j 0) (getD ks j 0))
+
+  tested-tile : (holds a b c : Bool) (j next : ℕ) → holds ≡ ((a && b) && c)
+      → tileTest holds j next ≡ (((a && nonzero (getD ms j 0)) && (b && compactKind (getD ks j 0))) && (c && eqb (getD os j 0 + size j) next))
+  tested-tile holds a b c j next e =
+      ap (λ (h : Bool). tileTest h j next) e
+      ∙ regroup a b c (nonzero (getD ms j 0)) (compactKind (getD ks j 0)) (eqb (getD os j 0 + count (has (getD ms j 0)) 64) next) (eqb (getD os j 0 + size j) next)
+      (λ k. ap (λ (l : ℕ). eqb (getD os j 0 + l) next) (compact-count (kindIn (getD ks j 0)) (getD ms j 0) (getD ks j 0) (count (has (getD ms j 0)) 64) refl (not-dense (getD ks j 0) k) refl))
+
+  module _ (holds : Bool) (i : ℕ) (inv : Compacting ms os ks n holds i) where
+    pub compacting-more : i < length ms → (next : ℕ) (r : Bool) → next ≡ getD os i 0 → r ≡ tileTest holds (i - 1) next → Compacting ms os ks n r (i + 1)
+    compacting-more h next r en er =
+        let up : i + 1 - 1 ≡ i - 1 + 1 = omega (arith, inv .offsets .after) in
+        record {
+          full = inv .full && nonzero (getD ms (i - 1) 0);
+          compact = inv .compact && compactKind (getD ks (i - 1) 0);
+          follows = inv .follows && eqb (getD os (i - 1) 0 + size (i - 1)) next;
+          is = er ∙ tested-tile holds (inv .full) (inv .compact) (inv .follows) (i - 1) next (inv .is);
+          masks = rw up (passed-more nonzero ms (i - 1) (inv .full) (inv .masks) 0 (nonzero (getD ms (i - 1) 0)) (inv .full && nonzero (getD ms (i - 1) 0)) (omega (arith, h)) refl refl);
+          kinds = rw up (passed-more compactKind ks (i - 1) (inv .compact) (inv .kinds) 0 (compactKind (getD ks (i - 1) 0)) (inv .compact && compactKind (getD ks (i - 1) 0)) (omega (arith, h, inv .offsets .metas-long)) refl refl);
+          offsets = follow-more ms os ks n (inv .follows) i (inv .offsets) h (size (i - 1)) next (inv .follows && eqb (getD os (i - 1) 0 + size (i - 1)) next) refl en refl;
+        }
+
+    pub compacting-done : length ms ≤ i → (r : Bool) → r ≡ tileTest holds (length ms - 1) n → r ≡ ((every nonzero ms && every compactKind ks) && gapless 0 n (zip ms (zip os ks)))
+    compacting-done h r er =
+        let at : length ms ≡ i = omega (arith, h, inv .offsets .inside) in
+        let j : ℕ = length ms - 1 in
+        let a : Bool = inv .full && nonzero (getD ms (length ms - 1) 0) in
+        let b : Bool = inv .compact && compactKind (getD ks (length ms - 1) 0) in
+        let c : Bool = inv .follows && eqb (getD os (length ms - 1) 0 + size (length ms - 1)) n in
+        let pm : Passed nonzero ms (length ms - 1) (inv .full) = rw at (inv .masks) in
+        let pk : Passed compactKind ks (length ms - 1) (inv .compact) = rw at (inv .kinds) in
+        let em : a ≡ every nonzero ms =
+        passed-done nonzero ms (length ms - 1 + 1) a (passed-more nonzero ms (length ms - 1) (inv .full) pm 0 (nonzero (getD ms (length ms - 1) 0)) a (omega (arith, at, inv .offsets .after)) refl refl) (omega arith) in
+        let ek : b ≡ every compactKind ks =
+        passed-done compactKind ks (length ms - 1 + 1) b (passed-more compactKind ks (length ms - 1) (inv .compact) pk 0 (compactKind (getD ks (length ms - 1) 0)) b (omega (arith, at, inv .offsets .after, inv .offsets .metas-long)) refl refl) (omega (arith, inv .offsets .metas-long)) in
+        er
+        ∙ tested-tile holds (inv .full) (inv .compact) (inv .follows) (length ms - 1) n (inv .is)
+        ∙ ap₂ (λ (s k : Bool). (s && k) && c) em ek
+        ∙ ap (λ (g : Bool). (every nonzero ms && every compactKind ks) && g) (follow-done ms os ks n (inv .follows) i (inv .offsets) h (size (length ms - 1)) c refl refl)
+
+-- ---- without a Dense tile there are as many values as set bits
+
+values-bits : (k n : ℕ) (ms os ks : List ℕ) → length os ≡ length ms → length ks ≡ length ms → gapless k n (zip ms (zip os ks)) ≡ true → every compactKind ks ≡ true → n ≡ k + setBits ms
+unfolding gapless every zip zipWith setBits Rattle.lent.specs.Lists.spread
+values-bits k n [] os ks so sk g e = sym (eqb-true k n g) ∙ omega arith
+values-bits k n (m ∷ ms) [] ks so sk g e = absurd (omega arith)
+values-bits k n (m ∷ ms) (o ∷ os) [] so sk g e = absurd (omega arith)
+values-bits k n (m ∷ ms) (o ∷ os) (x ∷ ks) so sk g e =
+    let c : length (places m x) ≡ length (members m) = ap length (compact-places (kindIn x) m (not-dense x (and-left (compactKind x) (every compactKind ks) e))) in
+    let rest : n ≡ k + length (places m x) + setBits ms =
+    values-bits (k + length (places m x)) n ms os ks (omega arith) (omega arith) (and-right (eqb o k) (gapless (k + length (places m x)) n (zip ms (zip os ks))) g) (and-right (compactKind x) (every compactKind ks) e) in
+    omega (arith, c, rest, bits-append (m ∷ []) ms, bits-one m, members-count m)
+
+-- ---- the rules of the values, and the count
+
+module _ (ms os ks : List ℕ) (so : length os ≡ length ms) (sk : length ks ≡ length ms) (vals : List Float) (t : ℕ) where
+  abbrev ruled : Bool
+  ruled = slotRules vals (zip ms (zip os ks))
+
+  pub count-gap : false ≡ gapless 0 (length vals) (zip ms (zip os ks)) → false ≡ (eqb t (setBits ms) && slotRules vals (zip ms (zip os ks)))
+  count-gap f = and-second (eqb t (setBits ms)) ruled (slots-apart ms os ks so sk vals f)
+
+  module _ (g : true ≡ gapless 0 (length vals) (zip ms (zip os ks))) where
+    -- any kinds: the bits are counted
+    pub count-kind : false ≡ every kindHolds ks → false ≡ (eqb t (setBits ms) && slotRules vals (zip ms (zip os ks)))
+    count-kind f = and-second (eqb t (setBits ms)) ruled (slots-kind ms os ks so sk vals g f)
+
+    module _ (few : length ms ≤ 2 ^ 24) (k : ℕ) (q : k ≡ setBits ms % 2 ^ 64) where
+      pub count-wrong : (t ≡ k → ⊥) → false ≡ (eqb t (setBits ms) && slotRules vals (zip ms (zip os ks)))
+      count-wrong d = and-first (eqb t (setBits ms)) ruled (is-unequal t (setBits ms) (λ e. d (e ∙ sym (bits-whole ms k few q))))
+
+      pub count-right : t ≡ k → true ≡ every kindHolds ks → (r : Bool) → r ≡ every (valuesOf vals) (zip ms (zip os ks)) → r ≡ (eqb t (setBits ms) && slotRules vals (zip ms (zip os ks)))
+      count-right d h r e = and-next (eqb t (setBits ms)) ruled r (is-equal t (setBits ms) (d ∙ bits-whole ms k few q)) (slots-values ms os ks so sk vals g h r e)
+
+    -- no Dense tile
+    module _ (c : true ≡ every compactKind ks) where
+      same-count : length vals ≡ setBits ms
+      same-count = omega (arith, values-bits 0 (length vals) ms os ks so sk (sym g) (sym c))
+
+      kinds : every kindHolds ks ≡ true
+      kinds = every-by compactKind compactKind kindHolds ks (λ m e f. le-leb (kindIn m) 2 (omega (arith, leb-true (kindIn m) 1 e))) (sym c) (sym c)
+
+      tested : (i : ℕ) → i ≤ length ms → Tested ms os ks vals 0 i
+      tested zero h = tested-none ms os ks vals so sk (sym g)
+      tested (suc i) h =
+          rw (sym (add-one i))
+          (tested-compact ms os ks vals 0 i (tested i (omega (arith, h))) (omega (arith, h)) (kindIn (getD ks i 0)) refl (not-dense (getD ks i 0) (every-getD compactKind ks i 0 (sym c) (omega (arith, sk, h)))))
+
+      pub compact-wrong : (t ≡ length vals → ⊥) → false ≡ (eqb t (setBits ms) && slotRules vals (zip ms (zip os ks)))
+      compact-wrong d = and-first (eqb t (setBits ms)) ruled (is-unequal t (setBits ms) (λ e. d (e ∙ sym same-count)))
+
+      pub compact-right : t ≡ length vals → (r : Bool) → r ≡ every solid vals → r ≡ (eqb t (setBits ms) && slotRules vals (zip ms (zip os ks)))
+      compact-right d r e =
+          and-next (eqb t (setBits ms)) ruled r (is-equal t (setBits ms) (d ∙ same-count))
+          (slots-values ms os ks so sk vals g (sym kinds) r
+          (tested-done ms os ks vals 0 (length ms) (tested (length ms) (omega arith)) (omega arith) r (e ∙ ap (every solid) (sym (take-all (length vals - 0) vals (omega arith))))))

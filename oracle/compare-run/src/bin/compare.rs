@@ -57,12 +57,16 @@ fn work(thread: usize, options: &Options, end: Instant) {
     let mut rng = Rng::new(seed);
     for _ in 0..FIRST_ROUNDS {
         random::round(&mut run, options.library, &mut rng);
+        run.demand(&mut rng, 1);
     }
     for call in cases::calls().iter().skip(thread).step_by(THREADS) {
         run.call(call);
     }
     edge::all(&mut run, options.library, thread);
-    random::forever(&mut run, options.library, &mut rng);
+    while !run.done() {
+        random::round(&mut run, options.library, &mut rng);
+        run.demand(&mut rng, 1);
+    }
 }
 
 fn main() -> ExitCode {

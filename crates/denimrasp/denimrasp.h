@@ -486,7 +486,7 @@ DenimraspRestriction denimrasp_restricted_from_csr32(size_t nrows, size_t ncols,
     double *out_values, size_t out_values_len);
 
 /* The entries of tiles in active columns, ascending: the same lists; source_nnz is matrix_nnz. 4 where an active value is
- * infinite or NaN, 1 where more than 2^24 entries are kept, 13 exactly where they do not fit. */
+ * infinite, 1 where more than 2^24 entries are active, 13 exactly where they do not fit. */
 DenimraspRestriction denimrasp_restricted_from_abtm(size_t nrows, size_t ncols,
     const uint32_t *row_tile_ptr, size_t row_tile_ptr_len, const uint64_t *masks, size_t masks_len,
     const uint32_t *value_offsets, size_t value_offsets_len, const uint32_t *metas, size_t metas_len,

@@ -228,7 +228,18 @@ impl AbtmMatrix {
         })
     }
 
-    fn view(&self) -> Tiles<'_> {
+    /// How many values stand in the mask's columns: the places that a restriction needs. Any number where a tile is past the
+    /// mask's end, since the restriction is then refused.
+    pub(crate) fn values_in(&self, mask: &DofMask) -> usize {
+        let kept = |(&tile, &meta): (&u64, &u32)| {
+            let word = calls::abtm_tile_base_col(meta) / TILE_WIDTH;
+            let active = mask.words().get(word).copied().unwrap_or(0);
+            (tile & active).count_ones() as usize
+        };
+        self.masks.iter().zip(&self.metas).map(kept).sum()
+    }
+
+    pub(crate) fn view(&self) -> Tiles<'_> {
         Tiles {
             nrows: self.nrows,
             ncols: self.ncols,

@@ -11,6 +11,9 @@ use crate::{Csr32Matrix, DofMask, HybitError};
 /// How many columns a tile stands for.
 pub const TILE_WIDTH: usize = 64;
 
+/// The bits of a tile's `meta` that hold the number of its word.
+const WORD_BITS: u32 = (1 << 30) - 1;
+
 /// How the values of a tile are stored.
 #[repr(u8)]
 #[derive(Clone, Copy, Debug, PartialEq, Eq)]
@@ -232,7 +235,7 @@ impl AbtmMatrix {
     /// mask's end, since the restriction is then refused.
     pub(crate) fn values_in(&self, mask: &DofMask) -> usize {
         let kept = |(&tile, &meta): (&u64, &u32)| {
-            let word = calls::abtm_tile_base_col(meta) / TILE_WIDTH;
+            let word = (meta & WORD_BITS) as usize;
             let active = mask.words().get(word).copied().unwrap_or(0);
             (tile & active).count_ones() as usize
         };

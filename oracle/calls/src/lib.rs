@@ -174,7 +174,7 @@ pub enum Call {
     /// The mask of the active columns, and the lent lists.
     RestrictedFromCsr32(Csr, Mask, CsrRoom),
     RestrictedFromAbtm(Tiles, Mask, CsrRoom),
-    /// Entries of the source, entries that are kept.
+    /// Entries that are kept, entries of the source.
     RestrictedRetainedFraction(usize, usize),
     /// Rows, columns, entries that are kept.
     RestrictedStorageBytes(usize, usize, usize),

@@ -309,6 +309,7 @@ pub fn parts_below(call: &mut Below) -> Vec<Part<'_>> {
         Below::Counts(a, b) | Below::Word(_, a, b) => vec![Num64(a), Num64(b)],
         Below::IsFinite(bits) => vec![Num64(bits)],
         Below::Narrow(n) => vec![Size(n)],
+        Below::Saturating(a, b) => vec![Size(a), Size(b)],
         Below::ClearU32(list, from) => vec![Nums32(list), Size(from)],
         Below::ClearU64(list, from) => vec![Nums64(list), Size(from)],
         Below::ClearUsize(list, from) => vec![Sizes(list), Size(from)],
@@ -326,6 +327,9 @@ pub fn parts_below(call: &mut Below) -> Vec<Part<'_>> {
         Below::RowNumbers(w, row) | Below::RowMasks(w, row) => join(words(w), vec![Size(row)]),
         Below::RowValues(s, row) => join(store(s), vec![Size(row)]),
         Below::Report(counts) => counts.iter_mut().map(Size).collect(),
+        Below::Restriction(numbers) | Below::Region(numbers) => {
+            numbers.iter_mut().map(Size).collect()
+        }
         Below::TopologyWord(number, mask, n) => vec![Num32(number), Num64(mask), Size(n)],
         Below::TileMasks(t, row) | Below::TileOffsets(t, row) | Below::TileMetas(t, row) => {
             join(tiles(t), vec![Size(row)])

@@ -104,8 +104,8 @@ pub fn judge(call: &Call) -> Outcome {
         AbtmExpandMaskOneHop(tiles, m, room) => abtm::judge_expand_mask_one_hop(tiles, m, room),
         RestrictedFromCsr32(csr, m, room) => restricted::judge_from_csr32(csr, m, room),
         RestrictedFromAbtm(tiles, m, room) => restricted::judge_from_abtm(tiles, m, room),
-        RestrictedRetainedFraction(source, kept) => {
-            restricted::judge_retained_fraction(*source, *kept)
+        RestrictedRetainedFraction(kept, source) => {
+            restricted::judge_retained_fraction(*kept, *source)
         }
         RestrictedStorageBytes(nrows, ncols, kept) => {
             restricted::judge_storage_bytes(*nrows, *ncols, *kept)

@@ -90,7 +90,7 @@ fn from_abtm(tiles: &Tiles, active: &Mask) -> Checked<Built<4, 3>> {
     ))
 }
 
-pub fn judge_retained_fraction(source: usize, kept: usize) -> Outcome {
+pub fn judge_retained_fraction(kept: usize, source: usize) -> Outcome {
     number(ratio(kept, source))
 }
 

@@ -221,7 +221,7 @@ pub fn by_value(sink: &mut impl Sink, rng: &mut Rng) {
         } else {
             (a.min(b), a.max(b))
         };
-        ask(sink, rng, Call::RestrictedRetainedFraction(source, kept));
+        ask(sink, rng, Call::RestrictedRetainedFraction(kept, source));
         ask(sink, rng, Call::LocalBoundaryPruningRatio(kept, source));
         let columns = if rng.once_in(3) {
             count(rng)

@@ -19,7 +19,7 @@ pub fn judge(call: &Call) -> Result<Outcome, Reason> {
     match call {
         RestrictedFromCsr32(c, m, room) => from_csr32(c, m, room),
         RestrictedFromAbtm(t, m, room) => from_abtm(t, m, room),
-        RestrictedRetainedFraction(source, kept) => {
+        RestrictedRetainedFraction(kept, source) => {
             let fraction = restriction(1, 2, *source, *kept)?.retained_fraction();
             Ok(accepted(vec![bits(fraction)]))
         }

@@ -111,7 +111,7 @@ fn square(sink: &mut impl Sink, n: usize) {
     sink.call(&Call::LocalFromCsr32(c, m, vec![7; n], room([n + 1, 4, 4])));
 }
 
-/// All members of the most rows; and one list longer than any region.
+/// All members of the most rows; and members that don't rise, as many as there can be and more.
 fn members(sink: &mut impl Sink, n: usize) {
     let all: Vec<u32> = (0..n as u32).collect();
     let global: Vec<f64> = (0..n).map(|place| place as f64 * 0.1).collect();
@@ -123,5 +123,5 @@ fn members(sink: &mut impl Sink, n: usize) {
         vec![7.0; n],
     ));
     sink.call(&Call::LocalCheck(n - 1, all));
-    sink.call(&Call::LocalCheck(n, vec![0; MOST_STORED + 1]));
+    sink.call(&Call::LocalCheck(MOST_PLACES, vec![0; n]));
 }

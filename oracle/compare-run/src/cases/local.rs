@@ -170,7 +170,7 @@ fn members(all: &mut Vec<Call>) {
 /// 1 and 12 before 6 of the global vector, that before 6 of the local one; what is gathered, NaN and -0.0 among it.
 fn gathers(all: &mut Vec<Call>) {
     for (size, list) in member_lists() {
-        if size > 4096 {
+        if size > 1000 {
             all.push(Call::LocalGatherInput(size, list, vec![1.5], vec![7.5]));
             continue;
         }

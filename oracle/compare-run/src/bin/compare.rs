@@ -1,10 +1,10 @@
-//! `compare --seed N --seconds S [--library none] [--break CALL]`: the tiny inputs whole, some random ones, the named cases, the
+//! `compare --seed N --seconds S [--library none] [--break FAULT]`: the tiny inputs whole, some random ones, the named cases, the
 //! edge of the domain, then random calls until the seconds are over. With `--library none` the model is held against hybit's
-//! Rust alone.
+//! Rust alone. `compare --faults` lists the named faults, each with its call; the name of a call is a fault too.
 
 use compare_run::make::Judge;
 use compare_run::run::{Run, Tally, summary};
-use compare_run::{Sink, cases, edge, exhaustive, random, rng::Rng};
+use compare_run::{Sink, cases, edge, exhaustive, fault, random, rng::Rng};
 use judges::ours;
 use std::process::ExitCode;
 use std::time::{Duration, Instant};
@@ -70,6 +70,12 @@ fn work(thread: usize, options: &Options, end: Instant) {
 }
 
 fn main() -> ExitCode {
+    if std::env::args().nth(1).as_deref() == Some("--faults") {
+        fault::NAMED
+            .iter()
+            .for_each(|(name, call, _)| println!("{name} {call}"));
+        return ExitCode::SUCCESS;
+    }
     let options = match options() {
         Ok(options) => options,
         Err(message) => {

@@ -17,11 +17,11 @@ use Rattle.lent.specs.Lists.{joined, each, starts, part, only}
 use Rattle.lent.specs.Lent.{Appended}
 use Rattle.lent.proofs.ListLaws.{joined-lengths, length-joined-suc, length-joined-le, length-only, only-joined}
 use Rattle.lent.proofs.LentLaws.{appended-none, appended-join, appended-snoc}
-use Rattle.mask.specs.Mask.{Mask, asMask, active, maskRules}
+use Rattle.mask.specs.Mask.{Mask, active, maskRules}
 use Rattle.mask.proofs.MaskLaws as masks
 use Rattle.csr32.specs.Csr.{Csr, Entry, csrSizes, csrRules, csrAnswer, entries}
 use Rattle.csr32.specs.Made.{entriesIn, csrOf, CsrRoom, fitsCsr}
-use Rattle.csr32.proofs.FrameLaws.{Framed, parts-all}
+use Rattle.csr32.proofs.FrameLaws.{parts-all}
 use Rattle.csr32.proofs.CsrLaws.{Valid, valid, row-of, row-sides, pointers-few, entries-lent}
 use Rattle.csr32.proofs.MadeLaws.{made-pointers, made-columns, made-values}
 use Rattle.restricted.specs.Restricted.{restricted, restrictAnswer}

@@ -88,9 +88,10 @@ fn fill_rows(
     let mut at: usize = 0;
     let mut row: usize = 0;
     while row < nrows {
+        let next = row + 1;
         out_row_ptr[row] = hybit_core::narrow(at);
         let start = hybit_core::wide(row_ptr[row]);
-        let end = hybit_core::wide(row_ptr[row + 1]);
+        let end = hybit_core::wide(row_ptr[next]);
         at = keep_row(
             &col_idx[start..end],
             &values[start..end],
@@ -100,7 +101,7 @@ fn fill_rows(
             out_col_idx,
             out_values,
         );
-        row += 1;
+        row = next;
     }
     out_row_ptr[nrows] = hybit_core::narrow(at);
     at

@@ -21,6 +21,11 @@ abbrev μ-loop : tie.MeasureT-loop
 loop-holds : tie.Need-loop-holds Inv-loop μ-loop
 loop-holds c = (omega arith, filling-none _ _ _ _)
 
+add-next : tie.Need-add-next Inv-loop μ-loop
+add-next c =
+    let f = restrict-facts _ _ _ (c .before .before .before .before .before .before .before .before .before .pre) in
+    omega (arith, f .list .rows-in)
+
 narrow-requires : tie.Need-narrow-requires Inv-loop μ-loop
 narrow-requires c κs = search needs
 
@@ -46,11 +51,6 @@ shared-slice-read-wide c =
 
 wide-requires : tie.Need-wide-requires Inv-loop μ-loop
 wide-requires c κs = search needs
-
-add-wide : tie.Need-add-wide Inv-loop μ-loop
-add-wide c =
-    let f = restrict-facts _ _ _ (c .before .before .before .before .before .before .before .before .before .before .before .before .pre) in
-    omega (arith, f .list .rows-in)
 
 mul-wide-2 : tie.Need-mul-wide-2 Inv-loop μ-loop
 mul-wide-2 c =
@@ -110,11 +110,6 @@ keep-row-requires c κs =
     let f = restrict-facts _ _ _ (c .before .before .before .before .before .before .before .before .before .before .before .before .before .before .before .before .before .before .pre) in
     (row-lent (f .list) _ _ _ _ (c .before .before .before .before .before .before .wide .ensures) (c .before .before .before .before .wide2 .ensures) refl .0, (filling-column _ _ _ _ _ _ _ _ _ _ (c .before .before .before .before .before .before .before .before .before .before .loop .inv .1) _ f (omega arith) _ _ (c .before .before .before .before .before .before .wide .ensures) (c .before .before .before .before .wide2 .ensures) refl, filling-value _ _ _ _ _ _ _ _ _ _ (c .before .before .before .before .before .before .before .before .before .before .loop .inv .1) _ f (omega arith) _ _ (c .before .before .before .before .before .before .wide .ensures) (c .before .before .before .before .wide2 .ensures) refl))
 
-add-row : tie.Need-add-row Inv-loop μ-loop
-add-row c =
-    let f = restrict-facts _ _ _ (c .before .before .before .before .before .before .before .before .before .before .before .before .before .before .before .before .before .before .before .before .before .before .before .pre) in
-    omega (arith, f .list .rows-in)
-
 loop-less : tie.Need-loop-less Inv-loop μ-loop
 loop-less c = omega arith
 
@@ -159,13 +154,13 @@ fill-rows-spec =
     Inv-loop
     μ-loop
     loop-holds
+    add-next
     narrow-requires
     mul-out-row-ptr
     slice-write-out-row-ptr
     mul-wide
     shared-slice-read-wide
     wide-requires
-    add-wide
     mul-wide-2
     shared-slice-read-wide-2
     wide-requires-2
@@ -178,7 +173,6 @@ fill-rows-spec =
     part-keep-row-start-2
     part-keep-row-end-2
     keep-row-requires
-    add-row
     loop-less
     loop-again
     narrow-requires-2

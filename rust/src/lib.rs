@@ -13,8 +13,8 @@
 //! them. A value of a type here has been checked or built by the library, and its fields are private, so the library does not
 //! refuse it later; if it did, the method would panic rather than return the zeros of a refusal.
 //!
-//! Building words takes up to 136 KiB of stack, building tiles up to 268 KiB, packing up to 456 KiB, a region's matrix up to
-//! 72 KiB: a thread that does it needs a stack of that size.
+//! Building words takes up to 136 KiB of stack, building tiles up to 268 KiB, packing up to 456 KiB, building a region's
+//! matrix up to 72 KiB: a thread that does it needs a stack of that size.
 //!
 //! What differs from hybit-matrix:
 //! - Sizes above document 01's domain are [`HybitError::SizeOverflow`]: rows, columns and mask lengths above 1,048,576, stored

@@ -1,0 +1,6 @@
+pub mod KeepLaws
+pub mod MemberLaws
+pub mod RegionLaws
+pub mod CountLaws
+pub mod RowsLaws
+pub mod CheckLaws

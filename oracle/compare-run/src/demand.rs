@@ -8,7 +8,7 @@ use crate::rng::Rng;
 use crate::tiles::random::{nonzero, thresholds};
 use crate::tiles::tiles_of;
 use calls::{Call, Csr, Mask, Outcome};
-use judges::hybit::demand as hybit;
+use judges::hybit::demand::{self as hybit, Routes};
 use model::demand::{self as model_demand, RowAnswer};
 
 /// The names under which the routes are counted and broken.
@@ -23,23 +23,13 @@ pub struct Pair {
     pub thresholds: (u8, u8),
 }
 
-/// The answers of all rows of one matrix. The third route has the number alone, and only where no active value is zero.
-#[derive(Debug, PartialEq)]
-pub struct Routes {
-    pub dots: Vec<RowAnswer>,
-    pub restricted: Vec<RowAnswer>,
-    pub tiles: Option<Vec<u64>>,
-}
-
-impl Routes {
-    /// The answers that all three routes must give.
-    fn all(answers: Vec<RowAnswer>, tiles: bool) -> Routes {
-        let numbers = answers.iter().map(|answer| answer.0).collect();
-        Routes {
-            dots: answers.clone(),
-            restricted: answers,
-            tiles: tiles.then_some(numbers),
-        }
+/// The answers that all three routes must give. The third has the number alone, and is asked only where no active value is zero.
+fn all_routes(answers: Vec<RowAnswer>, tiles: bool) -> Routes {
+    let numbers = answers.iter().map(|answer| answer.0).collect();
+    Routes {
+        dots: answers.clone(),
+        restricted: answers,
+        tiles: tiles.then_some(numbers),
     }
 }
 
@@ -120,44 +110,31 @@ pub fn compare(library: Judge, pair: &Pair, fault: Option<&str>) -> Result<Compa
     let asks = model_demand::no_active_zero(&pair.matrices[0], &pair.active);
     let thresholds = asks.then_some(pair.thresholds);
     let first = model_demand::answers(&pair.matrices[0], &pair.active, &pair.vectors[0]);
-    let must = Routes::all(first, asks);
+    let must = all_routes(first, asks);
     let mut compared = ([0; 3], [0; 3]);
-    let counted = |counts: &mut [u64; 3]| {
-        counts[0] += 1;
-        counts[1] += 1;
-        counts[2] += u64::from(asks);
-    };
+    let once = [1, 1, u64::from(asks)];
     for (n, (c, x)) in pair.matrices.iter().zip(&pair.vectors).enumerate() {
-        let ours = through(library, c, &pair.active, x, thresholds);
-        let mut ours = ours.map_err(|text| Difference {
+        let refused = |text: String| Difference {
             route: ROUTES[0],
-            text: format!("ours, matrix {n}: {text}"),
-        })?;
+            text: format!("matrix {n}: {text}"),
+        };
+        let mut ours = through(library, c, &pair.active, x, thresholds).map_err(refused)?;
         if n == 1 {
             alter(fault, c.ncols, &mut ours);
         }
         same(&format!("ours, matrix {n}"), &ours, &must)?;
-        counted(&mut compared.1);
-        match hybit::routes(c, &pair.active, x, thresholds) {
-            Some(Ok(routes)) => {
-                let routes = Routes {
-                    dots: routes.dots,
-                    restricted: routes.restricted,
-                    tiles: routes.tiles,
-                };
-                same(&format!("hybit, matrix {n}"), &routes, &must)?;
-                counted(&mut compared.0);
-            }
-            Some(Err(error)) => {
-                return Err(Difference {
-                    route: ROUTES[0],
-                    text: format!("hybit, matrix {n}: {error:?}"),
-                });
-            }
-            None => {}
+        add(&mut compared.1, once);
+        if let Some(routes) = hybit::routes(c, &pair.active, x, thresholds) {
+            let routes = routes.map_err(|error| refused(format!("hybit: {error:?}")))?;
+            same(&format!("hybit, matrix {n}"), &routes, &must)?;
+            add(&mut compared.0, once);
         }
     }
     Ok(compared)
+}
+
+fn add(counts: &mut [u64; 3], more: [u64; 3]) {
+    counts.iter_mut().zip(more).for_each(|(n, m)| *n += m);
 }
 
 fn same(who: &str, said: &Routes, must: &Routes) -> Result<(), Difference> {

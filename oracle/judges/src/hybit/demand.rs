@@ -13,7 +13,7 @@ pub type RowAnswer = (u64, usize, usize);
 
 /// The answers of all rows by each route: the pruned dot; restricted from CSR, packed, every column active; the row products of
 /// the list restricted from tiles, where it is asked for.
-#[derive(Debug)]
+#[derive(Debug, PartialEq)]
 pub struct Routes {
     pub dots: Vec<RowAnswer>,
     pub restricted: Vec<RowAnswer>,

@@ -8,7 +8,7 @@ use lib.Dec.{eqb}
 use lib.ListN.{length, take, replicate}
 use lib.Seq.{take-at}
 use borrow.Author.Tests.{not-false, eqb-true}
-use Rattle.hybit_core.specs.Answer.{Told, plain, Answer, accepted, refused, demand, lengthIs, _andThen_, Given, gives, refuses, answers}
+use Rattle.hybit_core.specs.Answer.{plain, Answer, accepted, refused, demand, lengthIs, _andThen_, gives, refuses, answers}
 use Rattle.hybit_core.specs.Domain.{few}
 use Rattle.hybit_core.specs.Table.{paper, told}
 use Rattle.hybit_core.specs.declared.Verdict.{Verdict}
@@ -19,8 +19,8 @@ use Rattle.hybit_core.proofs.AnswerLaws.{demand-accepted, then-first, then-seco
 use Rattle.lent.specs.Lent.{padded, built}
 use Rattle.mask.specs.Mask.{Mask, maskRules, maskAnswer}
 use Rattle.csr32.specs.Csr.{Csr, csrSizes, csrRules, csrAnswer}
-use Rattle.csr32.specs.Made.{CsrRoom, fitsCsr}
-use Rattle.restricted.specs.Local.{localList, fitsLocal, localAnswer, regionOf, toldRegion}
+use Rattle.csr32.specs.Made.{CsrRoom}
+use Rattle.restricted.specs.Local.{fitsLocal, localAnswer, regionOf, toldRegion}
 use Rattle.restricted.specs.declared.LocalRegion.{LocalRegion}
 use Rattle.restricted.specs.declared.LocalAnswer.{LocalAnswer}
 use Rattle.restricted.specs.declared.LocalAnswer.the-variants as region

@@ -1,8 +1,8 @@
 -- The numbers of a region: counted row by row, what they are of the local list, and that a count of entries stays below 2^24.
 -- Assumes nothing.
 use mathlib.Core.Bool.{Bool, true, false, _&&_}
-use mathlib.Core.List.{List, [], _∷_, _++_, append-nil, append-assoc, map, zip}
-use mathlib.Core.Path.{_≡_, refl, sym, ap, ap₂, _∙_}
+use mathlib.Core.List.{List, [], _∷_, _++_, append-nil, append-assoc, map}
+use mathlib.Core.Path.{_≡_, refl, sym, ap, _∙_}
 use Prim.Native.Nat.{ℕ, zero, suc, _+_, _-_, _*_, _^_, _≤_, _<_}
 use native.Mathlib.Omega.{arith}
 use lib.Dec.{leb, ltb}
@@ -14,10 +14,10 @@ use Rattle.lent.specs.Lists.{consIf, every, joined, only, part, spread}
 use Rattle.lent.proofs.ListLaws.{joined-lengths, joined-le, length-only, length-joined-suc, spread-append}
 use Rattle.lent.proofs.PartLaws.{length-zip}
 use Rattle.word.specs.Bits.{below}
-use Rattle.word.proofs.BelowLaws.{below-snoc, below-zero, length-below-le}
+use Rattle.word.proofs.BelowLaws.{below-snoc, below-zero}
 use Rattle.mask.specs.Mask.{Mask, active}
 use Rattle.csr32.specs.Csr.{Csr, Entry, entries}
-use Rattle.csr32.specs.Made.{entriesIn, CsrRoom, fitsCsr, csrOf}
+use Rattle.csr32.specs.Made.{entriesIn, CsrRoom, fitsCsr}
 use Rattle.csr32.proofs.FrameLaws.{RowIn, part-length, parts-all}
 use Rattle.csr32.proofs.CsrLaws.{Valid, valid, row-of, row-of-values, row-sides, entries-lent, row-lent}
 use Rattle.csr32.proofs.MadeLaws.{made-columns, made-values, made-pointers}
@@ -177,7 +177,7 @@ module _ (m : Csr) (a : Mask) where
       let kept : ℕ = length (joined (keptRow m a) (a .size)) in
       let first : kept ≤ length (joined (entries m) (a .size)) = joined-le (keptRow m a) (entries m) (a .size) (λ r h. length-only (λ (e : Entry). active a (e .0)) (entries m r)) in
       let rows : length (joined (entries m) (a .size)) ≡ length (joined (part (m .ptr) (m .col)) (a .size)) =
-          joined-lengths (entries m) (part (m .ptr) (m .col)) (a .size) (λ r. length-zip (part (m .ptr) (m .col) r) (part (m .ptr) (m .val) r) (sym (row-sides v r))) in
+      joined-lengths (entries m) (part (m .ptr) (m .col)) (a .size) (λ r. length-zip (part (m .ptr) (m .col) r) (part (m .ptr) (m .val) r) (sym (row-sides v r))) in
       let sides : length (joined (part (m .ptr) (m .col)) (a .size)) ≡ length (joined (part (m .ptr) (m .val)) (a .size)) = joined-lengths (part (m .ptr) (m .col)) (part (m .ptr) (m .val)) (a .size) (row-sides v) in
       let all : length (joined (part (m .ptr) (m .val)) (a .size)) ≡ length (m .val) = ap (λ (n : ℕ). length (joined (part (m .ptr) (m .val)) n)) same ∙ ap length (parts-all (m .rows) (m .ptr) (m .val) (v .frame)) in
       omega (arith, local-rows, spread-le (keptRow m a) (active a) (a .size), first, rows, sides, all, v .entries-in, v .sides)

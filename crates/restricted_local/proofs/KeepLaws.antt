@@ -111,7 +111,7 @@ module _ (t : ℕ → Bool) (number : Entry → ℕ) (cs : List ℕ) (vs : List 
         place : at < from + length (entriesIn t (zip cs vs))
         place =
             let all : entriesIn t (zip cs vs) ≡ entriesIn t (take (k + 1) (zip cs vs)) ++ entriesIn t (drop (k + 1) (zip cs vs)) =
-                ap (λ (es : List Entry). entriesIn t es) (sym (take-append-drop (k + 1) (zip cs vs))) ∙ only-append (λ (e : Entry). t (e .0)) (take (k + 1) (zip cs vs)) (drop (k + 1) (zip cs vs)) in
+            ap (λ (es : List Entry). entriesIn t es) (sym (take-append-drop (k + 1) (zip cs vs))) ∙ only-append (λ (e : Entry). t (e .0)) (take (k + 1) (zip cs vs)) (drop (k + 1) (zip cs vs)) in
             omega (arith, inv .columns .next, length-map (entriesIn t (take k (zip cs vs))) number, ap length all, length-append (entriesIn t (take (k + 1) (zip cs vs))) (entriesIn t (drop (k + 1) (zip cs vs))), ap length (step true e), length-append (entriesIn t (take k (zip cs vs))) ((getD cs k 0, getD vs k nan) ∷ []))
 
         pub keeping-column : from + length (entriesIn t (zip cs vs)) ≤ length oc → at < length nc

@@ -1,16 +1,15 @@
 -- Members that are handed in: the scan of their rules, what an accepted gather says, and the numbers read. Assumes nothing.
 use mathlib.Core.Bool.{Bool, true, false, _&&_}
 use mathlib.Core.List.{List, map}
-use mathlib.Core.Path.{_≡_, refl, sym, ap, ap₂, _∙_}
+use mathlib.Core.Path.{_≡_, refl, sym, _∙_}
 use Prim.Native.Nat.{ℕ, suc, _+_, _≤_, _<_}
 use native.Mathlib.Numerals.{add-one}
-use native.Mathlib.Omega.{arith}
 use lib.Dec.{leb, ltb}
 use lib.ListN.{length, getD, drop, length-map, drop-of-length-le}
 use lib.Seq.{drop-cons}
 use lib.Ieee.{Float, nan}
 use borrow.Author.Tests.{le-leb, lt-leb, lt-ltb, le-ltb}
-use Rattle.hybit_core.specs.Answer.{Answer, accepted, demand, lengthIs, _andThen_}
+use Rattle.hybit_core.specs.Answer.{accepted, demand, lengthIs, _andThen_}
 use Rattle.hybit_core.proofs.BoolLaws.{and-right}
 use Rattle.hybit_core.proofs.AnswerLaws.{demand-accepted, then-first, then-second, length-accepted}
 use Rattle.lent.specs.Lists.{each, every, climbs}

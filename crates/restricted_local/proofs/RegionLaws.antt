@@ -1,21 +1,19 @@
 -- The members of a region and its numbers: members one after the other, running counts of words, the new number of a column, and how
 -- many entries there are. Assumes nothing.
 use mathlib.Core.Bool.{Bool, true, false}
-use mathlib.Core.List.{List, [], _∷_, _++_, append-nil, append-assoc, map, zip}
+use mathlib.Core.List.{List, [], _∷_, _++_, append-nil}
 use mathlib.Core.Path.{_≡_, refl, sym, ap, ap₂, _∙_}
-use Prim.Native.Nat.{ℕ, zero, suc, _+_, _-_, _*_, _/_, _%_, _^_, _≤_, _<_}
+use Prim.Native.Nat.{ℕ, _+_, _*_, _/_, _%_, _^_, _≤_, _<_}
 use native.Mathlib.Nat.{mod-eq-of-lt}
 use native.Mathlib.Numerals.{add-one}
 use native.Mathlib.Omega.{arith}
-use lib.ListN.{length, getD, set, take, drop, length-append, length-map, length-set, length-take, length-drop}
+use lib.ListN.{length, getD, set, length-set}
 use lib.Seq.{getD-take}
-use lib.Ieee.{Float}
-use Rattle.lent.specs.Lists.{consIf, joined, each, only, part, spread}
+use Rattle.lent.specs.Lists.{consIf, joined, each}
 use Rattle.lent.specs.Lent.{Appended}
-use Rattle.lent.proofs.ListLaws.{getD-each, joined-lengths, length-only, spread-append}
+use Rattle.lent.proofs.ListLaws.{getD-each}
 use Rattle.lent.proofs.LentLaws.{appended-none, appended-snoc}
-use Rattle.lent.proofs.PartLaws.{length-zip}
-use Rattle.word.specs.Bits.{has, below, count, ceil64}
+use Rattle.word.specs.Bits.{has, below, count}
 use Rattle.word.proofs.BelowLaws.{below-snoc, below-zero, below-cong, length-below-le, length-block, rank-lt}
 use Rattle.mask.specs.Mask.{Mask, asMask, bitAt, active}
 use Rattle.mask.proofs.MaskLaws.{Valid, valid, active-is, word-bit, few-words}

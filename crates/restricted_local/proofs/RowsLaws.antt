@@ -1,6 +1,6 @@
 -- The rows of a local list, written one after the other. Assumes nothing.
-use mathlib.Core.Bool.{Bool, true}
-use mathlib.Core.List.{List, [], _∷_, _++_, append-nil, map, map-map, map-append, zip}
+use mathlib.Core.Bool.{true}
+use mathlib.Core.List.{List, [], _∷_, _++_, map, map-map, map-append, zip}
 use mathlib.Core.Path.{_≡_, refl, sym, ap, _∙_}
 use Prim.Native.Nat.{ℕ, suc, _+_, _-_, _%_, _^_, _≤_, _<_}
 use native.Mathlib.Nat.{mod-eq-of-lt}
@@ -12,12 +12,12 @@ use Rattle.lent.specs.Lists.{joined, each, starts}
 use Rattle.lent.specs.Lent.{Appended}
 use Rattle.lent.proofs.ListLaws.{length-joined-le, length-joined-suc}
 use Rattle.lent.proofs.LentLaws.{appended-none, appended-join, appended-snoc}
-use Rattle.word.specs.Bits.{below, count}
+use Rattle.word.specs.Bits.{count}
 use Rattle.word.proofs.BelowLaws.{length-below-le, selects}
 use Rattle.mask.specs.Mask.{Mask, active}
 use Rattle.csr32.specs.Csr.{Csr, Entry, entries}
 use Rattle.csr32.specs.Made.{entriesIn, asCsrRoom, fitsCsr, csrOf}
-use Rattle.csr32.proofs.CsrLaws.{Valid, valid, entries-lent}
+use Rattle.csr32.proofs.CsrLaws.{valid, entries-lent}
 use Rattle.restricted.specs.Local.{regionMembers, renumbered, localList}
 use Rattle.restricted_local.specs.Region.{Region}
 use Rattle.restricted_local.proofs.CountLaws.{localRow, local-values, local-few, fits-facts}
@@ -92,7 +92,7 @@ module _ (m : Csr) (a : Mask) (op oc : List ℕ) (ov : List Float) where
     point v q =
         let is : v ≡ length (joined (localRow m a) i) = q ∙ mod-eq-of-lt (omega (arith, at-few)) ∙ so-far in
         let more : each (λ r. length (joined (localRow m a) r)) (i + 1) ≡ each (λ r. length (joined (localRow m a) r)) i ++ (v ∷ []) =
-            ap (each (λ r. length (joined (localRow m a) r))) (add-one i) ∙ ap (λ (n : ℕ). each (λ r. length (joined (localRow m a) r)) i ++ (n ∷ [])) (sym is) in
+        ap (each (λ r. length (joined (localRow m a) r))) (add-one i) ∙ ap (λ (n : ℕ). each (λ r. length (joined (localRow m a) r)) i ++ (n ∷ [])) (sym is) in
         rw more (appended-snoc (each (λ r. length (joined (localRow m a) r)) i) 0 i op np v (inv .pointers) rowing-pointer)
 
     module _ (rows : List ℕ) (row s e : ℕ) (rq : rows ≡ regionMembers a) (h : i < length rows) (er : row ≡ getD rows i 0) (es : s ≡ getD (m .ptr) row 0) (ee : e ≡ getD (m .ptr) (row + 1) 0) where

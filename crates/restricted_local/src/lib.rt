@@ -449,12 +449,7 @@ pub fn check(global_size: usize, members: &[u32]) -> Verdict
     Verdict::Accepted
 }
 
-fn examine_gather(
-    global_size: usize,
-    members: &[u32],
-    global: &[f64],
-    local_len: usize,
-) -> Verdict
+fn examine_gather(global_size: usize, members: &[u32], global: &[f64], local_len: usize) -> Verdict
     ensures { λ r. ⌜ told r ≡ gatherAnswer «global_size» (now (members .entry)) (now (global .entry)) «local_len» ⌝ }
 {
     let v = check(global_size, members);
@@ -491,7 +486,12 @@ fn gather(members: &[u32], global: &[f64], local: &mut [f64])
 }
 
 // The region's numbers of a vector, in `local`.
-pub fn gather_input(global_size: usize, members: &[u32], global: &[f64], local: &mut [f64]) -> Verdict
+pub fn gather_input(
+    global_size: usize,
+    members: &[u32],
+    global: &[f64],
+    local: &mut [f64],
+) -> Verdict
     ensures answer { λ r. ⌜ told r ≡ gatherAnswer «global_size» (now (members .entry)) (now (global .entry)) (length (now (local .entry))) ⌝ }
     ensures list { λ r. ⌜ now (local .exit) ≡ kept (gatherAnswer «global_size» (now (members .entry)) (now (global .entry)) (length (now (local .entry)))) (gathered (now (members .entry)) (now (global .entry))) (now (local .entry)) ⌝ }
 {

@@ -1,7 +1,5 @@
 -- `restricted_local::local_number` meets its contract. Assumes nothing.
 use borrow.Author.Needs.{needs}
-use mathlib.Core.Path.{_≡_, ap₂, _∙_}
-use Prim.Native.Nat.{ℕ, _+_}
 use native.Mathlib.Omega.{arith}
 use Rattle.restricted_local.proofs.RegionLaws.{number-small, number-told}
 use Rattle.restricted_local.proofs.local_number.Statement.{statement}

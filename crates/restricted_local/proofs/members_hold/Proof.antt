@@ -26,10 +26,10 @@ wide-requires : tie.Need-wide-requires Inv-loop μ-loop
 wide-requires c κs = search needs
 
 returns : tie.Need-returns Inv-loop μ-loop
-returns c = climbing-falls _ _ _ _ (c .before .before .before .before .loop .inv) _ (omega arith) (c .before .wide .ensures) (c .if1 .taken)
+returns c = climbing-falls _ _ _ _ (c .before .before .before .before .loop .inv) _ (omega arith) (c .before .wide .ensures) (omega arith)
 
 returns-2 : tie.Need-returns-2 Inv-loop μ-loop
-returns-2 c = climbing-past _ _ _ _ (c .before .before .before .before .before .loop .inv) _ (omega arith) (c .before .before .wide .ensures) (c .if2 .taken)
+returns-2 c = climbing-past _ _ _ _ (c .before .before .before .before .before .loop .inv) _ (omega arith) (c .before .before .wide .ensures) (omega arith)
 
 add-least : tie.Need-add-least Inv-loop μ-loop
 add-least c = search needs

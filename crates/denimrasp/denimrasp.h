@@ -3,15 +3,16 @@
  * Every call checks its own input and refuses by number, and no input stops it: what a caller owes is that each list's pointer
  * is not null, is aligned, and leads to as many places as the length after it says (for an empty list any such address will
  * do), that a list which a call writes to overlaps no other list of that call, and that the thread has stack left: 136 KiB
- * for building words, 268 KiB for building tiles, 456 KiB for packing and for the check of merged values, 4 KiB for any other
- * call.
+ * for building words, 268 KiB for building tiles, 456 KiB for packing and for the check of merged values, 72 KiB for building
+ * a local list, 4 KiB for any other call.
  *
  * number in an answer: 0 accepted, 1 over size, 2 bad frame, 3 outside column, 4 not finite, 5 bad mask, 6 lengths differ,
  * 7 no such place, 8 frames differ, 9 bad thresholds, 10 not square, 11 bad words, 12 bad store, 13 short list. Under 6
  * expected and actual are the two lengths, otherwise 0. All other fields of a refused answer are 0.
  *
- * A build (new, from_indices, indices, from_csr32, the set operations, sparse_dot_rows, expand_mask_one_hop) leaves zeros past
- * the part that it used, and zeros alone where it is refused. Any other refused call leaves what it was lent as it was.
+ * A build (new, from_indices, indices, from_csr32, from_abtm, the set operations, sparse_dot_rows, expand_mask_one_hop) leaves
+ * zeros past the part that it used, and zeros alone where it is refused. Any other refused call leaves what it was lent as it
+ * was.
  */
 #ifndef DENIMRASP_H
 #define DENIMRASP_H
@@ -143,6 +144,28 @@ typedef struct {
     size_t value_slots;
     size_t metadata_bytes;
 } DenimraspTileStats;
+
+/* A list cut to the active columns: its frame, the entries of its source and those kept. */
+typedef struct {
+    uint32_t number;
+    size_t expected;
+    size_t actual;
+    size_t nrows;
+    size_t ncols;
+    size_t source_nnz;
+    size_t retained_nnz;
+} DenimraspRestriction;
+
+/* A list cut to a region: the length of the region, its members, its entries, and the source entries of its rows. */
+typedef struct {
+    uint32_t number;
+    size_t expected;
+    size_t actual;
+    size_t global_size;
+    size_t local_nodes;
+    size_t local_nnz;
+    size_t source_row_nnz;
+} DenimraspRegion;
 
 /* 5 where the words are not those of a mask of that length. */
 DenimraspVerdict denimrasp_mask_check(size_t len, const uint64_t *words, size_t words_len);
@@ -453,6 +476,52 @@ DenimraspVerdict denimrasp_abtm_expand_mask_one_hop(size_t nrows, size_t ncols,
     const uint32_t *value_offsets, size_t value_offsets_len, const uint32_t *metas, size_t metas_len,
     const double *values, size_t values_len, size_t matrix_nnz,
     size_t mask_len, const uint64_t *mask, size_t mask_count, uint64_t *out, size_t out_len);
+
+/* The entries of a plot list in active columns, in stored order: nrows + 1 pointers, as many columns and values as the
+ * answer's retained_nnz. Columns keep their numbers. 13 exactly where they do not fit. */
+DenimraspRestriction denimrasp_restricted_from_csr32(size_t nrows, size_t ncols,
+    const uint32_t *row_ptr, size_t row_ptr_len, const uint32_t *col_idx, size_t col_idx_len,
+    const double *values, size_t values_len, size_t mask_len, const uint64_t *mask, size_t mask_count,
+    uint32_t *out_row_ptr, size_t out_row_ptr_len, uint32_t *out_col_idx, size_t out_col_idx_len,
+    double *out_values, size_t out_values_len);
+
+/* The entries of tiles in active columns, ascending: the same lists; source_nnz is matrix_nnz. 4 where an active value is
+ * infinite, 1 where more than 2^24 entries are active, 13 exactly where they do not fit. */
+DenimraspRestriction denimrasp_restricted_from_abtm(size_t nrows, size_t ncols,
+    const uint32_t *row_tile_ptr, size_t row_tile_ptr_len, const uint64_t *masks, size_t masks_len,
+    const uint32_t *value_offsets, size_t value_offsets_len, const uint32_t *metas, size_t metas_len,
+    const double *values, size_t values_len, size_t matrix_nnz,
+    size_t mask_len, const uint64_t *mask, size_t mask_count,
+    uint32_t *out_row_ptr, size_t out_row_ptr_len, uint32_t *out_col_idx, size_t out_col_idx_len,
+    double *out_values, size_t out_values_len);
+
+/* Entries kept among those of the source; 0.0 where it has none. */
+double denimrasp_restricted_retained_fraction(size_t retained_nnz, size_t source_nnz);
+
+/* The bytes of a restricted list and of its mask, at most SIZE_MAX. */
+size_t denimrasp_restricted_storage_bytes(size_t nrows, size_t ncols, size_t retained_nnz);
+
+/* A region's rows and columns of a square plot list, in stored order, numbered anew: as many members as the answer's
+ * local_nodes, ascending (member i is local row and column i), one pointer more, as many columns and values as its
+ * local_nnz. 13 exactly where they do not fit. */
+DenimraspRegion denimrasp_local_from_csr32(size_t nrows, size_t ncols,
+    const uint32_t *row_ptr, size_t row_ptr_len, const uint32_t *col_idx, size_t col_idx_len,
+    const double *values, size_t values_len, size_t region_len, const uint64_t *region, size_t region_count,
+    uint32_t *members, size_t members_len, uint32_t *out_row_ptr, size_t out_row_ptr_len,
+    uint32_t *out_col_idx, size_t out_col_idx_len, double *out_values, size_t out_values_len);
+
+/* 12 where the members do not rise or are not below the global size. */
+DenimraspVerdict denimrasp_local_check(size_t global_size, const uint32_t *members, size_t members_len);
+
+/* A region's numbers of a vector, in local; a refused call leaves local as it was. */
+DenimraspVerdict denimrasp_local_gather_input(size_t global_size, const uint32_t *members, size_t members_len,
+    const double *global, size_t global_len, double *local, size_t local_len);
+
+/* 1.0 less the entries kept among the source entries of the region's rows; 0.0 where they have none. */
+double denimrasp_local_boundary_pruning_ratio(size_t local_nnz, size_t source_row_nnz);
+
+/* The bytes of a local list and of its members, at most SIZE_MAX. */
+size_t denimrasp_local_storage_bytes(size_t local_nodes, size_t local_nnz);
 
 #ifdef __cplusplus
 }

@@ -11,6 +11,9 @@ use crate::{Csr32Matrix, DofMask, HybitError};
 /// How many columns a tile stands for.
 pub const TILE_WIDTH: usize = 64;
 
+/// The bits of a tile's `meta` that hold the number of its word.
+const WORD_BITS: u32 = (1 << 30) - 1;
+
 /// How the values of a tile are stored.
 #[repr(u8)]
 #[derive(Clone, Copy, Debug, PartialEq, Eq)]
@@ -228,7 +231,18 @@ impl AbtmMatrix {
         })
     }
 
-    fn view(&self) -> Tiles<'_> {
+    /// How many values stand in the mask's columns: the places that a restriction needs. Any number where a tile is past the
+    /// mask's end, since the restriction is then refused.
+    pub(crate) fn values_in(&self, mask: &DofMask) -> usize {
+        let kept = |(&tile, &meta): (&u64, &u32)| {
+            let word = (meta & WORD_BITS) as usize;
+            let active = mask.words().get(word).copied().unwrap_or(0);
+            (tile & active).count_ones() as usize
+        };
+        self.masks.iter().zip(&self.metas).map(kept).sum()
+    }
+
+    pub(crate) fn view(&self) -> Tiles<'_> {
         Tiles {
             nrows: self.nrows,
             ncols: self.ncols,

@@ -72,6 +72,13 @@ pub struct TileRoom<'a> {
     pub values: &'a mut [f64],
 }
 
+/// The lists that a restricted or local list fills.
+pub struct CsrRoom<'a> {
+    pub row_ptr: &'a mut [u32],
+    pub col_idx: &'a mut [u32],
+    pub values: &'a mut [f64],
+}
+
 /// How much of a `Room` was used.
 pub struct Used {
     pub words: usize,
@@ -656,4 +663,111 @@ pub fn abtm_metadata_bytes_per_nnz(metadata_bytes: usize, matrix_nnz: usize) -> 
 pub fn abtm_total_estimated_bytes(metadata_bytes: usize, value_slots: usize) -> usize {
     // SAFETY: numbers alone.
     unsafe { sys::denimrasp_abtm_total_estimated_bytes(metadata_bytes, value_slots) }
+}
+
+pub fn restricted_from_csr32(
+    m: Csr<'_>,
+    active: Mask<'_>,
+    room: CsrRoom<'_>,
+) -> Answer<sys::Restriction> {
+    let answer = with_csr!(
+        denimrasp_restricted_from_csr32,
+        m,
+        active.len,
+        active.words.as_ptr(),
+        active.words.len(),
+        room.row_ptr.as_mut_ptr(),
+        room.row_ptr.len(),
+        room.col_idx.as_mut_ptr(),
+        room.col_idx.len(),
+        room.values.as_mut_ptr(),
+        room.values.len()
+    );
+    settle!(answer, |used| used)
+}
+
+pub fn restricted_from_abtm(
+    t: Tiles<'_>,
+    active: Mask<'_>,
+    room: CsrRoom<'_>,
+) -> Answer<sys::Restriction> {
+    let answer = with_tiles!(
+        denimrasp_restricted_from_abtm,
+        t,
+        active.len,
+        active.words.as_ptr(),
+        active.words.len(),
+        room.row_ptr.as_mut_ptr(),
+        room.row_ptr.len(),
+        room.col_idx.as_mut_ptr(),
+        room.col_idx.len(),
+        room.values.as_mut_ptr(),
+        room.values.len()
+    );
+    settle!(answer, |used| used)
+}
+
+pub fn restricted_retained_fraction(retained_nnz: usize, source_nnz: usize) -> f64 {
+    // SAFETY: numbers alone.
+    unsafe { sys::denimrasp_restricted_retained_fraction(retained_nnz, source_nnz) }
+}
+
+pub fn restricted_storage_bytes(nrows: usize, ncols: usize, retained_nnz: usize) -> usize {
+    // SAFETY: numbers alone.
+    unsafe { sys::denimrasp_restricted_storage_bytes(nrows, ncols, retained_nnz) }
+}
+
+pub fn local_from_csr32(
+    m: Csr<'_>,
+    region: Mask<'_>,
+    members: &mut [u32],
+    room: CsrRoom<'_>,
+) -> Answer<sys::Region> {
+    let answer = with_csr!(
+        denimrasp_local_from_csr32,
+        m,
+        region.len,
+        region.words.as_ptr(),
+        region.words.len(),
+        members.as_mut_ptr(),
+        members.len(),
+        room.row_ptr.as_mut_ptr(),
+        room.row_ptr.len(),
+        room.col_idx.as_mut_ptr(),
+        room.col_idx.len(),
+        room.values.as_mut_ptr(),
+        room.values.len()
+    );
+    settle!(answer, |used| used)
+}
+
+pub fn local_gather_input(
+    global_size: usize,
+    members: &[u32],
+    global: &[f64],
+    local: &mut [f64],
+) -> Answer<()> {
+    // SAFETY: every pointer and length is a slice's, and `local` is borrowed alone.
+    let answer = unsafe {
+        sys::denimrasp_local_gather_input(
+            global_size,
+            members.as_ptr(),
+            members.len(),
+            global.as_ptr(),
+            global.len(),
+            local.as_mut_ptr(),
+            local.len(),
+        )
+    };
+    settle!(answer, unit)
+}
+
+pub fn local_boundary_pruning_ratio(local_nnz: usize, source_row_nnz: usize) -> f64 {
+    // SAFETY: numbers alone.
+    unsafe { sys::denimrasp_local_boundary_pruning_ratio(local_nnz, source_row_nnz) }
+}
+
+pub fn local_storage_bytes(local_nodes: usize, local_nnz: usize) -> usize {
+    // SAFETY: numbers alone.
+    unsafe { sys::denimrasp_local_storage_bytes(local_nodes, local_nnz) }
 }

@@ -94,6 +94,30 @@ impl Csr32Matrix {
         Ok(y)
     }
 
+    /// Lends lists for so many entries to a build, which answers how many it used and a result of its own.
+    pub(crate) fn built<T>(
+        (nrows, ncols): (usize, usize),
+        entries: usize,
+        build: impl FnOnce(calls::CsrRoom<'_>) -> Result<(usize, T), Refusal>,
+    ) -> Result<(Self, T), Refusal> {
+        let mut matrix = Self {
+            nrows,
+            ncols,
+            row_ptr: vec![0; nrows + 1],
+            col_idx: vec![0; entries],
+            values: vec![0.0; entries],
+        };
+        let room = calls::CsrRoom {
+            row_ptr: &mut matrix.row_ptr,
+            col_idx: &mut matrix.col_idx,
+            values: &mut matrix.values,
+        };
+        let (used, result) = build(room)?;
+        matrix.col_idx.truncate(used);
+        matrix.values.truncate(used);
+        Ok((matrix, result))
+    }
+
     pub(crate) fn view(&self) -> calls::Csr<'_> {
         calls::Csr {
             nrows: self.nrows,

@@ -69,9 +69,10 @@ pub(crate) const FRAMES: &str = "ABTM topology dimensions differ";
 pub(crate) const THRESHOLDS: &str = "invalid ABTM density thresholds";
 pub(crate) const TILE_ROW: &str = "ABTM row index out of range";
 pub(crate) const NOT_SQUARE: &str = "mask expansion requires a square ABTM matrix";
+pub(crate) const LOCAL_NOT_SQUARE: &str = "local R A R preparation requires a square matrix";
 
 /// Each text with its number. The second part has document 01's words, for refusals that the types of this crate exclude.
-const TEXTS: [(u32, &str); 25] = [
+const TEXTS: [(u32, &str); 26] = [
     (2, POINTER_COUNT),
     (2, LISTS_UNEQUAL),
     (2, POINTER_START),
@@ -89,6 +90,7 @@ const TEXTS: [(u32, &str); 25] = [
     (8, FRAMES),
     (9, THRESHOLDS),
     (10, NOT_SQUARE),
+    (10, LOCAL_NOT_SQUARE),
     (2, "bad frame"),
     (3, "outside column"),
     (4, "not finite"),

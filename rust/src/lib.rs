@@ -13,8 +13,8 @@
 //! them. A value of a type here has been checked or built by the library, and its fields are private, so the library does not
 //! refuse it later; if it did, the method would panic rather than return the zeros of a refusal.
 //!
-//! Building words takes up to 136 KiB of stack, building tiles up to 268 KiB, packing up to 456 KiB: a thread that does it needs
-//! a stack of that size.
+//! Building words takes up to 136 KiB of stack, building tiles up to 268 KiB, packing up to 456 KiB, building a region's
+//! matrix up to 72 KiB: a thread that does it needs a stack of that size.
 //!
 //! What differs from hybit-matrix:
 //! - Sizes above document 01's domain are [`HybitError::SizeOverflow`]: rows, columns and mask lengths above 1,048,576, stored
@@ -29,8 +29,8 @@
 //!   [`DofMask::and_not_assign`] and [`DofMask::or_word`] are private there.
 //!
 //! Left out: `diagonal`, solvers and the error variants that only these give, as in document 01; the parallel forms of `apply`;
-//! the trait `LinearOperator` (`apply` is a method of [`Csr32Matrix`] and [`AbtmMatrix`], `rows` and `cols` of the latter).
-//! Restricted lists and blocks are not here yet.
+//! the trait `LinearOperator` (`apply` is a method of the types that have it, `rows` and `cols` too, but for [`Csr32Matrix`]).
+//! Blocks are not here yet.
 #![warn(missing_docs)]
 
 mod abtm;
@@ -39,6 +39,7 @@ mod csr32;
 mod error;
 mod mask;
 mod metadata_first;
+mod restricted;
 pub mod sys;
 mod topology;
 
@@ -49,6 +50,7 @@ pub use mask::DofMask;
 pub use metadata_first::{
     AbtmMetadataFirstMatrix, AbtmMetadataFirstStats, AbtmProductPruningStats,
 };
+pub use restricted::{PreparedColumnRestrictedCsrOperator, PreparedLocalCsrOperator};
 pub use topology::{
     ABTM_TOPOLOGY_WORD_BITS, AbtmTopology, AbtmTopologyRow, AbtmTopologyStats, AbtmTopologyWord,
 };

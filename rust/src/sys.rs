@@ -144,6 +144,30 @@ pub struct TileStats {
     pub metadata_bytes: usize,
 }
 
+#[repr(C)]
+#[derive(Clone, Copy, Debug, PartialEq)]
+pub struct Restriction {
+    pub number: u32,
+    pub expected: usize,
+    pub actual: usize,
+    pub nrows: usize,
+    pub ncols: usize,
+    pub source_nnz: usize,
+    pub retained_nnz: usize,
+}
+
+#[repr(C)]
+#[derive(Clone, Copy, Debug, PartialEq)]
+pub struct Region {
+    pub number: u32,
+    pub expected: usize,
+    pub actual: usize,
+    pub global_size: usize,
+    pub local_nodes: usize,
+    pub local_nnz: usize,
+    pub source_row_nnz: usize,
+}
+
 unsafe extern "C" {
     pub fn denimrasp_mask_check(len: usize, words: *const u64, words_len: usize) -> Verdict;
     pub fn denimrasp_mask_contains(
@@ -747,4 +771,90 @@ unsafe extern "C" {
         out: *mut u64,
         out_len: usize,
     ) -> Verdict;
+    pub fn denimrasp_restricted_from_csr32(
+        nrows: usize,
+        ncols: usize,
+        row_ptr: *const u32,
+        row_ptr_len: usize,
+        col_idx: *const u32,
+        col_idx_len: usize,
+        values: *const f64,
+        values_len: usize,
+        mask_len: usize,
+        mask: *const u64,
+        mask_count: usize,
+        out_row_ptr: *mut u32,
+        out_row_ptr_len: usize,
+        out_col_idx: *mut u32,
+        out_col_idx_len: usize,
+        out_values: *mut f64,
+        out_values_len: usize,
+    ) -> Restriction;
+    pub fn denimrasp_restricted_from_abtm(
+        nrows: usize,
+        ncols: usize,
+        row_tile_ptr: *const u32,
+        row_tile_ptr_len: usize,
+        masks: *const u64,
+        masks_len: usize,
+        value_offsets: *const u32,
+        value_offsets_len: usize,
+        metas: *const u32,
+        metas_len: usize,
+        values: *const f64,
+        values_len: usize,
+        matrix_nnz: usize,
+        mask_len: usize,
+        mask: *const u64,
+        mask_count: usize,
+        out_row_ptr: *mut u32,
+        out_row_ptr_len: usize,
+        out_col_idx: *mut u32,
+        out_col_idx_len: usize,
+        out_values: *mut f64,
+        out_values_len: usize,
+    ) -> Restriction;
+    pub fn denimrasp_restricted_retained_fraction(retained_nnz: usize, source_nnz: usize) -> f64;
+    pub fn denimrasp_restricted_storage_bytes(
+        nrows: usize,
+        ncols: usize,
+        retained_nnz: usize,
+    ) -> usize;
+    pub fn denimrasp_local_from_csr32(
+        nrows: usize,
+        ncols: usize,
+        row_ptr: *const u32,
+        row_ptr_len: usize,
+        col_idx: *const u32,
+        col_idx_len: usize,
+        values: *const f64,
+        values_len: usize,
+        region_len: usize,
+        region: *const u64,
+        region_count: usize,
+        members: *mut u32,
+        members_len: usize,
+        out_row_ptr: *mut u32,
+        out_row_ptr_len: usize,
+        out_col_idx: *mut u32,
+        out_col_idx_len: usize,
+        out_values: *mut f64,
+        out_values_len: usize,
+    ) -> Region;
+    pub fn denimrasp_local_check(
+        global_size: usize,
+        members: *const u32,
+        members_len: usize,
+    ) -> Verdict;
+    pub fn denimrasp_local_gather_input(
+        global_size: usize,
+        members: *const u32,
+        members_len: usize,
+        global: *const f64,
+        global_len: usize,
+        local: *mut f64,
+        local_len: usize,
+    ) -> Verdict;
+    pub fn denimrasp_local_boundary_pruning_ratio(local_nnz: usize, source_row_nnz: usize) -> f64;
+    pub fn denimrasp_local_storage_bytes(local_nodes: usize, local_nnz: usize) -> usize;
 }

@@ -1,5 +1,6 @@
-// The C interface: every public call of mask, csr32, topology, metadata_first and abtm under a name of its own, for programs in C
-// and Rust to link (denimrasp.h). A list crosses as a pointer and a length, an answer as one struct of denimrasp_answers.
+// The C interface: every public call of mask, csr32, topology, metadata_first, abtm and restricted under a name of its own, for
+// programs in C and Rust to link (denimrasp.h). A list crosses as a pointer and a length, an answer as one struct of
+// denimrasp_answers.
 ghost use mathlib.Core.Path.{_≡_};
 ghost use mathlib.Core.Bool.{false, not, _&&_, _||_};
 ghost use Prim.Native.Nat.{min, _+_, _-_, _*_, _^_};
@@ -15,6 +16,7 @@ ghost use Rattle.word.specs.Word.{rankAnswer as wordRankAnswer};
 ghost use Rattle.mask.specs.Mask.{asMask, active, maskWords, maskAnswer};
 ghost use Rattle.mask.specs.Calls.{newAnswer, fromIndicesAnswer, listed, setAnswer, changed, indicesAnswer, joinedWord, pairAnswer as maskPairAnswer};
 ghost use Rattle.csr32.specs.Csr.{asCsr, csrAnswer, applyAnswer, product, csrMetadataBytes, csrStorageBytes};
+ghost use Rattle.csr32.specs.Made.{asCsrRoom};
 ghost use Rattle.topology.specs.Words.{asWords, member, wordAnswer};
 ghost use Rattle.topology.specs.Calls.{asRoom, usedOf, rowAnswer, rankAnswer, select, statsOf};
 ghost use Rattle.topology_build.specs.Build.{topologyFrom, buildAnswer};
@@ -30,7 +32,9 @@ ghost use Rattle.abtm_build.specs.Build.{tilesFrom, asTileRoom, tileAnswer, use
 ghost use Rattle.abtm_rows.specs.Rows.{tileRowAnswer, tileStats};
 ghost use Rattle.abtm_apply.specs.Product.{tilesProduct, applyTilesAnswer};
 ghost use Rattle.abtm_expand.specs.Expand.{expanded, expandAnswer};
-ghost use Rattle.denimrasp_answers.specs.Answers.{verdictOf, countOf, boolOf, selectOf, partOf, topologyAnswerOf, topologyStatsOf, storeStatsOf, dotAnswerOf, totalsOf, placesOf, countsFrom, tilesAnswerOf, tileStatsOf, thresholdsFrom};
+ghost use Rattle.restricted.specs.Restricted.{restricted, restrictAnswer, restrictionOf, restrictedTiles, restrictTilesAnswer, tileRestrictionOf, retainedFraction, restrictionBytes};
+ghost use Rattle.restricted.specs.Local.{regionMembers, localList, localAnswer, regionOf, membersAnswer, gatherAnswer, gathered, boundaryRatio, regionBytes};
+ghost use Rattle.denimrasp_answers.specs.Answers.{verdictOf, countOf, boolOf, selectOf, partOf, topologyAnswerOf, topologyStatsOf, storeStatsOf, dotAnswerOf, totalsOf, placesOf, countsFrom, tilesAnswerOf, tileStatsOf, thresholdsFrom, restrictionAnswerOf, regionAnswerOf, restrictionFrom, regionFrom};
 use abtm::AbtmConfig;
 use abtm::TileDesc;
 use abtm_rows::AbtmStats;
@@ -38,6 +42,8 @@ use denimrasp_answers::DenimraspBool;
 use denimrasp_answers::DenimraspCount;
 use denimrasp_answers::DenimraspDot;
 use denimrasp_answers::DenimraspPart;
+use denimrasp_answers::DenimraspRegion;
+use denimrasp_answers::DenimraspRestriction;
 use denimrasp_answers::DenimraspSelect;
 use denimrasp_answers::DenimraspStoreStats;
 use denimrasp_answers::DenimraspTileStats;
@@ -50,6 +56,8 @@ use hybit_core::HybitError;
 use hybit_core::Verdict;
 use metadata_first::AbtmMetadataFirstStats;
 use metadata_first::AbtmProductPruningStats;
+use restricted::ColumnRestriction;
+use restricted::LocalRegion;
 use topology::AbtmTopologyStats;
 use topology::AbtmTopologyWord;
 use word::Operation;
@@ -1355,4 +1363,204 @@ pub extern "C" fn denimrasp_abtm_expand_mask_one_hop(
         out,
     );
     denimrasp_answers::verdict(answer)
+}
+
+// The entries of a plot list in active columns, in stored order; 13 exactly where they do not fit.
+#[no_mangle]
+pub extern "C" fn denimrasp_restricted_from_csr32(
+    nrows: usize,
+    ncols: usize,
+    row_ptr: &[u32],
+    col_idx: &[u32],
+    values: &[f64],
+    mask_len: usize,
+    mask: &[u64],
+    out_row_ptr: &mut [u32],
+    out_col_idx: &mut [u32],
+    out_values: &mut [f64],
+) -> DenimraspRestriction
+    ensures answer { λ r. ⌜ r ≡ restrictionAnswerOf (answers (restrictAnswer (asCsr nrows ncols (now («row_ptr» .entry)) (now («col_idx» .entry)) (now (values .entry))) (asMask «mask_len» (now (mask .entry))) (asCsrRoom (length (now («out_row_ptr» .entry))) (length (now («out_col_idx» .entry))) (length (now («out_values» .entry))))) (restrictionOf (asCsr nrows ncols (now («row_ptr» .entry)) (now («col_idx» .entry)) (now (values .entry))) (asMask «mask_len» (now (mask .entry))))) ⌝ }
+    ensures pointers { λ _. ⌜ now («out_row_ptr» .exit) ≡ built 0 (length (now («out_row_ptr» .entry))) (restrictAnswer (asCsr nrows ncols (now («row_ptr» .entry)) (now («col_idx» .entry)) (now (values .entry))) (asMask «mask_len» (now (mask .entry))) (asCsrRoom (length (now («out_row_ptr» .entry))) (length (now («out_col_idx» .entry))) (length (now («out_values» .entry))))) (restricted (asCsr nrows ncols (now («row_ptr» .entry)) (now («col_idx» .entry)) (now (values .entry))) (asMask «mask_len» (now (mask .entry))) .ptr) ⌝ }
+    ensures columns { λ _. ⌜ now («out_col_idx» .exit) ≡ built 0 (length (now («out_col_idx» .entry))) (restrictAnswer (asCsr nrows ncols (now («row_ptr» .entry)) (now («col_idx» .entry)) (now (values .entry))) (asMask «mask_len» (now (mask .entry))) (asCsrRoom (length (now («out_row_ptr» .entry))) (length (now («out_col_idx» .entry))) (length (now («out_values» .entry))))) (restricted (asCsr nrows ncols (now («row_ptr» .entry)) (now («col_idx» .entry)) (now (values .entry))) (asMask «mask_len» (now (mask .entry))) .col) ⌝ }
+    ensures values { λ _. ⌜ now («out_values» .exit) ≡ built zero64 (length (now («out_values» .entry))) (restrictAnswer (asCsr nrows ncols (now («row_ptr» .entry)) (now («col_idx» .entry)) (now (values .entry))) (asMask «mask_len» (now (mask .entry))) (asCsrRoom (length (now («out_row_ptr» .entry))) (length (now («out_col_idx» .entry))) (length (now («out_values» .entry))))) (restricted (asCsr nrows ncols (now («row_ptr» .entry)) (now («col_idx» .entry)) (now (values .entry))) (asMask «mask_len» (now (mask .entry))) .val) ⌝ }
+{
+    let answer = restricted_csr32::from_csr32(
+        nrows,
+        ncols,
+        row_ptr,
+        col_idx,
+        values,
+        mask_len,
+        mask,
+        out_row_ptr,
+        out_col_idx,
+        out_values,
+    );
+    denimrasp_answers::restriction(answer)
+}
+
+// The entries of tiles in active columns, ascending; 4 where one is infinite, 13 exactly where they do not fit.
+#[no_mangle]
+pub extern "C" fn denimrasp_restricted_from_abtm(
+    nrows: usize,
+    ncols: usize,
+    row_tile_ptr: &[u32],
+    masks: &[u64],
+    value_offsets: &[u32],
+    metas: &[u32],
+    values: &[f64],
+    matrix_nnz: usize,
+    mask_len: usize,
+    mask: &[u64],
+    out_row_ptr: &mut [u32],
+    out_col_idx: &mut [u32],
+    out_values: &mut [f64],
+) -> DenimraspRestriction
+    ensures answer { λ r. ⌜ r ≡ restrictionAnswerOf (answers (restrictTilesAnswer (asTiles nrows ncols (now («row_tile_ptr» .entry)) (now (masks .entry)) (now («value_offsets» .entry)) (now (metas .entry)) (now (values .entry)) «matrix_nnz») (asMask «mask_len» (now (mask .entry))) (asCsrRoom (length (now («out_row_ptr» .entry))) (length (now («out_col_idx» .entry))) (length (now («out_values» .entry))))) (tileRestrictionOf (asTiles nrows ncols (now («row_tile_ptr» .entry)) (now (masks .entry)) (now («value_offsets» .entry)) (now (metas .entry)) (now (values .entry)) «matrix_nnz») (asMask «mask_len» (now (mask .entry))))) ⌝ }
+    ensures pointers { λ _. ⌜ now («out_row_ptr» .exit) ≡ built 0 (length (now («out_row_ptr» .entry))) (restrictTilesAnswer (asTiles nrows ncols (now («row_tile_ptr» .entry)) (now (masks .entry)) (now («value_offsets» .entry)) (now (metas .entry)) (now (values .entry)) «matrix_nnz») (asMask «mask_len» (now (mask .entry))) (asCsrRoom (length (now («out_row_ptr» .entry))) (length (now («out_col_idx» .entry))) (length (now («out_values» .entry))))) (restrictedTiles (asTiles nrows ncols (now («row_tile_ptr» .entry)) (now (masks .entry)) (now («value_offsets» .entry)) (now (metas .entry)) (now (values .entry)) «matrix_nnz») (asMask «mask_len» (now (mask .entry))) .ptr) ⌝ }
+    ensures columns { λ _. ⌜ now («out_col_idx» .exit) ≡ built 0 (length (now («out_col_idx» .entry))) (restrictTilesAnswer (asTiles nrows ncols (now («row_tile_ptr» .entry)) (now (masks .entry)) (now («value_offsets» .entry)) (now (metas .entry)) (now (values .entry)) «matrix_nnz») (asMask «mask_len» (now (mask .entry))) (asCsrRoom (length (now («out_row_ptr» .entry))) (length (now («out_col_idx» .entry))) (length (now («out_values» .entry))))) (restrictedTiles (asTiles nrows ncols (now («row_tile_ptr» .entry)) (now (masks .entry)) (now («value_offsets» .entry)) (now (metas .entry)) (now (values .entry)) «matrix_nnz») (asMask «mask_len» (now (mask .entry))) .col) ⌝ }
+    ensures values { λ _. ⌜ now («out_values» .exit) ≡ built zero64 (length (now («out_values» .entry))) (restrictTilesAnswer (asTiles nrows ncols (now («row_tile_ptr» .entry)) (now (masks .entry)) (now («value_offsets» .entry)) (now (metas .entry)) (now (values .entry)) «matrix_nnz») (asMask «mask_len» (now (mask .entry))) (asCsrRoom (length (now («out_row_ptr» .entry))) (length (now («out_col_idx» .entry))) (length (now («out_values» .entry))))) (restrictedTiles (asTiles nrows ncols (now («row_tile_ptr» .entry)) (now (masks .entry)) (now («value_offsets» .entry)) (now (metas .entry)) (now (values .entry)) «matrix_nnz») (asMask «mask_len» (now (mask .entry))) .val) ⌝ }
+{
+    let answer = restricted_abtm::from_abtm(
+        nrows,
+        ncols,
+        row_tile_ptr,
+        masks,
+        value_offsets,
+        metas,
+        values,
+        matrix_nnz,
+        mask_len,
+        mask,
+        out_row_ptr,
+        out_col_idx,
+        out_values,
+    );
+    denimrasp_answers::restriction(answer)
+}
+
+// Entries kept among those of the source; 0.0 where it has none.
+#[no_mangle]
+pub extern "C" fn denimrasp_restricted_retained_fraction(
+    retained_nnz: usize,
+    source_nnz: usize,
+) -> f64
+    ensures { λ r. ⌜ r ≡ retainedFraction (restrictionFrom 0 0 «source_nnz» «retained_nnz») ⌝ }
+{
+    let s = ColumnRestriction {
+        nrows: 0,
+        ncols: 0,
+        source_nnz,
+        retained_nnz,
+    };
+    s.retained_fraction()
+}
+
+// The bytes of a restricted list and of its mask, at most 2^64 − 1.
+#[no_mangle]
+pub extern "C" fn denimrasp_restricted_storage_bytes(
+    nrows: usize,
+    ncols: usize,
+    retained_nnz: usize,
+) -> usize
+    ensures { λ r. ⌜ r ≡ restrictionBytes (restrictionFrom nrows ncols 0 «retained_nnz») ⌝ }
+{
+    let s = ColumnRestriction {
+        nrows,
+        ncols,
+        source_nnz: 0,
+        retained_nnz,
+    };
+    s.storage_bytes()
+}
+
+// A region's rows and columns of a plot list, numbered anew; 13 exactly where they do not fit.
+#[no_mangle]
+pub extern "C" fn denimrasp_local_from_csr32(
+    nrows: usize,
+    ncols: usize,
+    row_ptr: &[u32],
+    col_idx: &[u32],
+    values: &[f64],
+    region_len: usize,
+    region: &[u64],
+    members: &mut [u32],
+    out_row_ptr: &mut [u32],
+    out_col_idx: &mut [u32],
+    out_values: &mut [f64],
+) -> DenimraspRegion
+    ensures answer { λ r. ⌜ r ≡ regionAnswerOf (answers (localAnswer (asCsr nrows ncols (now («row_ptr» .entry)) (now («col_idx» .entry)) (now (values .entry))) (asMask «region_len» (now (region .entry))) (length (now (members .entry))) (asCsrRoom (length (now («out_row_ptr» .entry))) (length (now («out_col_idx» .entry))) (length (now («out_values» .entry))))) (regionOf (asCsr nrows ncols (now («row_ptr» .entry)) (now («col_idx» .entry)) (now (values .entry))) (asMask «region_len» (now (region .entry))))) ⌝ }
+    ensures members { λ _. ⌜ now (members .exit) ≡ built 0 (length (now (members .entry))) (localAnswer (asCsr nrows ncols (now («row_ptr» .entry)) (now («col_idx» .entry)) (now (values .entry))) (asMask «region_len» (now (region .entry))) (length (now (members .entry))) (asCsrRoom (length (now («out_row_ptr» .entry))) (length (now («out_col_idx» .entry))) (length (now («out_values» .entry))))) (regionMembers (asMask «region_len» (now (region .entry)))) ⌝ }
+    ensures pointers { λ _. ⌜ now («out_row_ptr» .exit) ≡ built 0 (length (now («out_row_ptr» .entry))) (localAnswer (asCsr nrows ncols (now («row_ptr» .entry)) (now («col_idx» .entry)) (now (values .entry))) (asMask «region_len» (now (region .entry))) (length (now (members .entry))) (asCsrRoom (length (now («out_row_ptr» .entry))) (length (now («out_col_idx» .entry))) (length (now («out_values» .entry))))) (localList (asCsr nrows ncols (now («row_ptr» .entry)) (now («col_idx» .entry)) (now (values .entry))) (asMask «region_len» (now (region .entry))) .ptr) ⌝ }
+    ensures columns { λ _. ⌜ now («out_col_idx» .exit) ≡ built 0 (length (now («out_col_idx» .entry))) (localAnswer (asCsr nrows ncols (now («row_ptr» .entry)) (now («col_idx» .entry)) (now (values .entry))) (asMask «region_len» (now (region .entry))) (length (now (members .entry))) (asCsrRoom (length (now («out_row_ptr» .entry))) (length (now («out_col_idx» .entry))) (length (now («out_values» .entry))))) (localList (asCsr nrows ncols (now («row_ptr» .entry)) (now («col_idx» .entry)) (now (values .entry))) (asMask «region_len» (now (region .entry))) .col) ⌝ }
+    ensures values { λ _. ⌜ now («out_values» .exit) ≡ built zero64 (length (now («out_values» .entry))) (localAnswer (asCsr nrows ncols (now («row_ptr» .entry)) (now («col_idx» .entry)) (now (values .entry))) (asMask «region_len» (now (region .entry))) (length (now (members .entry))) (asCsrRoom (length (now («out_row_ptr» .entry))) (length (now («out_col_idx» .entry))) (length (now («out_values» .entry))))) (localList (asCsr nrows ncols (now («row_ptr» .entry)) (now («col_idx» .entry)) (now (values .entry))) (asMask «region_len» (now (region .entry))) .val) ⌝ }
+{
+    let answer = restricted_local::from_csr32(
+        nrows,
+        ncols,
+        row_ptr,
+        col_idx,
+        values,
+        region_len,
+        region,
+        members,
+        out_row_ptr,
+        out_col_idx,
+        out_values,
+    );
+    denimrasp_answers::region(answer)
+}
+
+// 12 where the members do not rise or are not below the global size.
+#[no_mangle]
+pub extern "C" fn denimrasp_local_check(global_size: usize, members: &[u32]) -> DenimraspVerdict
+    ensures { λ r. ⌜ r ≡ verdictOf (membersAnswer «global_size» (now (members .entry))) ⌝ }
+{
+    denimrasp_answers::verdict(restricted_local::check(global_size, members))
+}
+
+// A region's numbers of a vector, in local; a refused call leaves local as it was.
+#[no_mangle]
+pub extern "C" fn denimrasp_local_gather_input(
+    global_size: usize,
+    members: &[u32],
+    global: &[f64],
+    local: &mut [f64],
+) -> DenimraspVerdict
+    ensures answer { λ r. ⌜ r ≡ verdictOf (gatherAnswer «global_size» (now (members .entry)) (now (global .entry)) (length (now (local .entry)))) ⌝ }
+    ensures list { λ _. ⌜ now (local .exit) ≡ kept (gatherAnswer «global_size» (now (members .entry)) (now (global .entry)) (length (now (local .entry)))) (gathered (now (members .entry)) (now (global .entry))) (now (local .entry)) ⌝ }
+{
+    let answer = restricted_local::gather_input(global_size, members, global, local);
+    denimrasp_answers::verdict(answer)
+}
+
+// 1.0 less the entries kept among the source entries of the region's rows; 0.0 where they have none.
+#[no_mangle]
+pub extern "C" fn denimrasp_local_boundary_pruning_ratio(
+    local_nnz: usize,
+    source_row_nnz: usize,
+) -> f64
+    ensures { λ r. ⌜ r ≡ boundaryRatio (regionFrom 0 0 «local_nnz» «source_row_nnz») ⌝ }
+{
+    let s = LocalRegion {
+        global_size: 0,
+        local_nodes: 0,
+        local_nnz,
+        source_row_nnz,
+    };
+    s.boundary_pruning_ratio()
+}
+
+// The bytes of a local list and of its members, at most 2^64 − 1.
+#[no_mangle]
+pub extern "C" fn denimrasp_local_storage_bytes(local_nodes: usize, local_nnz: usize) -> usize
+    ensures { λ r. ⌜ r ≡ regionBytes (regionFrom 0 «local_nodes» «local_nnz» 0) ⌝ }
+{
+    let s = LocalRegion {
+        global_size: 0,
+        local_nodes,
+        local_nnz,
+        source_row_nnz: 0,
+    };
+    s.storage_bytes()
 }

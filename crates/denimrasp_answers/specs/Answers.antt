@@ -13,6 +13,8 @@ use Rattle.metadata_first.specs.declared.AbtmRowDot.{AbtmRowDot}
 use Rattle.metadata_first.specs.declared.AbtmProductPruningStats.{AbtmProductPruningStats}
 use Rattle.abtm.specs.declared.AbtmConfig.{AbtmConfig}
 use Rattle.abtm_rows.specs.declared.AbtmStats.{AbtmStats}
+use Rattle.restricted.specs.declared.ColumnRestriction.{ColumnRestriction}
+use Rattle.restricted.specs.declared.LocalRegion.{LocalRegion}
 use Rattle.denimrasp_answers.specs.declared.DenimraspVerdict.{DenimraspVerdict}
 use Rattle.denimrasp_answers.specs.declared.DenimraspCount.{DenimraspCount}
 use Rattle.denimrasp_answers.specs.declared.DenimraspBool.{DenimraspBool}
@@ -25,6 +27,8 @@ use Rattle.denimrasp_answers.specs.declared.DenimraspDot.{DenimraspDot}
 use Rattle.denimrasp_answers.specs.declared.DenimraspTotals.{DenimraspTotals}
 use Rattle.denimrasp_answers.specs.declared.DenimraspTiles.{DenimraspTiles}
 use Rattle.denimrasp_answers.specs.declared.DenimraspTileStats.{DenimraspTileStats}
+use Rattle.denimrasp_answers.specs.declared.DenimraspRestriction.{DenimraspRestriction}
+use Rattle.denimrasp_answers.specs.declared.DenimraspRegion.{DenimraspRegion}
 
 abbrev pub verdictOf : Answer → DenimraspVerdict
 verdictOf accepted = record { number = 0; expected = 0; actual = 0 }
@@ -204,3 +208,50 @@ tileStatsOf (refuses t) = record {
 -- thresholds, which cross as two numbers
 abbrev pub thresholdsFrom : ℕ → ℕ → AbtmConfig
 thresholdsFrom s d = record { «sparse_max_nnz» = s; «dense_min_nnz» = d }
+
+abbrev pub restrictionAnswerOf : Given ColumnRestriction → DenimraspRestriction
+restrictionAnswerOf (gives s) = record {
+  number = 0;
+  expected = 0;
+  actual = 0;
+  nrows = s .nrows;
+  ncols = s .ncols;
+  «source_nnz» = s .«source_nnz»;
+  «retained_nnz» = s .«retained_nnz»;
+}
+restrictionAnswerOf (refuses t) = record {
+  number = t .number;
+  expected = t .expected;
+  actual = t .actual;
+  nrows = 0;
+  ncols = 0;
+  «source_nnz» = 0;
+  «retained_nnz» = 0;
+}
+
+abbrev pub regionAnswerOf : Given LocalRegion → DenimraspRegion
+regionAnswerOf (gives s) = record {
+  number = 0;
+  expected = 0;
+  actual = 0;
+  «global_size» = s .«global_size»;
+  «local_nodes» = s .«local_nodes»;
+  «local_nnz» = s .«local_nnz»;
+  «source_row_nnz» = s .«source_row_nnz»;
+}
+regionAnswerOf (refuses t) = record {
+  number = t .number;
+  expected = t .expected;
+  actual = t .actual;
+  «global_size» = 0;
+  «local_nodes» = 0;
+  «local_nnz» = 0;
+  «source_row_nnz» = 0;
+}
+
+-- the numbers of a restricted list and of a local one, which cross as four
+abbrev pub restrictionFrom : ℕ → ℕ → ℕ → ℕ → ColumnRestriction
+restrictionFrom r c s k = record { nrows = r; ncols = c; «source_nnz» = s; «retained_nnz» = k }
+
+abbrev pub regionFrom : ℕ → ℕ → ℕ → ℕ → LocalRegion
+regionFrom n k e s = record { «global_size» = n; «local_nodes» = k; «local_nnz» = e; «source_row_nnz» = s }

@@ -11,7 +11,9 @@ ghost use Rattle.metadata_first.specs.Dot.{toldDot, toldTotals};
 ghost use Rattle.abtm.specs.Calls.{kindNumber, toldKind};
 ghost use Rattle.abtm_rows.specs.Rows.{toldTileStats};
 ghost use Rattle.abtm_build.specs.Build.{toldTiles};
-ghost use Rattle.denimrasp_answers.specs.Answers.{verdictOf, countOf, boolOf, selectOf, partOf, placesOf, topologyAnswerOf, topologyStatsOf, storeStatsOf, dotAnswerOf, totalsOf, tilesAnswerOf, tileStatsOf};
+ghost use Rattle.restricted.specs.Restricted.{toldRestriction};
+ghost use Rattle.restricted.specs.Local.{toldRegion};
+ghost use Rattle.denimrasp_answers.specs.Answers.{verdictOf, countOf, boolOf, selectOf, partOf, placesOf, topologyAnswerOf, topologyStatsOf, storeStatsOf, dotAnswerOf, totalsOf, tilesAnswerOf, tileStatsOf, restrictionAnswerOf, regionAnswerOf};
 use abtm::KindAnswer;
 use abtm::TileKind;
 use abtm_build::TilesAnswer;
@@ -23,6 +25,8 @@ use hybit_core::Verdict;
 use metadata_first::DotAnswer;
 use metadata_first::StoreStatsAnswer;
 use metadata_first::TotalsAnswer;
+use restricted::LocalAnswer;
+use restricted::RestrictAnswer;
 use topology::SelectAnswer;
 use topology::StatsAnswer;
 use topology::TopologyAnswer;
@@ -156,6 +160,30 @@ pub struct DenimraspTileStats {
     pub dense_tiles: usize,
     pub value_slots: usize,
     pub metadata_bytes: usize,
+}
+
+// A list cut to the active columns: its frame, the entries of its source and those kept.
+#[repr(C)]
+pub struct DenimraspRestriction {
+    pub number: u32,
+    pub expected: usize,
+    pub actual: usize,
+    pub nrows: usize,
+    pub ncols: usize,
+    pub source_nnz: usize,
+    pub retained_nnz: usize,
+}
+
+// A list cut to a region: its members, its entries, and the source entries of its rows.
+#[repr(C)]
+pub struct DenimraspRegion {
+    pub number: u32,
+    pub expected: usize,
+    pub actual: usize,
+    pub global_size: usize,
+    pub local_nodes: usize,
+    pub local_nnz: usize,
+    pub source_row_nnz: usize,
 }
 
 pub fn verdict(v: Verdict) -> DenimraspVerdict
@@ -530,6 +558,56 @@ pub fn tile_stats(a: AbtmStatsAnswer) -> DenimraspTileStats
             dense_tiles: 0,
             value_slots: 0,
             metadata_bytes: 0,
+        },
+    }
+}
+
+pub fn restriction(a: RestrictAnswer) -> DenimraspRestriction
+    ensures { λ r. ⌜ r ≡ restrictionAnswerOf (toldRestriction a) ⌝ }
+{
+    match a {
+        RestrictAnswer::Built(s) => DenimraspRestriction {
+            number: 0,
+            expected: 0,
+            actual: 0,
+            nrows: s.nrows,
+            ncols: s.ncols,
+            source_nnz: s.source_nnz,
+            retained_nnz: s.retained_nnz,
+        },
+        RestrictAnswer::Refused(e) => DenimraspRestriction {
+            number: hybit_core::number(e),
+            expected: hybit_core::expected(e),
+            actual: hybit_core::actual(e),
+            nrows: 0,
+            ncols: 0,
+            source_nnz: 0,
+            retained_nnz: 0,
+        },
+    }
+}
+
+pub fn region(a: LocalAnswer) -> DenimraspRegion
+    ensures { λ r. ⌜ r ≡ regionAnswerOf (toldRegion a) ⌝ }
+{
+    match a {
+        LocalAnswer::Built(s) => DenimraspRegion {
+            number: 0,
+            expected: 0,
+            actual: 0,
+            global_size: s.global_size,
+            local_nodes: s.local_nodes,
+            local_nnz: s.local_nnz,
+            source_row_nnz: s.source_row_nnz,
+        },
+        LocalAnswer::Refused(e) => DenimraspRegion {
+            number: hybit_core::number(e),
+            expected: hybit_core::expected(e),
+            actual: hybit_core::actual(e),
+            global_size: 0,
+            local_nodes: 0,
+            local_nnz: 0,
+            source_row_nnz: 0,
         },
     }
 }

@@ -9,6 +9,8 @@ use denimrasp_answers::DenimraspBool;
 use denimrasp_answers::DenimraspCount;
 use denimrasp_answers::DenimraspDot;
 use denimrasp_answers::DenimraspPart;
+use denimrasp_answers::DenimraspRegion;
+use denimrasp_answers::DenimraspRestriction;
 use denimrasp_answers::DenimraspSelect;
 use denimrasp_answers::DenimraspStoreStats;
 use denimrasp_answers::DenimraspTileStats;
@@ -20,6 +22,8 @@ use denimrasp_answers::DenimraspVerdict;
 use hybit_core::HybitError;
 use hybit_core::Verdict;
 use metadata_first::AbtmRowDot;
+use restricted::ColumnRestriction;
+use restricted::LocalRegion;
 use topology::AbtmTopologyWord;
 use word::Operation;
 
@@ -80,12 +84,12 @@ fn index(text: &[u8], at: &mut usize) -> usize {
     numeral(text, at) as usize
 }
 
-// The next list of the input, in the first places of the room for it.
 // A number below 256.
 fn byte(text: &[u8], at: &mut usize) -> u8 {
     (numeral(text, at) % 256) as u8
 }
 
+// The next list of the input, in the first places of the room for it.
 fn read_u32<'a>(text: &[u8], at: &mut usize, room: &'a mut [u32]) -> &'a mut [u32] {
     let used = places(numeral(text, at), room.len());
     let mut k: usize = 0;
@@ -251,6 +255,22 @@ fn tile_figures(r: DenimraspTileStats) {
     size(r.dense_tiles);
     size(r.value_slots);
     size(r.metadata_bytes);
+}
+
+fn restriction(r: DenimraspRestriction) {
+    refusal(r.number, r.expected, r.actual);
+    size(r.nrows);
+    size(r.ncols);
+    size(r.source_nnz);
+    size(r.retained_nnz);
+}
+
+fn region(r: DenimraspRegion) {
+    refusal(r.number, r.expected, r.actual);
+    size(r.global_size);
+    size(r.local_nodes);
+    size(r.local_nnz);
+    size(r.source_row_nnz);
 }
 
 // A list: its length and its places.
@@ -1191,6 +1211,179 @@ fn abtm_expand_mask_one_hop(text: &[u8], at: &mut usize) {
     show_u64(out);
 }
 
+fn restricted_from_csr32(text: &[u8], at: &mut usize) {
+    let mut row_ptr_room = [0u32; ROOM];
+    let mut col_idx_room = [0u32; ROOM];
+    let mut values_room = [0.0f64; ROOM];
+    let mut mask_room = [0u64; ROOM];
+    let mut out_row_ptr_room = [0u32; ROOM];
+    let mut out_col_idx_room = [0u32; ROOM];
+    let mut out_values_room = [0.0f64; ROOM];
+    let nrows = index(text, at);
+    let ncols = index(text, at);
+    let row_ptr = read_u32(text, at, &mut row_ptr_room);
+    let col_idx = read_u32(text, at, &mut col_idx_room);
+    let values = read_f64(text, at, &mut values_room);
+    let mask_len = index(text, at);
+    let mask = read_u64(text, at, &mut mask_room);
+    let out_row_ptr = read_u32(text, at, &mut out_row_ptr_room);
+    let out_col_idx = read_u32(text, at, &mut out_col_idx_room);
+    let out_values = read_f64(text, at, &mut out_values_room);
+    let r = denimrasp::denimrasp_restricted_from_csr32(
+        nrows,
+        ncols,
+        row_ptr,
+        col_idx,
+        values,
+        mask_len,
+        mask,
+        out_row_ptr,
+        out_col_idx,
+        out_values,
+    );
+    restriction(r);
+    show_u32(out_row_ptr);
+    show_u32(out_col_idx);
+    show_f64(out_values);
+}
+
+fn restricted_from_abtm(text: &[u8], at: &mut usize) {
+    let mut row_tile_ptr_room = [0u32; ROOM];
+    let mut masks_room = [0u64; ROOM];
+    let mut value_offsets_room = [0u32; ROOM];
+    let mut metas_room = [0u32; ROOM];
+    let mut values_room = [0.0f64; ROOM];
+    let mut mask_room = [0u64; ROOM];
+    let mut out_row_ptr_room = [0u32; ROOM];
+    let mut out_col_idx_room = [0u32; ROOM];
+    let mut out_values_room = [0.0f64; ROOM];
+    let nrows = index(text, at);
+    let ncols = index(text, at);
+    let row_tile_ptr = read_u32(text, at, &mut row_tile_ptr_room);
+    let masks = read_u64(text, at, &mut masks_room);
+    let value_offsets = read_u32(text, at, &mut value_offsets_room);
+    let metas = read_u32(text, at, &mut metas_room);
+    let values = read_f64(text, at, &mut values_room);
+    let matrix_nnz = index(text, at);
+    let mask_len = index(text, at);
+    let mask = read_u64(text, at, &mut mask_room);
+    let out_row_ptr = read_u32(text, at, &mut out_row_ptr_room);
+    let out_col_idx = read_u32(text, at, &mut out_col_idx_room);
+    let out_values = read_f64(text, at, &mut out_values_room);
+    let r = denimrasp::denimrasp_restricted_from_abtm(
+        nrows,
+        ncols,
+        row_tile_ptr,
+        masks,
+        value_offsets,
+        metas,
+        values,
+        matrix_nnz,
+        mask_len,
+        mask,
+        out_row_ptr,
+        out_col_idx,
+        out_values,
+    );
+    restriction(r);
+    show_u32(out_row_ptr);
+    show_u32(out_col_idx);
+    show_f64(out_values);
+}
+
+fn restricted_retained_fraction(text: &[u8], at: &mut usize) {
+    let retained_nnz = index(text, at);
+    let source_nnz = index(text, at);
+    let r = denimrasp::denimrasp_restricted_retained_fraction(retained_nnz, source_nnz);
+    refusal(0, 0, 0);
+    float(r);
+}
+
+fn restricted_storage_bytes(text: &[u8], at: &mut usize) {
+    let nrows = index(text, at);
+    let ncols = index(text, at);
+    let retained_nnz = index(text, at);
+    let r = denimrasp::denimrasp_restricted_storage_bytes(nrows, ncols, retained_nnz);
+    refusal(0, 0, 0);
+    size(r);
+}
+
+fn local_from_csr32(text: &[u8], at: &mut usize) {
+    let mut row_ptr_room = [0u32; ROOM];
+    let mut col_idx_room = [0u32; ROOM];
+    let mut values_room = [0.0f64; ROOM];
+    let mut region_room = [0u64; ROOM];
+    let mut members_room = [0u32; ROOM];
+    let mut out_row_ptr_room = [0u32; ROOM];
+    let mut out_col_idx_room = [0u32; ROOM];
+    let mut out_values_room = [0.0f64; ROOM];
+    let nrows = index(text, at);
+    let ncols = index(text, at);
+    let row_ptr = read_u32(text, at, &mut row_ptr_room);
+    let col_idx = read_u32(text, at, &mut col_idx_room);
+    let values = read_f64(text, at, &mut values_room);
+    let region_len = index(text, at);
+    let words = read_u64(text, at, &mut region_room);
+    let members = read_u32(text, at, &mut members_room);
+    let out_row_ptr = read_u32(text, at, &mut out_row_ptr_room);
+    let out_col_idx = read_u32(text, at, &mut out_col_idx_room);
+    let out_values = read_f64(text, at, &mut out_values_room);
+    let r = denimrasp::denimrasp_local_from_csr32(
+        nrows,
+        ncols,
+        row_ptr,
+        col_idx,
+        values,
+        region_len,
+        words,
+        members,
+        out_row_ptr,
+        out_col_idx,
+        out_values,
+    );
+    region(r);
+    show_u32(members);
+    show_u32(out_row_ptr);
+    show_u32(out_col_idx);
+    show_f64(out_values);
+}
+
+fn local_check(text: &[u8], at: &mut usize) {
+    let mut members_room = [0u32; ROOM];
+    let global_size = index(text, at);
+    let members = read_u32(text, at, &mut members_room);
+    verdict(denimrasp::denimrasp_local_check(global_size, members));
+}
+
+fn local_gather_input(text: &[u8], at: &mut usize) {
+    let mut members_room = [0u32; ROOM];
+    let mut global_room = [0.0f64; ROOM];
+    let mut local_room = [0.0f64; ROOM];
+    let global_size = index(text, at);
+    let members = read_u32(text, at, &mut members_room);
+    let global = read_f64(text, at, &mut global_room);
+    let local = read_f64(text, at, &mut local_room);
+    let r = denimrasp::denimrasp_local_gather_input(global_size, members, global, local);
+    verdict(r);
+    show_f64(local);
+}
+
+fn local_boundary_pruning_ratio(text: &[u8], at: &mut usize) {
+    let local_nnz = index(text, at);
+    let source_row_nnz = index(text, at);
+    let r = denimrasp::denimrasp_local_boundary_pruning_ratio(local_nnz, source_row_nnz);
+    refusal(0, 0, 0);
+    float(r);
+}
+
+fn local_storage_bytes(text: &[u8], at: &mut usize) {
+    let local_nodes = index(text, at);
+    let local_nnz = index(text, at);
+    let r = denimrasp::denimrasp_local_storage_bytes(local_nodes, local_nnz);
+    refusal(0, 0, 0);
+    size(r);
+}
+
 // The calls from here on are those of the crates below that the C interface doesn't export.
 
 // Document 01's refusal of a number; its expected and actual under 6 alone.
@@ -1257,6 +1450,14 @@ fn core_narrow(text: &[u8], at: &mut usize) {
     let n = index(text, at);
     refusal(0, 0, 0);
     size(hybit_core::wide(hybit_core::narrow(n)));
+}
+
+fn core_saturating(text: &[u8], at: &mut usize) {
+    let a = index(text, at);
+    let b = index(text, at);
+    refusal(0, 0, 0);
+    size(hybit_core::saturating_add(a, b));
+    size(hybit_core::saturating_mul(a, b));
 }
 
 fn clear_from_u32(text: &[u8], at: &mut usize) {
@@ -1582,6 +1783,38 @@ fn tile_value(text: &[u8], at: &mut usize) {
     truth(abtm::is_zero(x));
 }
 
+fn restriction_figures(text: &[u8], at: &mut usize) {
+    let nrows = index(text, at);
+    let ncols = index(text, at);
+    let source_nnz = index(text, at);
+    let retained_nnz = index(text, at);
+    let s = ColumnRestriction {
+        nrows,
+        ncols,
+        source_nnz,
+        retained_nnz,
+    };
+    refusal(0, 0, 0);
+    float(s.retained_fraction());
+    size(s.storage_bytes());
+}
+
+fn region_figures(text: &[u8], at: &mut usize) {
+    let global_size = index(text, at);
+    let local_nodes = index(text, at);
+    let local_nnz = index(text, at);
+    let source_row_nnz = index(text, at);
+    let s = LocalRegion {
+        global_size,
+        local_nodes,
+        local_nnz,
+        source_row_nnz,
+    };
+    refusal(0, 0, 0);
+    float(s.boundary_pruning_ratio());
+    size(s.storage_bytes());
+}
+
 fn mask_calls(call: u64, text: &[u8], at: &mut usize) {
     match call {
         1 => mask_contains(text, at),
@@ -1661,6 +1894,20 @@ fn tile_calls(call: u64, text: &[u8], at: &mut usize) {
     }
 }
 
+fn restricted_calls(call: u64, text: &[u8], at: &mut usize) {
+    match call {
+        60 => restricted_from_csr32(text, at),
+        61 => restricted_from_abtm(text, at),
+        62 => restricted_retained_fraction(text, at),
+        63 => restricted_storage_bytes(text, at),
+        64 => local_from_csr32(text, at),
+        65 => local_check(text, at),
+        66 => local_gather_input(text, at),
+        67 => local_boundary_pruning_ratio(text, at),
+        _ => local_storage_bytes(text, at),
+    }
+}
+
 fn core_calls(call: u64, text: &[u8], at: &mut usize) {
     match call {
         200 => core_refusal(text, at),
@@ -1668,6 +1915,7 @@ fn core_calls(call: u64, text: &[u8], at: &mut usize) {
         202 => core_counts(text, at),
         203 => core_is_finite(text, at),
         204 => core_narrow(text, at),
+        205 => core_saturating(text, at),
         210 => clear_from_u32(text, at),
         211 => clear_from_u64(text, at),
         212 => clear_from_usize(text, at),
@@ -1689,6 +1937,8 @@ fn record_calls(call: u64, text: &[u8], at: &mut usize) {
         249 => metadata_first_report(text, at),
         250 => topology_word(text, at),
         254 => tile_value(text, at),
+        255 => restriction_figures(text, at),
+        256 => region_figures(text, at),
         _ => tile_part(call, text, at),
     }
 }
@@ -1718,8 +1968,10 @@ fn replay(call: u64, text: &[u8], at: &mut usize) {
         metadata_first_calls(call, text, at);
     } else if call < 49 {
         value_calls(call, text, at);
-    } else {
+    } else if call < 60 {
         tile_calls(call, text, at);
+    } else {
+        restricted_calls(call, text, at);
     }
 }
 

@@ -2,6 +2,7 @@
 
 mod matrices;
 mod ours;
+mod restricted;
 mod tiles;
 mod timing;
 
@@ -33,9 +34,11 @@ fn main() {
         operations(&table, kind, &pair);
         dots(&table, kind, &pair[0], &mut random);
         tiles::times(&table, kind, &pair[0], &mut random);
+        restricted::times(&table, kind, &pair[0], &mut random);
     }
     let full = Both::new(FULL.matrix(&mut random));
     tiles::times(&table, &FULL, &full, &mut random);
+    restricted::times(&table, &FULL, &full, &mut random);
     load();
 }
 
@@ -64,6 +67,7 @@ fn notes() {
     println!("# dot: ours sparse_dot_rows; rust sparse_dot_row for every row");
     println!("# dot_by_row: ours the crate's sparse_dot_row for every row");
     println!("# tile_..: thresholds 8 and 40; the lines before tell how many tiles of each kind");
+    println!("# restrict_.., local_..: ours into lists of the length that the result fills");
 }
 
 /// One matrix on both sides.

@@ -11,13 +11,13 @@ const SPARSE: u8 = 8;
 const DENSE: u8 = 40;
 
 /// The lists that a build of tiles fills, and how much of them it used.
-struct Lists {
-    row_tile_ptr: Vec<u32>,
-    masks: Vec<u64>,
-    value_offsets: Vec<u32>,
-    metas: Vec<u32>,
-    values: Vec<f64>,
-    used: sys::Tiles,
+pub struct Lists {
+    pub row_tile_ptr: Vec<u32>,
+    pub masks: Vec<u64>,
+    pub value_offsets: Vec<u32>,
+    pub metas: Vec<u32>,
+    pub values: Vec<f64>,
+    pub used: sys::Tiles,
 }
 
 impl Lists {
@@ -38,6 +38,13 @@ impl Lists {
                 matrix_nnz: 0,
             },
         }
+    }
+
+    /// The tiles of a matrix.
+    pub fn of(m: &Csr) -> Self {
+        let mut lists = Self::new(m.nrows, m.values.len());
+        lists.build(m);
+        lists
     }
 
     fn build(&mut self, m: &Csr) {
@@ -146,8 +153,7 @@ pub fn times(table: &Table, kind: &Kind, m: &Both, random: &mut Random) {
         dense_min_nnz: DENSE,
     };
     let build = || rust::AbtmMatrix::from_csr32(&m.rust, config).unwrap();
-    let (matrix, mut lists) = (build(), Lists::new(kind.nrows, m.csr.values.len()));
-    lists.build(&m.csr);
+    let (matrix, mut lists) = (build(), Lists::of(&m.csr));
     lists.same(&matrix);
     let stats = matrix.stats();
     println!(

@@ -14,6 +14,8 @@ pub enum Below {
     /// A float by its bits.
     IsFinite(u64),
     Narrow(usize),
+    /// Two numbers to add and to multiply.
+    Saturating(usize, usize),
     /// The lent list, and the place from which it is cleared.
     ClearU32(Vec<u32>, usize),
     ClearU64(Vec<u64>, usize),
@@ -44,6 +46,10 @@ pub enum Below {
     TileMetas(Tiles, usize),
     /// A meta and a mask, thresholds and a count, a float by its bits: what the crate of a tile says of each.
     TileValue(u32, u64, [u8; 2], usize, u64),
+    /// The four numbers of a restriction: rows, columns, entries of the source, entries that are kept. Its figures.
+    Restriction([usize; 4]),
+    /// The four numbers of a region: the global size, members, entries that are kept, source entries of its rows. Its figures.
+    Region([usize; 4]),
 }
 
 /// The calls of one word, in the order of their numbers.
@@ -93,6 +99,7 @@ impl Below {
             Below::Counts(..) => 202,
             Below::IsFinite(..) => 203,
             Below::Narrow(..) => 204,
+            Below::Saturating(..) => 205,
             Below::ClearU32(..) => 210,
             Below::ClearU64(..) => 211,
             Below::ClearUsize(..) => 212,
@@ -113,6 +120,8 @@ impl Below {
             Below::TileOffsets(..) => 252,
             Below::TileMetas(..) => 253,
             Below::TileValue(..) => 254,
+            Below::Restriction(..) => 255,
+            Below::Region(..) => 256,
         }
     }
 }

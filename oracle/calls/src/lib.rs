@@ -76,6 +76,14 @@ pub struct TilesRoom {
     pub values: Vec<f64>,
 }
 
+/// The lists that a build of a plot list is lent.
+#[derive(Clone, Debug, PartialEq)]
+pub struct CsrRoom {
+    pub row_ptr: Vec<u32>,
+    pub col_idx: Vec<u32>,
+    pub values: Vec<f64>,
+}
+
 /// The five counts of a report, in the order of the Rust's fields: candidate, executed, skipped, topology words, active words.
 pub type Counts = [usize; 5];
 
@@ -163,6 +171,23 @@ pub enum Call {
     AbtmApply(Tiles, Vec<f64>, Vec<f64>),
     /// The mask, and the lent words.
     AbtmExpandMaskOneHop(Tiles, Mask, Vec<u64>),
+    /// The mask of the active columns, and the lent lists.
+    RestrictedFromCsr32(Csr, Mask, CsrRoom),
+    RestrictedFromAbtm(Tiles, Mask, CsrRoom),
+    /// Entries that are kept, entries of the source.
+    RestrictedRetainedFraction(usize, usize),
+    /// Rows, columns, entries that are kept.
+    RestrictedStorageBytes(usize, usize, usize),
+    /// The mask of the region, the lent members, and the lent lists.
+    LocalFromCsr32(Csr, Mask, Vec<u32>, CsrRoom),
+    /// The global size, the members.
+    LocalCheck(usize, Vec<u32>),
+    /// The global size, the members, the global vector, and the lent local one.
+    LocalGatherInput(usize, Vec<u32>, Vec<f64>, Vec<f64>),
+    /// Entries that are kept, source entries of the region's rows.
+    LocalBoundaryPruningRatio(usize, usize),
+    /// Members, entries that are kept.
+    LocalStorageBytes(usize, usize),
 }
 
 /// What comes of a call. `result` has the answer's fields after the refusal, in the order of the C struct, each as a number: a
@@ -251,6 +276,15 @@ impl Call {
             AbtmTotalEstimatedBytes(..) => "abtm_total_estimated_bytes",
             AbtmApply(..) => "abtm_apply",
             AbtmExpandMaskOneHop(..) => "abtm_expand_mask_one_hop",
+            RestrictedFromCsr32(..) => "restricted_from_csr32",
+            RestrictedFromAbtm(..) => "restricted_from_abtm",
+            RestrictedRetainedFraction(..) => "restricted_retained_fraction",
+            RestrictedStorageBytes(..) => "restricted_storage_bytes",
+            LocalFromCsr32(..) => "local_from_csr32",
+            LocalCheck(..) => "local_check",
+            LocalGatherInput(..) => "local_gather_input",
+            LocalBoundaryPruningRatio(..) => "local_boundary_pruning_ratio",
+            LocalStorageBytes(..) => "local_storage_bytes",
         }
     }
 }

@@ -2,7 +2,7 @@
 
 use crate::Sink;
 use crate::make::{Judge, store_of, words_of};
-use crate::tiles;
+use crate::{restricted, tiles};
 use calls::{Call, Csr, Mask, StoreRoom, Words, WordsRoom};
 
 const MOST_PLACES: usize = 1 << 20;
@@ -15,6 +15,7 @@ pub fn all(sink: &mut impl Sink, judge: Judge, thread: usize) {
         many_words(sink);
         full_rows(sink);
         tiles::edge::many(sink);
+        restricted::edge::many(sink);
     } else {
         for len in [MOST_PLACES - 1, MOST_PLACES, MOST_PLACES + 1] {
             masks(sink, len);
@@ -26,6 +27,7 @@ pub fn all(sink: &mut impl Sink, judge: Judge, thread: usize) {
             tall(sink, judge, nrows);
         }
         tiles::edge::large(sink, judge);
+        restricted::edge::large(sink);
     }
 }
 

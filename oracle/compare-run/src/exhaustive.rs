@@ -2,7 +2,7 @@
 
 use crate::Sink;
 use crate::make::{Judge, store_of, words_of};
-use crate::tiles;
+use crate::{restricted, tiles};
 use calls::{Call, Csr, Mask, Store, StoreRoom, Words, WordsRoom};
 
 /// Which items are this thread's: every `of`-th, from `first` on.
@@ -38,10 +38,11 @@ pub fn all(sink: &mut impl Sink, judge: Judge, share: &mut Share) {
     valued_patterns(sink, judge, share);
     entry_sequences(sink, share);
     tiles::exhaustive::all(sink, judge, share);
+    restricted::exhaustive::all(sink, judge, share);
 }
 
 /// Masks up to 5 long, one bit too many among them.
-fn tiny_masks(longest: usize) -> impl Iterator<Item = Mask> {
+pub fn tiny_masks(longest: usize) -> impl Iterator<Item = Mask> {
     (0..=longest).flat_map(|len| {
         let none = (len == 0).then_some(Mask { len, words: vec![] });
         let some = (0..1u64 << (len + 1)).map(move |word| Mask {

@@ -2,6 +2,7 @@
 
 pub mod cases;
 pub mod damage;
+pub mod demand;
 pub mod edge;
 pub mod exhaustive;
 pub mod fault;
@@ -9,6 +10,7 @@ pub mod good;
 pub mod make;
 pub mod parts;
 pub mod random;
+pub mod restricted;
 pub mod rng;
 pub mod run;
 pub mod shrink;

@@ -1,7 +1,9 @@
 //! The numbers and lists that a call is made of, in the order of its fields. Damage, shrinking and the text form go by them, so
 //! a new call needs its lines here and in `kind` alone.
 
-use calls::{Below, Call, Csr, Mask, Store, StoreRoom, Tiles, TilesRoom, Words, WordsRoom};
+use calls::{
+    Below, Call, Csr, CsrRoom, Mask, Store, StoreRoom, Tiles, TilesRoom, Words, WordsRoom,
+};
 
 pub enum Part<'a> {
     Size(&'a mut usize),
@@ -18,7 +20,7 @@ pub enum Part<'a> {
 use Part::*;
 
 /// How many kinds of call there are.
-pub const KINDS: usize = 60;
+pub const KINDS: usize = 69;
 
 macro_rules! kinds {
     ($($number:literal $variant:ident)*) => {
@@ -92,6 +94,15 @@ kinds! {
     57 AbtmTotalEstimatedBytes
     58 AbtmApply
     59 AbtmExpandMaskOneHop
+    60 RestrictedFromCsr32
+    61 RestrictedFromAbtm
+    62 RestrictedRetainedFraction
+    63 RestrictedStorageBytes
+    64 LocalFromCsr32
+    65 LocalCheck
+    66 LocalGatherInput
+    67 LocalBoundaryPruningRatio
+    68 LocalStorageBytes
 }
 
 fn mask(m: &mut Mask) -> Vec<Part<'_>> {
@@ -156,6 +167,14 @@ fn tiles_room(room: &mut TilesRoom) -> Vec<Part<'_>> {
         Nums64(&mut room.masks),
         Nums32(&mut room.value_offsets),
         Nums32(&mut room.metas),
+        Floats(&mut room.values),
+    ]
+}
+
+fn csr_room(room: &mut CsrRoom) -> Vec<Part<'_>> {
+    vec![
+        Nums32(&mut room.row_ptr),
+        Nums32(&mut room.col_idx),
         Floats(&mut room.values),
     ]
 }
@@ -232,6 +251,24 @@ fn parts_of_tiles(call: &mut Call) -> Vec<Part<'_>> {
             let thresholds = vec![Num8(sparse), Num8(dense)];
             join(csr(c), join(thresholds, tiles_room(room)))
         }
+        _ => parts_of_restricted(call),
+    }
+}
+
+/// The parts of a call to restricted or local lists.
+fn parts_of_restricted(call: &mut Call) -> Vec<Part<'_>> {
+    use Call::*;
+    match call {
+        RestrictedFromCsr32(c, m, room) => join(csr(c), join(mask(m), csr_room(room))),
+        RestrictedFromAbtm(t, m, room) => join(tiles(t), join(mask(m), csr_room(room))),
+        LocalFromCsr32(c, m, members, room) => {
+            let lists = join(vec![Nums32(members)], csr_room(room));
+            join(csr(c), join(mask(m), lists))
+        }
+        LocalCheck(size, members) => vec![Size(size), Nums32(members)],
+        LocalGatherInput(size, members, global, local) => {
+            vec![Size(size), Nums32(members), Floats(global), Floats(local)]
+        }
         _ => numbers(call),
     }
 }
@@ -252,8 +289,13 @@ fn numbers(call: &mut Call) -> Vec<Part<'_>> {
         | MetadataFirstPruningRatio(a, b)
         | MetadataFirstEmptyWordRatio(a, b)
         | AbtmMetadataBytesPerNnz(a, b)
-        | AbtmTotalEstimatedBytes(a, b) => vec![Size(a), Size(b)],
-        MetadataFirstTotalEstimatedBytes(a, b, c) => vec![Size(a), Size(b), Size(c)],
+        | AbtmTotalEstimatedBytes(a, b)
+        | RestrictedRetainedFraction(a, b)
+        | LocalBoundaryPruningRatio(a, b)
+        | LocalStorageBytes(a, b) => vec![Size(a), Size(b)],
+        MetadataFirstTotalEstimatedBytes(a, b, c) | RestrictedStorageBytes(a, b, c) => {
+            vec![Size(a), Size(b), Size(c)]
+        }
         MetadataFirstAccumulate(a, b) => a.iter_mut().chain(b).map(Size).collect(),
         _ => unreachable!("every other call has its line above"),
     }
@@ -267,6 +309,7 @@ pub fn parts_below(call: &mut Below) -> Vec<Part<'_>> {
         Below::Counts(a, b) | Below::Word(_, a, b) => vec![Num64(a), Num64(b)],
         Below::IsFinite(bits) => vec![Num64(bits)],
         Below::Narrow(n) => vec![Size(n)],
+        Below::Saturating(a, b) => vec![Size(a), Size(b)],
         Below::ClearU32(list, from) => vec![Nums32(list), Size(from)],
         Below::ClearU64(list, from) => vec![Nums64(list), Size(from)],
         Below::ClearUsize(list, from) => vec![Sizes(list), Size(from)],
@@ -284,6 +327,9 @@ pub fn parts_below(call: &mut Below) -> Vec<Part<'_>> {
         Below::RowNumbers(w, row) | Below::RowMasks(w, row) => join(words(w), vec![Size(row)]),
         Below::RowValues(s, row) => join(store(s), vec![Size(row)]),
         Below::Report(counts) => counts.iter_mut().map(Size).collect(),
+        Below::Restriction(numbers) | Below::Region(numbers) => {
+            numbers.iter_mut().map(Size).collect()
+        }
         Below::TopologyWord(number, mask, n) => vec![Num32(number), Num64(mask), Size(n)],
         Below::TileMasks(t, row) | Below::TileOffsets(t, row) | Below::TileMetas(t, row) => {
             join(tiles(t), vec![Size(row)])

@@ -1,8 +1,10 @@
 //! Holds the library's outcome of each call against hybit's and the model's, and counts.
 
+use crate::demand::{self, Pair, ROUTES};
 use crate::fault::alter;
 use crate::make::Judge;
 use crate::parts::{KINDS, kind};
+use crate::rng::Rng;
 use crate::{Sink, shrink};
 use calls::{Call, Outcome};
 use judges::hybit::{self, Reason};
@@ -16,6 +18,8 @@ pub struct Tally {
     model: [AtomicU64; KINDS],
     reasons: [AtomicU64; Reason::ALL.len()],
     names: [OnceLock<&'static str>; KINDS],
+    demand_rust: [AtomicU64; ROUTES.len()],
+    demand_model: [AtomicU64; ROUTES.len()],
 }
 
 impl Tally {
@@ -25,6 +29,15 @@ impl Tally {
             model: [const { AtomicU64::new(0) }; KINDS],
             reasons: [const { AtomicU64::new(0) }; Reason::ALL.len()],
             names: [const { OnceLock::new() }; KINDS],
+            demand_rust: [const { AtomicU64::new(0) }; ROUTES.len()],
+            demand_model: [const { AtomicU64::new(0) }; ROUTES.len()],
+        }
+    }
+
+    fn count_demand(&self, (rust, model): demand::Compared) {
+        for route in 0..ROUTES.len() {
+            self.demand_rust[route].fetch_add(rust[route], Relaxed);
+            self.demand_model[route].fetch_add(model[route], Relaxed);
         }
     }
 
@@ -57,6 +70,12 @@ pub fn summary(tallies: &[Tally], differences: u64) -> String {
         if let Some(name) = name {
             text += &format!("{name} {rust} {model}\n");
         }
+        total += rust + model;
+    }
+    for (route, name) in ROUTES.iter().enumerate() {
+        let rust = sum(&|t| t.demand_rust[route].load(Relaxed));
+        let model = sum(&|t| t.demand_model[route].load(Relaxed));
+        text += &format!("{name} {rust} {model}\n");
         total += rust + model;
     }
     for reason in Reason::ALL {
@@ -123,6 +142,31 @@ impl Run<'_> {
             Err(reason) => println!("hybit: no judge: {reason:?} ({})", reason.text()),
         }
         println!("model: {:?}", judged.model);
+        print!("{}", summary(self.tallies, 1));
+        std::process::exit(1);
+    }
+}
+
+impl Run<'_> {
+    /// Some pairs of demand 3.
+    pub fn demand(&mut self, rng: &mut Rng, pairs: usize) {
+        for _ in 0..pairs {
+            let pair = demand::pair(rng);
+            match demand::compare(self.library, &pair, self.fault) {
+                Ok(compared) => self.tallies[self.thread].count_demand(compared),
+                Err(_) => self.stop_demand(&pair),
+            }
+        }
+    }
+
+    fn stop_demand(&self, pair: &Pair) -> ! {
+        let _only_one = FOUND.lock();
+        let found = |pair: &Pair| demand::compare(self.library, pair, self.fault).err();
+        let small = demand::smallest(pair, &|pair| found(pair).is_some());
+        let difference = found(&small).expect("the smallest differs too");
+        println!("difference in {}", difference.route);
+        println!("call:  {small:?}");
+        println!("{}", difference.text);
         print!("{}", summary(self.tallies, 1));
         std::process::exit(1);
     }

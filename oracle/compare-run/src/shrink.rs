@@ -204,7 +204,9 @@ fn csr_in(call: &mut Call) -> Option<&mut Csr> {
         | MetadataFirstCheckMerge(c)
         | TopologyFromCsr32(c, _)
         | MetadataFirstFromCsr32(c, _)
-        | AbtmFromCsr32(c, ..) => Some(c),
+        | AbtmFromCsr32(c, ..)
+        | RestrictedFromCsr32(c, ..)
+        | LocalFromCsr32(c, ..) => Some(c),
         _ => None,
     }
 }
@@ -253,7 +255,10 @@ fn masks_in(call: &mut Call) -> Vec<&mut Mask> {
         | MaskIndices(m, _)
         | MetadataFirstSparseDotRow(_, _, m, _)
         | MetadataFirstSparseDotRows(_, m, ..)
-        | AbtmExpandMaskOneHop(_, m, _) => vec![m],
+        | AbtmExpandMaskOneHop(_, m, _)
+        | RestrictedFromCsr32(_, m, _)
+        | RestrictedFromAbtm(_, m, _)
+        | LocalFromCsr32(_, m, ..) => vec![m],
         MaskUnionAssign(a, b)
         | MaskIntersectAssign(a, b)
         | MaskAndNotAssign(a, b)
@@ -340,8 +345,15 @@ fn extent(call: &mut Call) -> (usize, usize, usize) {
 
 fn dropped(call: &Call, drop: Drop) -> Call {
     let mut copy = call.clone();
+    let local = matches!(copy, Call::LocalFromCsr32(..));
     if let Some(c) = csr_in(&mut copy) {
+        let square = local && c.nrows == c.ncols;
         drop_csr(c, drop);
+        if let (true, Drop::ColumnsFrom(n)) = (square, drop) {
+            (n..c.nrows)
+                .rev()
+                .for_each(|row| drop_csr(c, Drop::Row(row)));
+        }
     }
     if let Some(s) = store_in(&mut copy) {
         drop_store(s, drop);

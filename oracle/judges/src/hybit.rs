@@ -3,6 +3,8 @@
 //! The Rust owns its lists and checks them when it makes them, so words and stores that are handed in are made from a plot list
 //! with the same columns and values, and the Rust's object must then show the same lists.
 
+pub mod demand;
+mod restricted;
 mod tiles;
 
 use calls::{Call, Counts, Csr, Mask, Outcome, Store, StoreRoom, Words, WordsRoom, bits};
@@ -33,10 +35,12 @@ pub enum Reason {
     KindByCount,
     KindThree,
     BytesOverflow,
+    BadMembers,
+    NoSuchList,
 }
 
 impl Reason {
-    pub const ALL: [Reason; 16] = [
+    pub const ALL: [Reason; 18] = [
         Reason::OverSize,
         Reason::BadMask,
         Reason::BadWords,
@@ -53,6 +57,8 @@ impl Reason {
         Reason::KindByCount,
         Reason::KindThree,
         Reason::BytesOverflow,
+        Reason::BadMembers,
+        Reason::NoSuchList,
     ];
 
     pub fn text(self) -> &'static str {
@@ -63,7 +69,7 @@ impl Reason {
             Reason::BadStore => "12: a packed store that the Rust can't hold",
             Reason::NegativeZero => "a packed -0.0, which no merge from 0.0 gives",
             Reason::Copies => "three or more copies of a column in a row to be packed",
-            Reason::ResultOverSize => "1: a result of more than 2^24 words",
+            Reason::ResultOverSize => "1: a result of more than 2^24 words or entries",
             Reason::ShortList => "13: a lent list shorter than the Rust's result",
             Reason::EmptyWord => "a word without a one, which no Rust topology holds",
             Reason::FarWord => "a word past column 2^32, which no Rust topology or tile has",
@@ -73,6 +79,8 @@ impl Reason {
             Reason::KindByCount => "kinds that no thresholds give these counts",
             Reason::KindThree => "the first column of a tile of kind 3, which no Rust tile is",
             Reason::BytesOverflow => "bytes of tiles above 2^64 - 1: the Rust's sum overflows",
+            Reason::BadMembers => "12: members that no region of the Rust has",
+            Reason::NoSuchList => "figures of no list, or of one with more than 2,000 entries",
         }
     }
 
@@ -82,7 +90,7 @@ impl Reason {
             Reason::OverSize | Reason::ResultOverSize => Some(1),
             Reason::BadMask => Some(5),
             Reason::BadWords => Some(11),
-            Reason::BadStore | Reason::BadTiles => Some(12),
+            Reason::BadStore | Reason::BadTiles | Reason::BadMembers => Some(12),
             Reason::ShortList => Some(13),
             _ => None,
         }
@@ -93,7 +101,7 @@ impl Reason {
 pub const UNKNOWN_ERROR: u32 = u32::MAX;
 
 /// Document 01's number for each error kind and text of the Rust.
-const ERRORS: [(u32, HybitError); 18] = [
+const ERRORS: [(u32, HybitError); 19] = [
     (1, HybitError::SizeOverflow),
     (2, matrix("row_ptr length must equal nrows + 1")),
     (2, matrix("col_idx and values lengths differ")),
@@ -112,6 +120,10 @@ const ERRORS: [(u32, HybitError); 18] = [
     (8, argument("ABTM topology dimensions differ")),
     (9, argument("invalid ABTM density thresholds")),
     (10, matrix("mask expansion requires a square ABTM matrix")),
+    (
+        10,
+        matrix("local R A R preparation requires a square matrix"),
+    ),
 ];
 
 const fn matrix(text: &'static str) -> HybitError {

@@ -166,6 +166,9 @@ answer!(
     metadata_bytes
 );
 
+answer!(Restriction, nrows, ncols, source_nnz, retained_nnz);
+answer!(Region, global_size, local_nodes, local_nnz, source_row_nnz);
+
 /// The answer of a call that can't refuse.
 fn plain(value: impl Number) -> Outcome {
     Outcome {
@@ -231,7 +234,25 @@ macro_rules! with_store {
     };
 }
 
-// Below the macros, which it uses.
+macro_rules! with_tiles {
+    ($f:ident, $t:expr $(, $more:expr)*) => {
+        unsafe {
+            sys::$f(
+                $t.nrows, $t.ncols,
+                $t.row_tile_ptr.as_ptr(), $t.row_tile_ptr.len(),
+                $t.masks.as_ptr(), $t.masks.len(),
+                $t.value_offsets.as_ptr(), $t.value_offsets.len(),
+                $t.metas.as_ptr(), $t.metas.len(),
+                $t.values.as_ptr(), $t.values.len(),
+                $t.matrix_nnz
+                $(, $more)*
+            )
+        }
+    };
+}
+
+// Below the macros, which they use.
+mod restricted;
 mod tiles;
 
 /// A call that changes the words of a mask.

@@ -48,7 +48,7 @@ fn word_number(meta: u32) -> u32 {
 }
 
 /// Refusal 1: how many slots there are is 12's matter.
-fn sizes(tiles: &Tiles) -> Checked {
+pub fn sizes(tiles: &Tiles) -> Checked {
     need_sizes(
         &[tiles.nrows, tiles.ncols],
         &[
@@ -60,7 +60,7 @@ fn sizes(tiles: &Tiles) -> Checked {
 }
 
 /// Refusal 12.
-fn rules(tiles: &Tiles) -> Checked {
+pub fn rules(tiles: &Tiles) -> Checked {
     let count = tiles.masks.len();
     let equal = tiles.value_offsets.len() == count && tiles.metas.len() == count;
     need(equal, BAD_STORE)?;
@@ -123,6 +123,15 @@ fn slots_inside(tiles: &Tiles, tile: usize) -> impl Iterator<Item = (usize, f64)
     columns
         .zip(values.iter().copied())
         .filter(|&(col, _)| col < tiles.ncols)
+}
+
+/// The present columns of a row of good tiles with their values, ascending.
+pub fn present(tiles: &Tiles, row: usize) -> impl Iterator<Item = (usize, f64)> {
+    part(&tiles.row_tile_ptr, row).flat_map(|tile| {
+        let mask = tiles.masks[tile];
+        let slots = slots_inside(tiles, tile);
+        slots.filter(move |(col, _)| mask >> (col % WIDTH) & 1 == 1)
+    })
 }
 
 pub fn judge_validate(sparse: u8, dense: u8) -> Outcome {

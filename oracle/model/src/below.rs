@@ -6,7 +6,7 @@ use crate::answer::{
 };
 use crate::csr32::{part, pointers_hold};
 use crate::words::{self, WIDTH, offsets};
-use crate::{abtm, metadata_first, topology};
+use crate::{abtm, metadata_first, restricted, topology};
 use calls::{Below, Counts, Mask, Outcome, Store, Tiles, WordCall, Words, WordsRoom, bits};
 use std::collections::BTreeSet;
 
@@ -18,6 +18,11 @@ pub fn judge_below(call: &Below) -> Outcome {
         Below::Counts(part, whole) => counts(*part as usize, *whole as usize),
         Below::IsFinite(bits) => truth(Ok(f64::from_bits(*bits).is_finite())),
         Below::Narrow(n) => answer(Ok([*n as u64 % (1 << 32)])),
+        Below::Saturating(a, b) => {
+            let (a, b) = (*a as u128, *b as u128);
+            let most = |n: u128| u64::try_from(n).unwrap_or(u64::MAX);
+            answer(Ok([most(a + b), most(a * b)]))
+        }
         Below::ClearU32(list, from) => cleared(list.iter().map(|&n| n.into()).collect(), *from),
         Below::ClearU64(list, from) => cleared(list.clone(), *from),
         Below::ClearUsize(list, from) => cleared(list.iter().map(|&n| n as u64).collect(), *from),
@@ -43,7 +48,21 @@ pub fn judge_below(call: &Below) -> Outcome {
             outcome.result.push(zero.into());
             outcome
         }
+        Below::Restriction([nrows, ncols, source, kept]) => joined(
+            restricted::judge_retained_fraction(*kept, *source),
+            restricted::judge_storage_bytes(*nrows, *ncols, *kept),
+        ),
+        Below::Region([_, members, kept, source]) => joined(
+            restricted::judge_boundary_pruning_ratio(*kept, *source),
+            restricted::judge_local_storage_bytes(*members, *kept),
+        ),
     }
+}
+
+/// Two figures, neither of which can be refused.
+fn joined(mut first: Outcome, second: Outcome) -> Outcome {
+    first.result.extend(second.result);
+    first
 }
 
 /// The number as it is told, in an answer that is refused and in one that is not.

@@ -8,8 +8,10 @@ mod abtm;
 mod answer;
 mod below;
 mod csr32;
+pub mod demand;
 mod mask;
 mod metadata_first;
+mod restricted;
 mod topology;
 mod words;
 
@@ -100,5 +102,24 @@ pub fn judge(call: &Call) -> Outcome {
         AbtmTotalEstimatedBytes(bytes, slots) => abtm::judge_total_estimated_bytes(*bytes, *slots),
         AbtmApply(tiles, x, y) => abtm::judge_apply(tiles, x, y),
         AbtmExpandMaskOneHop(tiles, m, room) => abtm::judge_expand_mask_one_hop(tiles, m, room),
+        RestrictedFromCsr32(csr, m, room) => restricted::judge_from_csr32(csr, m, room),
+        RestrictedFromAbtm(tiles, m, room) => restricted::judge_from_abtm(tiles, m, room),
+        RestrictedRetainedFraction(kept, source) => {
+            restricted::judge_retained_fraction(*kept, *source)
+        }
+        RestrictedStorageBytes(nrows, ncols, kept) => {
+            restricted::judge_storage_bytes(*nrows, *ncols, *kept)
+        }
+        LocalFromCsr32(csr, m, members, room) => {
+            restricted::judge_local_from_csr32(csr, m, members, room)
+        }
+        LocalCheck(size, members) => restricted::judge_local_check(*size, members),
+        LocalGatherInput(size, members, global, local) => {
+            restricted::judge_gather_input(*size, members, global, local)
+        }
+        LocalBoundaryPruningRatio(kept, source) => {
+            restricted::judge_boundary_pruning_ratio(*kept, *source)
+        }
+        LocalStorageBytes(members, kept) => restricted::judge_local_storage_bytes(*members, *kept),
     }
 }

@@ -34,7 +34,7 @@ mod rust {
 }
 
 /// Errors that a run of the usual length must have met, so that it says something about them.
-const MET: [&str; 19] = [
+const MET: [&str; 20] = [
     "SizeOverflow",
     "DimensionMismatch",
     "row_ptr length must equal nrows + 1",
@@ -54,6 +54,7 @@ const MET: [&str; 19] = [
     "invalid ABTM density thresholds",
     "ABTM row index out of range",
     "mask expansion requires a square ABTM matrix",
+    "local R A R preparation requires a square matrix",
 ];
 
 fn main() -> ExitCode {

@@ -44,6 +44,22 @@ pub fn run(case: &Case) -> Vec<(String, String)> {
         };
         if let Some(matrix) = notes.result("tiles", m::AbtmMatrix::from_csr32(&a, config)) {
             tiles(&mut notes, case, &matrix);
+            let made = restricted(
+                &matrix,
+                case,
+                m::PreparedColumnRestrictedCsrOperator::from_abtm,
+            );
+            if let Some(list) = notes.result("restricted from_abtm", made) {
+                columns(&mut notes, case, &list);
+            }
+        }
+        let made = restricted(&a, case, m::PreparedColumnRestrictedCsrOperator::from_csr32);
+        if let Some(list) = notes.result("restricted from_csr32", made) {
+            columns(&mut notes, case, &list);
+        }
+        let made = restricted(&a, case, m::PreparedLocalCsrOperator::from_csr32);
+        if let Some(list) = notes.result("local from_csr32", made) {
+            region(&mut notes, case, &list);
         }
     }
     notes.0
@@ -258,4 +274,46 @@ fn tiles(notes: &mut Notes, case: &Case, matrix: &m::AbtmMatrix) {
     let made = m::DofMask::from_indices(case.mask_len, &case.members);
     let mask = made.unwrap_or(m::DofMask::new(case.mask_len));
     notes.result("expand_mask_one_hop", matrix.expand_mask_one_hop(&mask));
+}
+
+/// What `build` makes of a matrix and the case's mask.
+fn restricted<S, T>(
+    source: &S,
+    case: &Case,
+    build: fn(&S, &m::DofMask) -> Result<T, HybitError>,
+) -> Result<T, HybitError> {
+    let made = m::DofMask::from_indices(case.mask_len, &case.members);
+    build(source, &made.unwrap_or(m::DofMask::new(case.mask_len)))
+}
+
+fn columns(notes: &mut Notes, case: &Case, list: &m::PreparedColumnRestrictedCsrOperator) {
+    notes.note("restricted sizes", (list.rows(), list.cols()));
+    notes.note("restricted matrix", list.matrix());
+    notes.note("restricted mask", list.active_columns());
+    let counts = (list.source_nnz(), list.retained_nnz());
+    notes.note("restricted counts", counts);
+    let figures = (list.retained_fraction(), list.storage_bytes());
+    notes.note("restricted figures", figures);
+    let mut y = case.y.clone();
+    notes.result("restricted apply", list.clone().apply(&case.x, &mut y));
+    notes.note("restricted y", y);
+}
+
+fn region(notes: &mut Notes, case: &Case, list: &m::PreparedLocalCsrOperator) {
+    notes.note("local sizes", (list.rows(), list.cols()));
+    notes.note("local matrix", list.matrix());
+    notes.note("local members", (list.global_size(), list.global_nodes()));
+    let counts = (list.local_nodes(), list.local_nnz(), list.source_row_nnz());
+    notes.note("local counts", counts);
+    let figures = (list.boundary_pruning_ratio(), list.storage_bytes());
+    notes.note("local figures", figures);
+    // Now and then a list is one place too long.
+    let length = |long: u64| list.local_nodes() + usize::from(case.bits & 7 == long);
+    let mut x = vec![7.0; length(0)];
+    notes.result("gather_input", list.gather_input(&case.x, &mut x));
+    notes.note("gathered", &x);
+    notes.result("gather_input_vec", list.gather_input_vec(&case.x));
+    let mut y = vec![7.0; length(1)];
+    notes.result("local apply", list.clone().apply(&x, &mut y));
+    notes.note("local y", y);
 }

@@ -1,10 +1,10 @@
-//! `compare --seed N --seconds S [--library none] [--break CALL]`: the tiny inputs whole, some random ones, the named cases, the
+//! `compare --seed N --seconds S [--library none] [--break FAULT]`: the tiny inputs whole, some random ones, the named cases, the
 //! edge of the domain, then random calls until the seconds are over. With `--library none` the model is held against hybit's
-//! Rust alone.
+//! Rust alone. `compare --faults` lists the named faults, each with its call; the name of a call is a fault too.
 
 use compare_run::make::Judge;
 use compare_run::run::{Run, Tally, summary};
-use compare_run::{Sink, cases, edge, exhaustive, random, rng::Rng};
+use compare_run::{Sink, cases, edge, exhaustive, fault, random, rng::Rng};
 use judges::ours;
 use std::process::ExitCode;
 use std::time::{Duration, Instant};
@@ -57,15 +57,25 @@ fn work(thread: usize, options: &Options, end: Instant) {
     let mut rng = Rng::new(seed);
     for _ in 0..FIRST_ROUNDS {
         random::round(&mut run, options.library, &mut rng);
+        run.demand(&mut rng, 1);
     }
     for call in cases::calls().iter().skip(thread).step_by(THREADS) {
         run.call(call);
     }
     edge::all(&mut run, options.library, thread);
-    random::forever(&mut run, options.library, &mut rng);
+    while !run.done() {
+        random::round(&mut run, options.library, &mut rng);
+        run.demand(&mut rng, 1);
+    }
 }
 
 fn main() -> ExitCode {
+    if std::env::args().nth(1).as_deref() == Some("--faults") {
+        fault::NAMED
+            .iter()
+            .for_each(|(name, call, _)| println!("{name} {call}"));
+        return ExitCode::SUCCESS;
+    }
     let options = match options() {
         Ok(options) => options,
         Err(message) => {

@@ -22,10 +22,14 @@ const MASK_ROOM: usize = 16_385;
 const MASK_KINDS: usize = 13;
 /// How many calls are looked at, and how many of each sort are kept.
 const LOOKED_AT: usize = 1_500_000;
-const ACCEPTED: usize = 5;
-const REFUSED: usize = 2;
+const ACCEPTED: usize = 2;
+const REFUSED: usize = 1;
+/// The same of the last kinds, from `NEW_KINDS` on: the others have more named cases.
+const NEW_ACCEPTED: usize = 4;
+const NEW_REFUSED: usize = 2;
+const NEW_KINDS: usize = 60;
 /// The products' vectors keep their matrices below 41 columns, so that these are few sorts.
-const PRODUCTS: usize = 60;
+const PRODUCTS: usize = 12;
 
 /// What makes two calls of the same sort: the kind, the refusal, the column count's class, why the Rust was no judge.
 type Sort = (usize, u32, usize, Option<usize>);
@@ -92,8 +96,10 @@ impl Record {
             | (0, Call::MetadataFirstSparseDotRow(..) | Call::MetadataFirstSparseDotRows(..)) => {
                 PRODUCTS
             }
-            (0, _) => ACCEPTED,
-            _ => REFUSED,
+            (0, _) if n < NEW_KINDS => ACCEPTED,
+            (0, _) => NEW_ACCEPTED,
+            _ if n < NEW_KINDS => REFUSED,
+            _ => NEW_REFUSED,
         };
         let kept = self.kept.entry(sort).or_default();
         if *kept >= most && !wanted {

@@ -19,6 +19,7 @@ pub fn calls() -> Vec<Below> {
     topology_words(&mut all);
     tile_parts(&mut all);
     tile_values(&mut all);
+    restrictions(&mut all);
     all
 }
 
@@ -53,6 +54,28 @@ fn domain(all: &mut Vec<Below>) {
     }
     for n in [0, 1, (1 << 32) - 1, 1 << 32, (1 << 32) + 5, HUGE] {
         all.push(Below::Narrow(n));
+    }
+}
+
+/// Sums and products at and past the largest; the figures of restrictions and regions, each number in its own field.
+fn restrictions(all: &mut Vec<Below>) {
+    for a in [0, 1, 3, 4, 12, 1 << 32, HUGE / 12, HUGE - 1, HUGE] {
+        for b in [0, 1, 4, 12, 1 << 32, HUGE / 4, HUGE / 4 + 1, HUGE] {
+            all.push(Below::Saturating(a, b));
+        }
+    }
+    for numbers in [
+        [3, 130, 10, 6],
+        [0, 0, 0, 0],
+        [1, 64, 3, 1],
+        [5, 65, 0, 7],
+        [HUGE, HUGE, HUGE, HUGE],
+        [0, HUGE, 1, 0],
+        [HUGE / 4, 0, 3, 0],
+        [2, 1, (1 << 53) + 1, HUGE / 12],
+    ] {
+        all.push(Below::Restriction(numbers));
+        all.push(Below::Region(numbers));
     }
 }
 

@@ -4,11 +4,14 @@
 mod below;
 mod combine;
 mod csr32;
+mod demand;
 mod generated;
+mod local;
 mod mask;
 mod metadata_first;
 mod products;
 mod records;
+mod restricted;
 mod stores;
 mod tile_stores;
 mod tiles;
@@ -39,6 +42,9 @@ pub fn calls() -> Vec<Call> {
         values::calls(),
         tiles::calls(),
         tile_stores::calls(),
+        restricted::calls(),
+        local::calls(),
+        demand::calls(),
     ];
     groups.concat()
 }

@@ -33,7 +33,7 @@ pub fn round(sink: &mut impl Sink, judge: Judge, rng: &mut Rng) {
 }
 
 /// Good thresholds, often at a border.
-fn thresholds(rng: &mut Rng) -> (u8, u8) {
+pub fn thresholds(rng: &mut Rng) -> (u8, u8) {
     let sparse = 1 + rng.below(63) as u8;
     let dense = sparse + 1 + rng.below(64 - usize::from(sparse)) as u8;
     let any = (sparse, dense);
@@ -55,7 +55,7 @@ fn shape(rng: &mut Rng) -> (usize, usize) {
 }
 
 /// A good plot list; of a square with many rows only a few have entries.
-fn plot_list(rng: &mut Rng, thresholds: (u8, u8)) -> Csr {
+pub fn plot_list(rng: &mut Rng, thresholds: (u8, u8)) -> Csr {
     let (nrows, ncols) = shape(rng);
     let mut c = Csr {
         nrows,
@@ -121,7 +121,7 @@ fn row(rng: &mut Rng, ncols: usize, thresholds: (u8, u8)) -> Vec<(u32, f64)> {
     entries
 }
 
-fn nonzero(rng: &mut Rng, style: Style) -> f64 {
+pub fn nonzero(rng: &mut Rng, style: Style) -> f64 {
     let value = good::float(rng, style);
     if value == 0.0 { 0.5 } else { value }
 }
@@ -159,7 +159,7 @@ fn room(rng: &mut Rng, mut lengths: [usize; 5]) -> TilesRoom {
 }
 
 /// The tiles, or some of other kinds or values, or bad ones.
-fn varied(rng: &mut Rng, t: Tiles) -> Tiles {
+pub fn varied(rng: &mut Rng, t: Tiles) -> Tiles {
     match rng.below(12) {
         0..5 => t,
         5 => changed(rng, t, |rng, tile| {

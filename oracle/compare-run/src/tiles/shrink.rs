@@ -11,7 +11,8 @@ pub fn tiles_in(call: &mut Call) -> Option<&mut Tiles> {
         | AbtmStats(t)
         | AbtmRowTiles(t, _)
         | AbtmApply(t, ..)
-        | AbtmExpandMaskOneHop(t, ..) => Some(t),
+        | AbtmExpandMaskOneHop(t, ..)
+        | RestrictedFromAbtm(t, ..) => Some(t),
         _ => None,
     }
 }

@@ -3,7 +3,7 @@
 
 use super::{
     Made, Reason, accepted, csr_of, csr_within, filled, mask_of, mask_within, numbers, ones,
-    refused, told, with_lists, within, zeros,
+    refused, restricted, told, with_lists, within, zeros,
 };
 use calls::{Call, Csr, Mask, Outcome, Tiles, TilesRoom, bits};
 use hybit_core::{HybitError, LinearOperator};
@@ -32,7 +32,7 @@ pub fn judge(call: &Call) -> Result<Outcome, Reason> {
         AbtmTotalEstimatedBytes(bytes, slots) => total_estimated_bytes(*bytes, *slots),
         AbtmApply(t, x, y) => apply(t, x, y),
         AbtmExpandMaskOneHop(t, m, room) => expand_mask_one_hop(t, m, room.len()),
-        _ => unreachable!("every other call is answered before"),
+        _ => restricted::judge(call),
     }
 }
 
@@ -43,7 +43,7 @@ fn config(sparse_max_nnz: u8, dense_min_nnz: u8) -> AbtmConfig {
     }
 }
 
-fn tiles_within(t: &Tiles) -> Result<(), Reason> {
+pub fn tiles_within(t: &Tiles) -> Result<(), Reason> {
     let lists = [t.masks.len(), t.value_offsets.len(), t.metas.len()];
     within(&[t.nrows, t.ncols], &lists)
 }
@@ -184,7 +184,7 @@ fn same_tiles(a: &Tiles, b: &Tiles) -> bool {
         && same_bits(&a.values, &b.values)
 }
 
-fn tiles_of(t: &Tiles) -> Made<AbtmMatrix> {
+pub fn tiles_of(t: &Tiles) -> Made<AbtmMatrix> {
     TILES.with_borrow_mut(|kept| {
         if let Some((key, made)) = kept
             && same_tiles(key, t)

@@ -1,26 +1,8 @@
 //! The library's answers to calls of tiles.
 
-use super::{Answer, lent_floats, lent32, lent64, plain, with_lists};
+use super::{Answer, lent_floats, lent32, lent64, plain, restricted, with_lists};
 use crate::sys;
 use calls::{Call, Csr, Mask, Outcome, Tiles, TilesRoom};
-
-/// Hands the numbers and lists of tiles to a C call, then the other arguments.
-macro_rules! with_tiles {
-    ($f:ident, $t:expr $(, $more:expr)*) => {
-        unsafe {
-            sys::$f(
-                $t.nrows, $t.ncols,
-                $t.row_tile_ptr.as_ptr(), $t.row_tile_ptr.len(),
-                $t.masks.as_ptr(), $t.masks.len(),
-                $t.value_offsets.as_ptr(), $t.value_offsets.len(),
-                $t.metas.as_ptr(), $t.metas.len(),
-                $t.values.as_ptr(), $t.values.len(),
-                $t.matrix_nnz
-                $(, $more)*
-            )
-        }
-    };
-}
 
 /// What the library makes of a call to tiles.
 pub fn judge(call: &Call) -> Outcome {
@@ -50,7 +32,7 @@ fn by_value(call: &Call) -> Outcome {
             AbtmTotalEstimatedBytes(bytes, slots) => {
                 plain(sys::denimrasp_abtm_total_estimated_bytes(bytes, slots))
             }
-            _ => unreachable!("every other call is answered before"),
+            _ => restricted::judge(call),
         }
     }
 }

@@ -425,6 +425,41 @@ fn tiles_call(c: &mut Chance) -> (Call, Left) {
     }
 }
 
+fn restricted_call(c: &mut Chance) -> (Call, Left) {
+    let room = CsrRoom {
+        row_ptr: c.list(|_| 9),
+        col_idx: c.list(|_| 9),
+        values: c.list(|_| 9.0),
+    };
+    let mut lengths = vec![room.row_ptr.len(), room.col_idx.len(), room.values.len()];
+    match c.below(5) {
+        0 => {
+            let call = Call::RestrictedFromCsr32(c.csr(), c.mask(), room);
+            (call, Left::Zeros(lengths))
+        }
+        1 => {
+            let call = Call::RestrictedFromAbtm(c.tiles(), c.mask(), room);
+            (call, Left::Zeros(lengths))
+        }
+        2 => {
+            let members = c.list(|_| 9);
+            lengths.insert(0, members.len());
+            let call = Call::LocalFromCsr32(c.csr(), c.mask(), members, room);
+            (call, Left::Zeros(lengths))
+        }
+        3 => (
+            Call::LocalCheck(c.count(), c.list(Chance::small)),
+            Left::Nothing,
+        ),
+        _ => {
+            let (size, members) = (c.count(), c.list(Chance::small));
+            let (global, local) = (c.vector(size), c.list(Chance::value));
+            let left = Left::Untouched(local.iter().map(|&v| bits(v)).collect());
+            (Call::LocalGatherInput(size, members, global, local), left)
+        }
+    }
+}
+
 /// The form of a refused outcome.
 fn refused_as_it_should_be(call: &Call, outcome: &Outcome, left: Left) {
     assert!(outcome.result.iter().all(|&n| n == 0), "{call:?}");
@@ -442,7 +477,14 @@ fn refused_as_it_should_be(call: &Call, outcome: &Outcome, left: Left) {
 #[test]
 fn no_input_stops_a_call() {
     let mut chance = Chance(0x9e37_79b9_7f4a_7c15);
-    let makers = [mask_call, csr_call, words_call, store_call, tiles_call];
+    let makers = [
+        mask_call,
+        csr_call,
+        words_call,
+        store_call,
+        tiles_call,
+        restricted_call,
+    ];
     let mut seen = [0; 14];
     for round in 0..500_000 {
         let (call, left) = makers[round % makers.len()](&mut chance);

@@ -12,6 +12,7 @@ mod mask;
 mod metadata_first;
 mod plots;
 mod ratios;
+mod restricted;
 mod topology;
 mod words;
 

@@ -54,17 +54,13 @@ localAnswer m a places room =
 
 -- ---- its members, handed in
 
--- 1 finds nothing
-abbrev pub memberSizes : ℕ → List ℕ → Bool
-memberSizes n ms = few n && few (length ms)
-
 -- 12 finds nothing: members rising, and below the global size
 unfoldable pub memberRules : ℕ → List ℕ → Bool
 memberRules n ms = climbs 0 ms && every (λ g. ltb g n) ms
 
 -- the checks of the members: 1, 12
 unfoldable pub membersAnswer : ℕ → List ℕ → Answer
-membersAnswer n ms = demand (memberSizes n ms) 1 andThen demand (memberRules n ms) 12
+membersAnswer n ms = demand (few n) 1 andThen demand (memberRules n ms) 12
 
 -- gather_input: 1; 12; 6 for the global vector; 6 for the local one, which is nl long
 unfoldable pub gatherAnswer : ℕ → List ℕ → List Float → ℕ → Answer

@@ -15,7 +15,8 @@ use Rattle.hybit_core.proofs.AnswerLaws.{demand-accepted, then-first, then-seco
 use Rattle.lent.specs.Lists.{each, every, climbs}
 use Rattle.lent.proofs.ListLaws.{each-is, getD-map-lt}
 use Rattle.csr32.specs.Csr.{at}
-use Rattle.restricted.specs.Local.{memberSizes, memberRules, membersAnswer, gatherAnswer, gathered}
+use Rattle.hybit_core.specs.Domain.{few}
+use Rattle.restricted.specs.Local.{memberRules, membersAnswer, gatherAnswer, gathered}
 
 -- ---- the scan: least is what the next member may be at least
 
@@ -66,7 +67,7 @@ module _ (n : ℕ) (ms : List ℕ) (x : List Float) (nl : ℕ) (ok : gatherAnswe
   gather-inside =
       let long : length x ≡ n = length-accepted n (length x) (then-first (lengthIs n (length x)) (lengthIs (length ms) nl) rest) in
       let checked : membersAnswer n ms ≡ accepted = then-first (membersAnswer n ms) (lengthIs n (length x) andThen lengthIs (length ms) nl) ok in
-      let rules : memberRules n ms ≡ true = demand-accepted (memberRules n ms) 12 (then-second (demand (memberSizes n ms) 1) (demand (memberRules n ms) 12) checked) in
+      let rules : memberRules n ms ≡ true = demand-accepted (memberRules n ms) 12 (then-second (demand (few n) 1) (demand (memberRules n ms) 12) checked) in
       rw long (and-right (climbs 0 ms) (every (λ g. ltb g n) ms) rules)
 
 pub gathered-is : (ms : List ℕ) (x : List Float) → each (λ k. at x (getD ms k 0)) (length ms) ≡ gathered ms x

@@ -440,9 +440,6 @@ pub fn check(global_size: usize, members: &[u32]) -> Verdict
     if !hybit_core::dimension_fits(global_size) {
         return Verdict::Refused(HybitError::SizeOverflow);
     }
-    if !hybit_core::dimension_fits(members.len()) {
-        return Verdict::Refused(HybitError::SizeOverflow);
-    }
     if !members_hold(global_size, members) {
         return Verdict::Refused(HybitError::BadStore);
     }

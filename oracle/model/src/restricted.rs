@@ -147,7 +147,7 @@ fn local_from_csr32(csr: &Csr, region: &Mask) -> Checked<Built<4, 4>> {
 
 /// Two row counts are judged by 1: the global size, and the members, which are the rows of the local list.
 fn local_check(global_size: usize, members: &[u32]) -> Checked {
-    need_sizes(&[global_size, members.len()], &[])?;
+    need_sizes(&[global_size], &[])?;
     let rising = members.is_sorted_by(|a, b| a < b);
     let inside = members.iter().all(|&m| (m as usize) < global_size);
     need(rising && inside, BAD_STORE)

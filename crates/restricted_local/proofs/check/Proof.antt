@@ -13,32 +13,18 @@ returns : tie.Need-returns
 unfolding membersAnswer
 returns c = search (checks, tests, needs)
 
-dimension-fits-requires-2 : tie.Need-dimension-fits-requires-2
-dimension-fits-requires-2 c κs = search needs
+members-hold-requires : tie.Need-members-hold-requires
+members-hold-requires c κs = search needs
 
 returns-2 : tie.Need-returns-2
 unfolding membersAnswer
 returns-2 c = search (checks, tests, needs)
 
-members-hold-requires : tie.Need-members-hold-requires
-members-hold-requires c κs = search needs
-
 returns-3 : tie.Need-returns-3
 unfolding membersAnswer
 returns-3 c = search (checks, tests, needs)
 
-returns-4 : tie.Need-returns-4
-unfolding membersAnswer
-returns-4 c = search (checks, tests, needs)
-
 pub check-spec : {M : Type 1} → statement M
 check-spec =
     tie.close
-    (tie.spec
-    dimension-fits-requires
-    returns
-    dimension-fits-requires-2
-    returns-2
-    members-hold-requires
-    returns-3
-    returns-4)
+    (tie.spec dimension-fits-requires returns members-hold-requires returns-2 returns-3)

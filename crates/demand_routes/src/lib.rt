@@ -1,0 +1,102 @@
+// Demand 3's three routes of a row on lent lists: the pruned dot; the dot of the restriction with every plot active; the row product
+// of the list restricted from tiles. proofs/AgreeLaws shows from the theorem of the crate demand that they agree.
+ghost use mathlib.Core.Path.{_≡_};
+ghost use mathlib.Core.Bool.{true};
+ghost use Prim.Native.Nat.{_<_, _≤_, _^_};
+ghost use lib.ListN.{length};
+ghost use lib.Ieee.{Float};
+ghost use Rattle.hybit_core.specs.Answer.{accepted, gives, answers};
+ghost use Rattle.hybit_core.specs.Table.{told};
+ghost use Rattle.lent.specs.Lent.{padded};
+ghost use Rattle.word.specs.Bits.{ceil64};
+ghost use Rattle.mask.specs.Mask.{asMask, maskWords};
+ghost use Rattle.csr32.specs.Csr.{asCsr};
+ghost use Rattle.csr32.specs.Made.{asCsrRoom};
+ghost use Rattle.metadata_first.specs.declared.AbtmRowDot.{AbtmRowDot};
+ghost use Rattle.metadata_first.specs.Dot.{toldDot};
+ghost use Rattle.metadata_first_build.specs.Pack.{asStoreRoom, storeOf, packAnswer};
+ghost use Rattle.abtm.specs.Tiles.{asTiles};
+ghost use Rattle.abtm_build.specs.Build.{asTileRoom};
+ghost use Rattle.restricted.specs.Restricted.{restrictedLeft};
+ghost use Rattle.demand_routes.specs.declared.RowRoutes.{RowRoutes};
+ghost use Rattle.demand_routes.specs.Routes.{asLists, roomOf, routesOf, toldRoutes, routesChecks, routesAnswer, Leaves};
+ghost use Rattle.demand_routes.specs.Steps.{toldNumber, packedDot, allDot, restrictedDot, productIn, listNumber, tileListNumber, tilesNumber, Packed, Relisted, Tiled, Zeros};
+use abtm::AbtmConfig;
+use abtm_build::TilesAnswer;
+use hybit_core::HybitError;
+use hybit_core::Verdict;
+use metadata_first::AbtmRowDot;
+use metadata_first::DotAnswer;
+use restricted::RestrictAnswer;
+use topology::TopologyAnswer;
+
+// What the three routes give: the two reports, and the number alone.
+pub struct RowRoutes {
+    pub pruned: AbtmRowDot,
+    pub restricted: AbtmRowDot,
+    pub tiled: f64,
+}
+
+pub enum RoutesAnswer {
+    Routes(RowRoutes),
+    Refused(HybitError),
+}
+
+pub enum NumberAnswer {
+    Number(f64),
+    Refused(HybitError),
+}
+
+// A row's pruned dot: the plot list is packed, and the dot taken on the used parts.
+fn pack_dot(
+    nrows: usize,
+    ncols: usize,
+    row_ptr: &[u32],
+    col_idx: &[u32],
+    values: &[f64],
+    mask_len: usize,
+    mask: &[u64],
+    x: &[f64],
+    row: usize,
+    row_word_ptr: &mut [u32],
+    word_indices: &mut [u32],
+    bits: &mut [u64],
+    row_value_ptr: &mut [u32],
+    packed: &mut [f64],
+) -> DotAnswer
+    ensures answer { λ r. ⌜ toldDot r ≡ packedDot (asCsr nrows ncols (now («row_ptr» .entry)) (now («col_idx» .entry)) (now (values .entry))) (asStoreRoom (length (now («row_word_ptr» .entry))) (length (now («word_indices» .entry))) (length (now (bits .entry))) (length (now («row_value_ptr» .entry))) (length (now (packed .entry)))) (asMask «mask_len» (now (mask .entry))) (now (x .entry)) row ⌝ }
+    ensures lists { λ r. ⌜ Packed (packAnswer (asCsr nrows ncols (now («row_ptr» .entry)) (now («col_idx» .entry)) (now (values .entry))) (asStoreRoom (length (now («row_word_ptr» .entry))) (length (now («word_indices» .entry))) (length (now (bits .entry))) (length (now («row_value_ptr» .entry))) (length (now (packed .entry))))) (storeOf (asCsr nrows ncols (now («row_ptr» .entry)) (now («col_idx» .entry)) (now (values .entry)))) (length (now («row_word_ptr» .entry))) (length (now («word_indices» .entry))) (length (now (bits .entry))) (length (now («row_value_ptr» .entry))) (length (now (packed .entry))) (now («row_word_ptr» .exit)) (now («word_indices» .exit)) (now (bits .exit)) (now («row_value_ptr» .exit)) (now (packed .exit)) ⌝ }
+{
+    let t = metadata_first_build::from_csr32(
+        nrows,
+        ncols,
+        row_ptr,
+        col_idx,
+        values,
+        row_word_ptr,
+        word_indices,
+        bits,
+        row_value_ptr,
+        packed,
+    );
+    match t {
+        TopologyAnswer::Refused(e) => DotAnswer::Refused(e),
+        TopologyAnswer::Built {
+            words,
+            structural_nnz,
+        } => metadata_first_dot::sparse_dot_row(
+            nrows,
+            ncols,
+            &row_word_ptr[..nrows + 1],
+            &word_indices[..words],
+            &bits[..words],
+            structural_nnz,
+            &row_value_ptr[..nrows + 1],
+            &packed[..structural_nnz],
+            row,
+            mask_len,
+            mask,
+            x,
+        ),
+    }
+}

@@ -2,7 +2,7 @@
 // written, so that a list that is too short is known at once.
 ghost use mathlib.Core.Path.{_≡_};
 ghost use mathlib.Core.List.{map, zip};
-ghost use Prim.Native.Nat.{_+_, _≤_, _^_};
+ghost use Prim.Native.Nat.{_+_, _≤_};
 ghost use lib.ListN.{length};
 ghost use mir.Val.{boolByte};
 ghost use Rattle.hybit_core.specs.Answer.{accepted, answers};
@@ -27,7 +27,6 @@ fn one_if(b: bool) -> usize
 
 // How many of the columns are active.
 fn count_active(col_idx: &[u32], mask_len: usize, mask: &[u64]) -> usize
-    requires { ⌜ length (now «col_idx») ≤ 2 ^ 24 ⌝ }
     ensures { λ r. ⌜ r ≡ length (only (active (asMask «mask_len» (now (mask .entry)))) (now («col_idx» .entry))) ⌝ }
 {
     let mut kept: usize = 0;
@@ -49,7 +48,7 @@ fn keep_row(
     out_col_idx: &mut [u32],
     out_values: &mut [f64],
 ) -> usize
-    requires { ⌜ length (now vals) ≡ length (now cols) ⌝ ∗ ⌜ from + length (only (active (asMask «mask_len» (now mask))) (now cols)) ≤ length (now «out_col_idx») ⌝ ∗ ⌜ from + length (only (active (asMask «mask_len» (now mask))) (now cols)) ≤ length (now «out_values») ⌝ }
+    requires { ⌜ length (now vals) ≡ length (now cols) ⌝ ∗ ⌜ from + length (entriesIn (active (asMask «mask_len» (now mask))) (zip (now cols) (now vals))) ≤ length (now «out_col_idx») ⌝ ∗ ⌜ from + length (entriesIn (active (asMask «mask_len» (now mask))) (zip (now cols) (now vals))) ≤ length (now «out_values») ⌝ }
     ensures columns { λ r. ⌜ Appended (map (λ (e : Entry). e .0) (entriesIn (active (asMask «mask_len» (now (mask .entry)))) (zip (now (cols .entry)) (now (vals .entry))))) from r (now («out_col_idx» .entry)) (now («out_col_idx» .exit)) ⌝ }
     ensures values { λ r. ⌜ Appended (map (λ (e : Entry). e .1) (entriesIn (active (asMask «mask_len» (now (mask .entry)))) (zip (now (cols .entry)) (now (vals .entry))))) from r (now («out_values» .entry)) (now («out_values» .exit)) ⌝ }
 {
@@ -89,9 +88,10 @@ fn fill_rows(
     let mut at: usize = 0;
     let mut row: usize = 0;
     while row < nrows {
+        let next = row + 1;
         out_row_ptr[row] = hybit_core::narrow(at);
         let start = hybit_core::wide(row_ptr[row]);
-        let end = hybit_core::wide(row_ptr[row + 1]);
+        let end = hybit_core::wide(row_ptr[next]);
         at = keep_row(
             &col_idx[start..end],
             &values[start..end],
@@ -101,7 +101,7 @@ fn fill_rows(
             out_col_idx,
             out_values,
         );
-        row += 1;
+        row = next;
     }
     out_row_ptr[nrows] = hybit_core::narrow(at);
     at

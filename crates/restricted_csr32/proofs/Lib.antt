@@ -1,0 +1,4 @@
+pub mod KeepLaws
+pub mod FillLaws
+pub mod CallLaws
+pub mod LeftLaws

@@ -2,48 +2,310 @@
 // written: an infinite one is refused before a list that is too short.
 ghost use mathlib.Core.Path.{_≡_};
 ghost use mathlib.Core.Bool.{true};
-ghost use Prim.Native.Nat.{_+_};
+ghost use mathlib.Core.List.{map, zip};
+ghost use Prim.Native.Nat.{_+_, _*_, _≤_, _^_};
+ghost use lib.Dec.{ltb};
 ghost use lib.ListN.{length};
 ghost use Rattle.hybit_core.specs.Answer.{accepted, answers};
 ghost use Rattle.hybit_core.specs.Floats.{zero64, finite};
 ghost use Rattle.hybit_core.specs.Table.{told};
 ghost use Rattle.lent.specs.Lists.{every};
 ghost use Rattle.lent.specs.Lent.{Appended, built};
+ghost use Rattle.word.specs.Bits.{members};
 ghost use Rattle.mask.specs.Mask.{asMask};
+ghost use Rattle.csr32.specs.Csr.{Entry};
 ghost use Rattle.csr32.specs.Made.{asCsrRoom};
-ghost use Rattle.abtm.specs.Tiles.{asTiles};
+ghost use Rattle.abtm.specs.Tiles.{asTiles, wordIn};
 ghost use Rattle.restricted.specs.Restricted.{restrictedTiles, restrictTilesAnswer, tileRestrictionOf, toldRestriction};
+ghost use Rattle.restricted_abtm.specs.Kept.{placeIn, valueIn, keptAll, keptCount, keptAnswer, bitsInside, tileReady};
 use hybit_core::HybitError;
 use hybit_core::Verdict;
 use restricted::ColumnRestriction;
 use restricted::RestrictAnswer;
 
-// Appends a tile's entries in active columns, ascending, from place `from` on; answers the next place. A value stands at the column's
-// place in a Dense tile, and at its rank among the tile's columns in any other.
+// The place of a tile's column among its values: the column's own in a Dense tile, its rank among the tile's columns in any other.
+fn place_in(meta: u32, mask: u64, bit: usize) -> usize
+    ensures { λ r. ⌜ r ≡ placeIn meta mask bit ⌝ }
+{
+    if abtm::kind_in(meta) == 2 {
+        return bit;
+    }
+    word::ones_below(mask, bit)
+}
+
+// Appends a tile's entries in the columns of `bits`, ascending, from place `from` on; answers the next place.
 fn keep_tile(
+    bits: u64,
     mask: u64,
     offset: usize,
     meta: u32,
     values: &[f64],
-    active: u64,
     from: usize,
     out_col_idx: &mut [u32],
     out_values: &mut [f64],
 ) -> usize
+    requires { ⌜ 64 * wordIn meta ≤ 2 ^ 20 ⌝ ∗ ⌜ bitsInside (length (now values)) bits mask offset meta ≡ true ⌝ ∗ ⌜ from + length (members bits) ≤ length (now «out_col_idx») ⌝ ∗ ⌜ from + length (members bits) ≤ length (now «out_values») ⌝ }
+    ensures columns { λ r. ⌜ Appended (map (λ i. 64 * wordIn meta + i) (members bits)) from r (now («out_col_idx» .entry)) (now («out_col_idx» .exit)) ⌝ }
+    ensures values { λ r. ⌜ Appended (map (valueIn (now (values .entry)) mask offset meta) (members bits)) from r (now («out_values» .entry)) (now («out_values» .exit)) ⌝ }
 {
     let base = 64 * hybit_core::wide(abtm::word_in(meta));
-    let dense = abtm::kind_in(meta) == 2;
     let mut at = from;
-    let mut rest = word::intersection(mask, active);
+    let mut rest = bits;
     while rest != 0 {
         let bit = word::lowest(rest);
-        let place = place_of(mask, dense, bit);
+        let place = offset + place_in(meta, mask, bit);
         out_col_idx[at] = hybit_core::narrow(base + bit);
-        out_values[at] = values[offset + place];
+        out_values[at] = values[place];
         at += 1;
         rest = word::without_lowest(rest);
     }
     at
+}
+
+// Appends the entries of a row's tiles in active columns.
+fn keep_row(
+    masks: &[u64],
+    value_offsets: &[u32],
+    metas: &[u32],
+    values: &[f64],
+    mask: &[u64],
+    from: usize,
+    out_col_idx: &mut [u32],
+    out_values: &mut [f64],
+) -> usize
+    requires { ⌜ (length (now «value_offsets») ≡ length (now masks)) × (length (now metas) ≡ length (now masks)) ⌝ ∗ ⌜ every (tileReady (length (now values)) (length (now mask))) (zip (now masks) (zip (now «value_offsets») (now metas))) ≡ true ⌝ ∗ ⌜ length (now mask) ≤ 2 ^ 14 ⌝ ∗ ⌜ from + length (keptAll (now values) (now mask) (zip (now masks) (zip (now «value_offsets») (now metas)))) ≤ length (now «out_col_idx») ⌝ ∗ ⌜ from + length (keptAll (now values) (now mask) (zip (now masks) (zip (now «value_offsets») (now metas)))) ≤ length (now «out_values») ⌝ }
+    ensures columns { λ r. ⌜ Appended (map (λ (e : Entry). e .0) (keptAll (now (values .entry)) (now (mask .entry)) (zip (now (masks .entry)) (zip (now («value_offsets» .entry)) (now (metas .entry)))))) from r (now («out_col_idx» .entry)) (now («out_col_idx» .exit)) ⌝ }
+    ensures values { λ r. ⌜ Appended (map (λ (e : Entry). e .1) (keptAll (now (values .entry)) (now (mask .entry)) (zip (now (masks .entry)) (zip (now («value_offsets» .entry)) (now (metas .entry)))))) from r (now («out_values» .entry)) (now («out_values» .exit)) ⌝ }
+{
+    let mut at = from;
+    let mut k: usize = 0;
+    while k < masks.len() {
+        let word = hybit_core::wide(abtm::word_in(metas[k]));
+        let bits = word::intersection(masks[k], mask[word]);
+        at = keep_tile(
+            bits,
+            masks[k],
+            hybit_core::wide(value_offsets[k]),
+            metas[k],
+            values,
+            at,
+            out_col_idx,
+            out_values,
+        );
+        k += 1;
+    }
+    at
+}
+
+// The rows of an accepted build; answers how many entries were kept.
+fn fill_rows(
+    nrows: usize,
+    ncols: usize,
+    row_tile_ptr: &[u32],
+    masks: &[u64],
+    value_offsets: &[u32],
+    metas: &[u32],
+    values: &[f64],
+    matrix_nnz: usize,
+    mask_len: usize,
+    mask: &[u64],
+    out_row_ptr: &mut [u32],
+    out_col_idx: &mut [u32],
+    out_values: &mut [f64],
+) -> usize
+    requires { ⌜ restrictTilesAnswer (asTiles nrows ncols (now «row_tile_ptr») (now masks) (now «value_offsets») (now metas) (now values) «matrix_nnz») (asMask «mask_len» (now mask)) (asCsrRoom (length (now «out_row_ptr»)) (length (now «out_col_idx»)) (length (now «out_values»))) ≡ accepted ⌝ }
+    ensures kept { λ r. ⌜ r ≡ length (restrictedTiles (asTiles nrows ncols (now («row_tile_ptr» .entry)) (now (masks .entry)) (now («value_offsets» .entry)) (now (metas .entry)) (now (values .entry)) «matrix_nnz») (asMask «mask_len» (now (mask .entry))) .val) ⌝ }
+    ensures pointers { λ r. ⌜ Appended (restrictedTiles (asTiles nrows ncols (now («row_tile_ptr» .entry)) (now (masks .entry)) (now («value_offsets» .entry)) (now (metas .entry)) (now (values .entry)) «matrix_nnz») (asMask «mask_len» (now (mask .entry))) .ptr) 0 (nrows + 1) (now («out_row_ptr» .entry)) (now («out_row_ptr» .exit)) ⌝ }
+    ensures columns { λ r. ⌜ Appended (restrictedTiles (asTiles nrows ncols (now («row_tile_ptr» .entry)) (now (masks .entry)) (now («value_offsets» .entry)) (now (metas .entry)) (now (values .entry)) «matrix_nnz») (asMask «mask_len» (now (mask .entry))) .col) 0 r (now («out_col_idx» .entry)) (now («out_col_idx» .exit)) ⌝ }
+    ensures values { λ r. ⌜ Appended (restrictedTiles (asTiles nrows ncols (now («row_tile_ptr» .entry)) (now (masks .entry)) (now («value_offsets» .entry)) (now (metas .entry)) (now (values .entry)) «matrix_nnz») (asMask «mask_len» (now (mask .entry))) .val) 0 r (now («out_values» .entry)) (now («out_values» .exit)) ⌝ }
+{
+    let mut at: usize = 0;
+    let mut row: usize = 0;
+    while row < nrows {
+        out_row_ptr[row] = hybit_core::narrow(at);
+        let start = hybit_core::wide(row_tile_ptr[row]);
+        let end = hybit_core::wide(row_tile_ptr[row + 1]);
+        at = keep_row(
+            &masks[start..end],
+            &value_offsets[start..end],
+            &metas[start..end],
+            values,
+            mask,
+            at,
+            out_col_idx,
+            out_values,
+        );
+        row += 1;
+    }
+    out_row_ptr[nrows] = hybit_core::narrow(at);
+    at
+}
+
+// Whether a tile's values in the columns of `bits` are finite.
+fn tile_finite(bits: u64, mask: u64, offset: usize, meta: u32, values: &[f64]) -> bool
+    requires { ⌜ bitsInside (length (now values)) bits mask offset meta ≡ true ⌝ }
+    ensures { λ r. ⌜ r ≡ every (λ i. finite (valueIn (now (values .entry)) mask offset meta i)) (members bits) ⌝ }
+{
+    let mut rest = bits;
+    while rest != 0 {
+        let place = offset + place_in(meta, mask, word::lowest(rest));
+        if !hybit_core::is_finite(values[place]) {
+            return false;
+        }
+        rest = word::without_lowest(rest);
+    }
+    true
+}
+
+// Whether the values of tiles in active columns are finite.
+fn active_finite(
+    masks: &[u64],
+    value_offsets: &[u32],
+    metas: &[u32],
+    values: &[f64],
+    mask: &[u64],
+) -> bool
+    requires { ⌜ (length (now «value_offsets») ≡ length (now masks)) × (length (now metas) ≡ length (now masks)) ⌝ ∗ ⌜ every (tileReady (length (now values)) (length (now mask))) (zip (now masks) (zip (now «value_offsets») (now metas))) ≡ true ⌝ }
+    ensures { λ r. ⌜ r ≡ every (λ (e : Entry). finite (e .1)) (keptAll (now (values .entry)) (now (mask .entry)) (zip (now (masks .entry)) (zip (now («value_offsets» .entry)) (now (metas .entry))))) ⌝ }
+{
+    let mut k: usize = 0;
+    while k < masks.len() {
+        let word = hybit_core::wide(abtm::word_in(metas[k]));
+        let tested = word::intersection(masks[k], mask[word]);
+        if !tile_finite(
+            tested,
+            masks[k],
+            hybit_core::wide(value_offsets[k]),
+            metas[k],
+            values,
+        ) {
+            return false;
+        }
+        k += 1;
+    }
+    true
+}
+
+// The same: where all values are finite, the active ones are.
+fn kept_finite(
+    masks: &[u64],
+    value_offsets: &[u32],
+    metas: &[u32],
+    values: &[f64],
+    mask: &[u64],
+) -> bool
+    requires { ⌜ (length (now «value_offsets») ≡ length (now masks)) × (length (now metas) ≡ length (now masks)) ⌝ ∗ ⌜ every (tileReady (length (now values)) (length (now mask))) (zip (now masks) (zip (now «value_offsets») (now metas))) ≡ true ⌝ }
+    ensures { λ r. ⌜ r ≡ every (λ (e : Entry). finite (e .1)) (keptAll (now (values .entry)) (now (mask .entry)) (zip (now (masks .entry)) (zip (now («value_offsets» .entry)) (now (metas .entry))))) ⌝ }
+{
+    if csr32::all_finite(values) {
+        return true;
+    }
+    active_finite(masks, value_offsets, metas, values, mask)
+}
+
+// How many present columns of the tiles are active.
+fn count_kept(masks: &[u64], metas: &[u32], mask: &[u64]) -> usize
+    requires { ⌜ length (now masks) ≤ 2 ^ 24 ⌝ ∗ ⌜ length (now metas) ≡ length (now masks) ⌝ ∗ ⌜ every (λ m. ltb (wordIn m) (length (now mask))) (now metas) ≡ true ⌝ }
+    ensures { λ r. ⌜ r ≡ keptCount (now (mask .entry)) (zip (now (masks .entry)) (now (metas .entry))) ⌝ }
+{
+    let mut kept: usize = 0;
+    let mut k: usize = 0;
+    while k < masks.len() {
+        let word = hybit_core::wide(abtm::word_in(metas[k]));
+        kept += word::popcount(word::intersection(masks[k], mask[word]));
+        k += 1;
+    }
+    kept
+}
+
+// The tests of what is kept: 4, 1, 13.
+fn examine_kept(
+    nrows: usize,
+    masks: &[u64],
+    value_offsets: &[u32],
+    metas: &[u32],
+    values: &[f64],
+    mask: &[u64],
+    pointer_room: usize,
+    column_room: usize,
+    value_room: usize,
+) -> Verdict
+    requires { ⌜ (length (now «value_offsets») ≡ length (now masks)) × (length (now metas) ≡ length (now masks)) ⌝ ∗ ⌜ every (tileReady (length (now values)) (length (now mask))) (zip (now masks) (zip (now «value_offsets») (now metas))) ≡ true ⌝ ∗ ⌜ length (now masks) ≤ 2 ^ 24 ⌝ }
+    ensures { λ r. ⌜ told r ≡ keptAnswer nrows (keptAll (now (values .entry)) (now (mask .entry)) (zip (now (masks .entry)) (zip (now («value_offsets» .entry)) (now (metas .entry))))) (asCsrRoom «pointer_room» «column_room» «value_room») ⌝ }
+{
+    if !kept_finite(masks, value_offsets, metas, values, mask) {
+        return Verdict::Refused(HybitError::NotFinite);
+    }
+    let kept = count_kept(masks, metas, mask);
+    if !hybit_core::entries_fit(kept) {
+        return Verdict::Refused(HybitError::SizeOverflow);
+    }
+    if pointer_room <= nrows {
+        return Verdict::Refused(HybitError::ShortList);
+    }
+    if column_room < kept {
+        return Verdict::Refused(HybitError::ShortList);
+    }
+    if value_room < kept {
+        return Verdict::Refused(HybitError::ShortList);
+    }
+    Verdict::Accepted
+}
+
+fn examine(
+    nrows: usize,
+    ncols: usize,
+    row_tile_ptr: &[u32],
+    masks: &[u64],
+    value_offsets: &[u32],
+    metas: &[u32],
+    values: &[f64],
+    matrix_nnz: usize,
+    mask_len: usize,
+    mask: &[u64],
+    pointer_room: usize,
+    column_room: usize,
+    value_room: usize,
+) -> Verdict
+    ensures { λ r. ⌜ told r ≡ restrictTilesAnswer (asTiles nrows ncols (now («row_tile_ptr» .entry)) (now (masks .entry)) (now («value_offsets» .entry)) (now (metas .entry)) (now (values .entry)) «matrix_nnz») (asMask «mask_len» (now (mask .entry))) (asCsrRoom «pointer_room» «column_room» «value_room») ⌝ }
+{
+    if !hybit_core::dimension_fits(mask_len) {
+        return Verdict::Refused(HybitError::SizeOverflow);
+    }
+    let v = abtm_check::check(
+        nrows,
+        ncols,
+        row_tile_ptr,
+        masks,
+        value_offsets,
+        metas,
+        values,
+        matrix_nnz,
+    );
+    if let Verdict::Refused(e) = v {
+        return Verdict::Refused(e);
+    }
+    let m = mask::check(mask_len, mask);
+    if let Verdict::Refused(e) = m {
+        return Verdict::Refused(e);
+    }
+    if mask_len != ncols {
+        return Verdict::Refused(HybitError::DimensionMismatch {
+            expected: ncols,
+            actual: mask_len,
+        });
+    }
+    examine_kept(
+        nrows,
+        masks,
+        value_offsets,
+        metas,
+        values,
+        mask,
+        pointer_room,
+        column_room,
+        value_room,
+    )
 }
 
 // The entries of accepted tiles in active columns, in `out_row_ptr`, `out_col_idx` and `out_values`: the used parts are nrows + 1

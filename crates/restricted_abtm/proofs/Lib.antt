@@ -1,0 +1,6 @@
+pub mod BitsLaws
+pub mod ReadyLaws
+pub mod KeptLaws
+pub mod EntryLaws
+pub mod FillLaws
+pub mod CallLaws

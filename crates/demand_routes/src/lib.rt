@@ -1,54 +1,40 @@
 // Demand 3's three routes of a row on lent lists: the pruned dot; the dot of the restriction with every plot active; the row product
-// of the list restricted from tiles. proofs/AgreeLaws shows from the theorem of the crate demand that they agree.
+// of the list restricted from tiles. Each runs its calls one after the other and answers the first refusal. proofs/AgreeLaws shows
+// from the theorem of the crate demand that the three agree.
 ghost use mathlib.Core.Path.{_≡_};
 ghost use mathlib.Core.Bool.{true};
-ghost use Prim.Native.Nat.{_<_, _≤_, _^_};
+ghost use mathlib.Core.List.{[]};
+ghost use Prim.Native.Nat.{_≤_, _^_};
 ghost use lib.ListN.{length};
-ghost use lib.Ieee.{Float};
-ghost use Rattle.hybit_core.specs.Answer.{accepted, gives, answers};
-ghost use Rattle.hybit_core.specs.Table.{told};
-ghost use Rattle.lent.specs.Lent.{padded};
+ghost use Rattle.hybit_core.specs.Answer.{_andThen_};
+ghost use Rattle.hybit_core.specs.Floats.{zero64};
+ghost use Rattle.lent.specs.Lent.{padded, built};
 ghost use Rattle.word.specs.Bits.{ceil64};
 ghost use Rattle.mask.specs.Mask.{asMask, maskWords};
 ghost use Rattle.csr32.specs.Csr.{asCsr};
 ghost use Rattle.csr32.specs.Made.{asCsrRoom};
-ghost use Rattle.metadata_first.specs.declared.AbtmRowDot.{AbtmRowDot};
 ghost use Rattle.metadata_first.specs.Dot.{toldDot};
 ghost use Rattle.metadata_first_build.specs.Pack.{asStoreRoom, storeOf, packAnswer};
 ghost use Rattle.abtm.specs.Tiles.{asTiles};
-ghost use Rattle.abtm_build.specs.Build.{asTileRoom};
-ghost use Rattle.restricted.specs.Restricted.{restrictedLeft};
-ghost use Rattle.demand_routes.specs.declared.RowRoutes.{RowRoutes};
-ghost use Rattle.demand_routes.specs.Routes.{asLists, roomOf, routesOf, toldRoutes, routesChecks, routesAnswer, Leaves};
-ghost use Rattle.demand_routes.specs.Steps.{toldNumber, packedDot, allDot, restrictedDot, productIn, listNumber, tileListNumber, tilesNumber, Packed, Relisted, Tiled, Zeros};
+ghost use Rattle.abtm_build.specs.Build.{asTileRoom, tilesFrom, tileAnswer, tiled};
+ghost use Rattle.restricted.specs.Restricted.{restricted, restrictAnswer, restrictedLeft, restrictedTiles, restrictTilesAnswer, restrictedTilesLeft};
+ghost use Rattle.demand_routes.specs.Routes.{toldNumber, packedDot, StoreLists, allAnswer, allDot, restrictedDot, productAnswer, productOf, listNumber, tileListNumber, tilesNumber, PlotLists, TileLists};
 use abtm::AbtmConfig;
 use abtm_build::TilesAnswer;
 use hybit_core::HybitError;
 use hybit_core::Verdict;
-use metadata_first::AbtmRowDot;
 use metadata_first::DotAnswer;
 use restricted::RestrictAnswer;
 use topology::TopologyAnswer;
 
-// What the three routes give: the two reports, and the number alone.
-pub struct RowRoutes {
-    pub pruned: AbtmRowDot,
-    pub restricted: AbtmRowDot,
-    pub tiled: f64,
-}
-
-pub enum RoutesAnswer {
-    Routes(RowRoutes),
-    Refused(HybitError),
-}
-
+// A row product.
 pub enum NumberAnswer {
     Number(f64),
     Refused(HybitError),
 }
 
-// A row's pruned dot: the plot list is packed, and the dot taken on the used parts.
-fn pack_dot(
+// The pruned dot of a row: the plot list is packed, and the dot taken on the used parts. The five lists are what packing leaves.
+pub fn pruned_dot(
     nrows: usize,
     ncols: usize,
     row_ptr: &[u32],
@@ -65,7 +51,7 @@ fn pack_dot(
     packed: &mut [f64],
 ) -> DotAnswer
     ensures answer { λ r. ⌜ toldDot r ≡ packedDot (asCsr nrows ncols (now («row_ptr» .entry)) (now («col_idx» .entry)) (now (values .entry))) (asStoreRoom (length (now («row_word_ptr» .entry))) (length (now («word_indices» .entry))) (length (now (bits .entry))) (length (now («row_value_ptr» .entry))) (length (now (packed .entry)))) (asMask «mask_len» (now (mask .entry))) (now (x .entry)) row ⌝ }
-    ensures lists { λ r. ⌜ Packed (packAnswer (asCsr nrows ncols (now («row_ptr» .entry)) (now («col_idx» .entry)) (now (values .entry))) (asStoreRoom (length (now («row_word_ptr» .entry))) (length (now («word_indices» .entry))) (length (now (bits .entry))) (length (now («row_value_ptr» .entry))) (length (now (packed .entry))))) (storeOf (asCsr nrows ncols (now («row_ptr» .entry)) (now («col_idx» .entry)) (now (values .entry)))) (length (now («row_word_ptr» .entry))) (length (now («word_indices» .entry))) (length (now (bits .entry))) (length (now («row_value_ptr» .entry))) (length (now (packed .entry))) (now («row_word_ptr» .exit)) (now («word_indices» .exit)) (now (bits .exit)) (now («row_value_ptr» .exit)) (now (packed .exit)) ⌝ }
+    ensures store { λ r. ⌜ StoreLists (packAnswer (asCsr nrows ncols (now («row_ptr» .entry)) (now («col_idx» .entry)) (now (values .entry))) (asStoreRoom (length (now («row_word_ptr» .entry))) (length (now («word_indices» .entry))) (length (now (bits .entry))) (length (now («row_value_ptr» .entry))) (length (now (packed .entry))))) (storeOf (asCsr nrows ncols (now («row_ptr» .entry)) (now («col_idx» .entry)) (now (values .entry)))) (asStoreRoom (length (now («row_word_ptr» .entry))) (length (now («word_indices» .entry))) (length (now (bits .entry))) (length (now («row_value_ptr» .entry))) (length (now (packed .entry)))) (now («row_word_ptr» .exit)) (now («word_indices» .exit)) (now (bits .exit)) (now («row_value_ptr» .exit)) (now (packed .exit)) ⌝ }
 {
     let t = metadata_first_build::from_csr32(
         nrows,

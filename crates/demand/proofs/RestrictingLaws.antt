@@ -38,7 +38,7 @@ module _ (m : Csr) (k : Packable m) (a : Mask) where
   cut-few : length (joined cut (m .rows)) ≤ 2 ^ 24
   cut-few = omega (arith, entries-few m k, joined-le cut (entries m) (m .rows) (λ r l. length-only (λ (e : Entry). active a (e .0)) (entries m r)))
 
-  restricted-list : csrAnswer (restricted m a) ≡ accepted
+  pub restricted-list : csrAnswer (restricted m a) ≡ accepted
   unfolding restricted
   restricted-list =
       made-accepted (m .rows) (m .cols) cut (λ r l. every-only (λ (e : Entry). ltb (e .0) (m .cols) && finite (e .1)) (λ (e : Entry). active a (e .0)) (entries m r) (entries-good m k r))
@@ -54,7 +54,7 @@ module _ (m : Csr) (k : Packable m) (a : Mask) where
       let b : (present (entries m r) c && active a c) ≡ true = sym (present-in (active a) (entries m r) c) ∙ e in
       ap finite (merged-in (active a) (entries m r) c (and-right (present (entries m r) c) (active a c) b)) ∙ merged-at m k r c h l (and-left (present (entries m r) c) (active a c) b))
 
-  restricted-finite : mergedFinite (restricted m a) ≡ true
+  pub restricted-finite : mergedFinite (restricted m a) ≡ true
   unfolding mergedFinite restricted csrOf
   restricted-finite =
       every-joined finite (λ r. rowValues (m .cols) (entries (restricted m a) r)) (m .rows)

@@ -1,1 +1,2 @@
 pub mod RouteLaws
+pub mod ExactLaws

@@ -1,10 +1,10 @@
--- `demand_routes::pruned_dot` meets its contract. Assumes nothing.
+-- `demand_routes::pack_dot` meets its contract. Assumes nothing.
 use native.Mathlib.Omega.{arith}
 use lib.ListN.{length-take}
 use Rattle.demand_routes.proofs.RouteLaws.{pack-refused, pack-used, dot-lent}
 use borrow.Author.Needs.{needs}
-use Rattle.demand_routes.proofs.pruned_dot.Statement.{statement}
-use Rattle.demand_routes.proofs.pruned_dot.Tie as tie
+use Rattle.demand_routes.proofs.pack_dot.Statement.{statement}
+use Rattle.demand_routes.proofs.pack_dot.Tie as tie
 
 from-csr32-requires : tie.Need-from-csr32-requires
 from-csr32-requires c κs = search needs
@@ -90,8 +90,8 @@ same-length-10 c = search needs
 returns-2 : tie.Need-returns-2
 returns-2 c = let k = c .before .before .before .before .before .before .before .before .before .before .before .before .before .before .before .before .before .before .before .from-csr32 in (dot-lent _ _ _ _ _ _ _ (k .ensures .0) _ _ (c .before .before .before .before .before .before .before .t2 .given .1) _ _ _ _ _ (k .ensures .1 .0) (k .ensures .1 .1 .0) (k .ensures .1 .1 .1 .0) (k .ensures .1 .1 .1 .1 .0) (k .ensures .1 .1 .1 .1 .1) _ _ _ _ (c .sparse-dot-row .ensures), record { pointers = k .ensures .1 .0; numbers = k .ensures .1 .1 .0; bits = k .ensures .1 .1 .1 .0; starts = k .ensures .1 .1 .1 .1 .0; values = k .ensures .1 .1 .1 .1 .1 })
 
-pub pruned-dot-spec : {M : Type 1} → statement M
-pruned-dot-spec =
+pub pack-dot-spec : {M : Type 1} → statement M
+pack-dot-spec =
     tie.close
     (tie.spec
     from-csr32-requires

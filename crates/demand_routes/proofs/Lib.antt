@@ -1,2 +1,4 @@
 pub mod RouteLaws
 pub mod ExactLaws
+pub mod CheckLaws
+pub mod EndLaws

@@ -1,1 +1,3 @@
 pub mod RouteLaws
+pub mod AllLaws
+pub mod NumberLaws

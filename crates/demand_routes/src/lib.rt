@@ -86,3 +86,92 @@ pub fn pruned_dot(
         ),
     }
 }
+
+// The words of the mask whose every column is active.
+fn fill_active(ncols: usize, words: &mut [u64])
+    requires { ⌜ ncols ≤ 2 ^ 20 ⌝ ∗ ⌜ length (now words) ≡ ceil64 ncols ⌝ }
+    ensures { λ _. ⌜ now (words .exit) ≡ maskWords (λ c. true) ncols ⌝ }
+{
+    let n = words.len();
+    let mut w: usize = 0;
+    while w < n {
+        words[w] = word::trimmed(18446744073709551615, ncols - 64 * w);
+        w += 1;
+    }
+}
+
+// Zeros in the lists of a store.
+fn clear_store(
+    row_word_ptr: &mut [u32],
+    word_indices: &mut [u32],
+    bits: &mut [u64],
+    row_value_ptr: &mut [u32],
+    packed: &mut [f64],
+)
+    ensures pointers { λ _. ⌜ now («row_word_ptr» .exit) ≡ padded 0 (length (now («row_word_ptr» .entry))) [] ⌝ }
+    ensures numbers { λ _. ⌜ now («word_indices» .exit) ≡ padded 0 (length (now («word_indices» .entry))) [] ⌝ }
+    ensures bits { λ _. ⌜ now (bits .exit) ≡ padded 0 (length (now (bits .entry))) [] ⌝ }
+    ensures starts { λ _. ⌜ now («row_value_ptr» .exit) ≡ padded 0 (length (now («row_value_ptr» .entry))) [] ⌝ }
+    ensures values { λ _. ⌜ now (packed .exit) ≡ padded zero64 (length (now (packed .entry))) [] ⌝ }
+{
+    topology::clear_past(0, 0, row_word_ptr, word_indices, bits);
+    lent::clear_from_u32(row_value_ptr, 0);
+    lent::clear_from_f64(packed, 0);
+}
+
+// A row of a plot list's product, which goes to `product`.
+fn list_number(
+    nrows: usize,
+    ncols: usize,
+    row_ptr: &[u32],
+    col_idx: &[u32],
+    values: &[f64],
+    x: &[f64],
+    row: usize,
+    product: &mut [f64],
+) -> NumberAnswer
+    ensures answer { λ r. ⌜ toldNumber r ≡ listNumber (asCsr nrows ncols (now («row_ptr» .entry)) (now («col_idx» .entry)) (now (values .entry))) (now (x .entry)) row (length (now (product .entry))) ⌝ }
+    ensures list { λ r. ⌜ now (product .exit) ≡ built zero64 (length (now (product .entry))) (productAnswer (asCsr nrows ncols (now («row_ptr» .entry)) (now («col_idx» .entry)) (now (values .entry))) (now (x .entry)) row (length (now (product .entry)))) (productOf (asCsr nrows ncols (now («row_ptr» .entry)) (now («col_idx» .entry)) (now (values .entry))) (now (x .entry))) ⌝ }
+{
+    if row >= nrows {
+        lent::clear_from_f64(product, 0);
+        return NumberAnswer::Refused(HybitError::NoSuchPlace);
+    }
+    if product.len() < nrows {
+        lent::clear_from_f64(product, 0);
+        return NumberAnswer::Refused(HybitError::ShortList);
+    }
+    let v = csr32::apply(
+        nrows,
+        ncols,
+        row_ptr,
+        col_idx,
+        values,
+        x,
+        &mut product[..nrows],
+    );
+    if let Verdict::Refused(e) = v {
+        lent::clear_from_f64(product, 0);
+        return NumberAnswer::Refused(e);
+    }
+    lent::clear_from_f64(product, nrows);
+    NumberAnswer::Number(product[row])
+}
+
+// Zeros in the lists of a plot list and of a product.
+fn clear_list(
+    out_row_ptr: &mut [u32],
+    out_col_idx: &mut [u32],
+    out_values: &mut [f64],
+    product: &mut [f64],
+)
+    ensures pointers { λ _. ⌜ now («out_row_ptr» .exit) ≡ padded 0 (length (now («out_row_ptr» .entry))) [] ⌝ }
+    ensures columns { λ _. ⌜ now («out_col_idx» .exit) ≡ padded 0 (length (now («out_col_idx» .entry))) [] ⌝ }
+    ensures values { λ _. ⌜ now («out_values» .exit) ≡ padded zero64 (length (now («out_values» .entry))) [] ⌝ }
+    ensures product { λ _. ⌜ now (product .exit) ≡ padded zero64 (length (now (product .entry))) [] ⌝ }
+{
+    lent::clear_from_u32(out_row_ptr, 0);
+    lent::clear_from_u32(out_col_idx, 0);
+    lent::clear_from_f64(out_values, 0);
+    lent::clear_from_f64(product, 0);
+}

@@ -1,12 +1,12 @@
 -- The mask with every column active, the dot with it, and a restriction before them. Assumes nothing.
 use mathlib.Core.Bool.{Bool, true, _&&_}
-use mathlib.Core.List.{List, []}
+use mathlib.Core.List.{List, [], _++_}
 use mathlib.Core.Path.{_≡_, refl, sym, ap, ap₂, subst, _∙_}
 use Prim.Native.Nat.{ℕ, suc, _+_, _-_, _*_, _^_, _≤_, _<_}
 use native.Mathlib.Numerals.{add-one}
 use native.Mathlib.Omega.{arith}
 use lib.Dec.{leb, ltb}
-use lib.ListN.{length, take}
+use lib.ListN.{length, take, drop, length-append, length-take, length-drop}
 use lib.Ieee.{Float}
 use borrow.Author.Tests.{ltb-true, lt-ltb}
 use Rattle.hybit_core.specs.Answer.{Told, plain, Answer, accepted, refused, Given, gives, refuses, demand, answers, _andThen_}
@@ -14,8 +14,9 @@ use Rattle.hybit_core.specs.Floats.{zero64}
 use Rattle.hybit_core.specs.Table.{paper}
 use Rattle.hybit_core.specs.declared.HybitError.{HybitError}
 use Rattle.hybit_core.proofs.BoolLaws.{and-left, same-test, is-within, is-above}
+use Rattle.lent.specs.Lists.{each}
 use Rattle.lent.specs.Lent.{padded, built}
-use Rattle.lent.proofs.LentLaws.{handed-used}
+use Rattle.lent.proofs.LentLaws.{handed-used, cleared-front}
 use Rattle.word.specs.Bits.{has, wordOf, maskOf, ceil64}
 use Rattle.word.proofs.HasLaws.{has-ones}
 use Rattle.word.proofs.OpLaws.{word-cong}
@@ -43,6 +44,15 @@ active-word n w r e =
     (λ i h. ap (λ (b : Bool). b && ltb i (n - 64 * w)) (has-ones 64 i h)
     ∙ same-test (ltb i (n - 64 * w)) (ltb (64 * w + i) n && true) (λ p. ap (λ (b : Bool). b && true) (lt-ltb (64 * w + i) n (let q = ltb-true i (n - 64 * w) p in omega arith)))
     (λ p. lt-ltb i (n - 64 * w) (let q = ltb-true (64 * w + i) n (and-left (ltb (64 * w + i) n) true p) in omega arith)))
+
+-- front: the words, written to the first w places of old
+pub all-filled : (n w : ℕ) (front old last : List ℕ) → front ≡ maskWords (λ c. true) n → w ≡ ceil64 n → w ≤ length old → last ≡ padded 0 (length (front ++ drop w old)) (take w (front ++ drop w old)) → last ≡ padded 0 (length old) (maskWords (λ c. true) n)
+unfolding maskWords
+all-filled n w front old last ef ew h q =
+    cleared-front 0 w (maskOf (λ c. true) n) front old last (ef ∙ ap (each (maskOf (λ c. true) n)) (sym ew)) h q ∙ ap (λ (i : ℕ). padded 0 (length old) (each (maskOf (λ c. true) n) i)) ew
+
+pub front-long : {A : Type 0} (n : ℕ) (front old : List A) → length front ≡ length (take n old) → n ≤ length old → length (front ++ drop n old) ≡ length old
+front-long n front old e h = simp (length-append, length-drop) (let k = simp length-take at e in omega arith)
 
 -- ---- the dot with it
 

@@ -6,7 +6,7 @@ use Prim.Native.Nat.{ℕ, suc, _+_, _^_, _≤_, _<_}
 use native.Mathlib.Numerals.{add-one}
 use native.Mathlib.Omega.{arith}
 use lib.Dec.{leb}
-use lib.ListN.{length, getD, take, drop, length-append, length-take, length-drop, length-map}
+use lib.ListN.{length, getD, take, drop, length-map}
 use lib.Ieee.{Float, nan}
 use borrow.Author.Tests.{leb-true}
 use Rattle.hybit_core.specs.Answer.{Told, plain, Answer, accepted, refused, Given, gives, refuses, demand, lengthIs, answers, _andThen_}
@@ -23,7 +23,7 @@ use Rattle.lent.specs.Lent.{padded, built, kept}
 use Rattle.lent.proofs.ListLaws.{length-each, length-starts}
 use Rattle.lent.proofs.LentLaws.{getD-padded, cleared-front}
 use Rattle.mask.specs.Mask.{Mask, maskRules, active}
-use Rattle.csr32.specs.Csr.{Csr, asCsr, csrAnswer, entries, rowProduct, applyAnswer, product}
+use Rattle.csr32.specs.Csr.{Csr, Entry, asCsr, csrAnswer, entries, rowProduct, applyAnswer, product}
 use Rattle.csr32.specs.Made.{entriesIn, csrOf, CsrRoom, asCsrRoom, fitsCsr, csrLeft}
 use Rattle.csr32.proofs.CsrLaws.{valid}
 use Rattle.csr32.proofs.MadeLaws.{made-pointers, made-columns, made-values}
@@ -94,9 +94,6 @@ module _ (m : Csr) (x : List Float) (r n : ℕ) where
             let at : getD last r nan ≡ getD (product m x) r nan = ap (λ (l : List Float). getD l r nan) list-is ∙ getD-padded zero64 n r (product m x) nan (omega (arith, product-long)) in
             by-answer accepted (gives g) last (only-apply ∙ is-accepted) (ap gives (eg ∙ at)) list-is
 
-pub front-long : (n : ℕ) (front old : List Float) → length front ≡ length (take n old) → n ≤ length old → length (front ++ drop n old) ≡ length old
-front-long n front old e h = simp (length-append, length-drop) (let k = simp length-take at e in omega arith)
-
 -- ---- a list restricted from tiles, which answered s, in lists of np, nc and nv places
 
 module _ (t : Tiles) (a : Mask) (np nc nv : ℕ) (s : RestrictAnswer) (e : toldRestriction s ≡ answers (restrictTilesAnswer t a (asCsrRoom np nc nv)) (tileRestrictionOf t a)) where
@@ -146,7 +143,7 @@ module _ (t : Tiles) (a : Mask) (np nc nv : ℕ) (s : RestrictAnswer) (e : toldR
     unfolding restrictTilesAnswer tileRestrictionOf tileSizes sizesFit fitsCsr restrictedTiles
     list-used =
         let b = gave (restrictTilesAnswer t a (asCsrRoom np nc nv)) (tileRestrictionOf t a) z (sym (ap toldRestriction k) ∙ e) in
-        let row = λ r. entriesIn (active a) (tileEntries t r) in
+        let row : ℕ → List Entry = λ r. entriesIn (active a) (tileEntries t r) in
         let q : z .«retained_nnz» ≡ length (restrictedTiles t a .val) = ap (λ (i : ColumnRestriction). i .«retained_nnz») (b .1) in
         let c₁ : Bool = few (a .size) && tileSizes t in
         let c₆ : Answer = demand (fitsCsr (restrictedTiles t a) (asCsrRoom np nc nv)) 13 in
@@ -213,15 +210,15 @@ module _ (m : Csr) (h : AbtmConfig) (n₁ n₂ n₃ n₄ n₅ : ℕ) (s : TilesA
         (refl, (record { pointers = ep; columns = ec; values = ev }, ey))
 
     module _ (i j w : ℕ) (k : s ≡ build.Built i j w) where
-      made : (tileAnswer m h (asTileRoom n₁ n₂ n₃ n₄ n₅) ≡ accepted) × ((i, (j, w)) ≡ usedTiles (tilesFrom m h))
-      made = gave (tileAnswer m h (asTileRoom n₁ n₂ n₃ n₄ n₅)) (usedTiles (tilesFrom m h)) (i, (j, w)) (sym (ap toldTiles k) ∙ e)
+      tiles-made : (tileAnswer m h (asTileRoom n₁ n₂ n₃ n₄ n₅) ≡ accepted) × ((i, (j, w)) ≡ usedTiles (tilesFrom m h))
+      tiles-made = gave (tileAnswer m h (asTileRoom n₁ n₂ n₃ n₄ n₅)) (usedTiles (tilesFrom m h)) (i, (j, w)) (sym (ap toldTiles k) ∙ e)
 
-      lent-is : asTiles (m .rows) (m .cols) (take (m .rows + 1) op) (take i ob) (take i oo) (take i ok) (take j ov) w ≡ held
+      tiles-lent : asTiles (m .rows) (m .cols) (take (m .rows + 1) op) (take i ob) (take i oo) (take i ok) (take j ov) w ≡ held
       unfolding tiled
-      lent-is =
-          let ei : i ≡ length (tilesFrom m h .mask) = ap (λ (u : ℕ × (ℕ × ℕ)). u .0) (made .1) in
-          let ej : j ≡ length (tilesFrom m h .vals) = ap (λ (u : ℕ × (ℕ × ℕ)). u .1 .0) (made .1) in
-          let ew : w ≡ tilesFrom m h .nnz = ap (λ (u : ℕ × (ℕ × ℕ)). u .1 .1) (made .1) in
+      tiles-lent =
+          let ei : i ≡ length (tilesFrom m h .mask) = ap (λ (u : ℕ × (ℕ × ℕ)). u .0) (tiles-made .1) in
+          let ej : j ≡ length (tilesFrom m h .vals) = ap (λ (u : ℕ × (ℕ × ℕ)). u .1 .0) (tiles-made .1) in
+          let ew : w ≡ tilesFrom m h .nnz = ap (λ (u : ℕ × (ℕ × ℕ)). u .1 .1) (tiles-made .1) in
           let p = ap₂ (λ (u : ℕ) (l : List ℕ). take u l) (add-one (m .rows)) (ls .pointers) in
           let b = ap₂ (λ (u : ℕ) (l : List ℕ). take u l) ei (ls .bits) in
           let o = ap₂ (λ (u : ℕ) (l : List ℕ). take u l) ei (ls .offsets) in
@@ -232,8 +229,8 @@ module _ (m : Csr) (h : AbtmConfig) (n₁ n₂ n₃ n₄ n₅ : ℕ) (s : TilesA
       pub tiled-number : (g : Given Float) (t : Tiles) → t ≡ asTiles (m .rows) (m .cols) (take (m .rows + 1) op) (take i ob) (take i oo) (take i ok) (take j ov) w → g ≡ tileListNumber t a x r rc n
           → PlotLists (restrictTilesAnswer t a rc) (restrictedTiles t a) rc lp lc lv → y ≡ built zero64 n (restrictTilesAnswer t a rc andThen productAnswer (restrictedTilesLeft t a rc) x r n) (product (restrictedTilesLeft t a rc) x) → Numbers g
       tiled-number g t et eg el ey =
-          by-tiles g accepted (made .0)
-          (subst (λ (u : Tiles). (g ≡ tileListNumber u a x r rc n) × (PlotLists (restrictTilesAnswer u a rc) (restrictedTiles u a) rc lp lc lv × (y ≡ built zero64 n (restrictTilesAnswer u a rc andThen productAnswer (restrictedTilesLeft u a rc) x r n) (product (restrictedTilesLeft u a rc) x)))) (et ∙ lent-is) (eg, (el, ey)))
+          by-tiles g accepted (tiles-made .0)
+          (subst (λ (u : Tiles). (g ≡ tileListNumber u a x r rc n) × (PlotLists (restrictTilesAnswer u a rc) (restrictedTiles u a) rc lp lc lv × (y ≡ built zero64 n (restrictTilesAnswer u a rc andThen productAnswer (restrictedTilesLeft u a rc) x r n) (product (restrictedTilesLeft u a rc) x)))) (et ∙ tiles-lent) (eg, (el, ey)))
 
   -- the used parts lie in their lists
   module _ (i j w : ℕ) (k : s ≡ build.Built i j w) where

@@ -2,7 +2,8 @@
 use native.Mathlib.Omega.{arith}
 use mathlib.Core.Path.{refl}
 use lib.ListN.{length-take}
-use Rattle.demand_routes.proofs.NumberLaws.{row-past, product-short, apply-refused, apply-done, front-long}
+use Rattle.demand_routes.proofs.NumberLaws.{row-past, product-short, apply-refused, apply-done}
+use Rattle.demand_routes.proofs.AllLaws.{front-long}
 use borrow.Author.Needs.{needs}
 use Rattle.demand_routes.proofs.list_number.Statement.{statement}
 use Rattle.demand_routes.proofs.list_number.Tie as tie
@@ -44,7 +45,7 @@ same-length-3 : tie.Need-same-length-3
 same-length-3 c = search needs
 
 returns-3 : tie.Need-returns-3
-returns-3 c = apply-refused _ _ _ _ (c .before .before .before .before .before .before .before .before .before .before .before .before .if1 .left) (c .before .before .before .before .before .before .before .before .before .before .before .if2 .left) _ _ (simp length-take (omega arith)) (c .before .before .before .before .before .before .before .before .before .apply .ensures .0) _ _ _ (c .before .before .before .before .before .v .given .1) (c .before .before .clear-from-f643 .ensures) (front-long _ _ _ (c .before .before .before .before .before .before .before .before .before .apply .kept .1 .1 .1 .1 .1 .1 .0) (c .before .before .before .before .before .before .before .before .before .before .before .if2 .left))
+returns-3 c = apply-refused _ _ _ _ (c .before .before .before .before .before .before .before .before .before .before .before .before .if1 .left) (c .before .before .before .before .before .before .before .before .before .before .before .if2 .left) _ _ (simp length-take (omega arith)) (c .before .before .before .before .before .before .before .before .before .apply .ensures .0) _ _ _ (c .before .before .before .before .before .v .given .1) (c .before .before .clear-from-f643 .ensures) (front-long _ (c .before .before .before .before .before .before .before .before .before .apply .last .1 .1 .1 .1 .1 .1 .0) (c .before .before .before .before .before .before .before .before .before .before .before .before .before .before .before .before .before .before .args .product .now) (c .before .before .before .before .before .before .before .before .before .apply .kept .1 .1 .1 .1 .1 .1 .0) (c .before .before .before .before .before .before .before .before .before .before .before .if2 .left))
 
 enum-told : tie.Need-enum-told
 enum-told c = search needs

@@ -1,3 +1,4 @@
 pub mod RouteLaws
 pub mod AllLaws
 pub mod NumberLaws
+pub mod AgreeLaws

@@ -28,10 +28,11 @@ use Rattle.abtm.specs.Calls.{thresholdAnswer}
 use Rattle.abtm_build.specs.Build.{TileRoom, tilesFrom, fitsTiles, tileAnswer, tiled}
 use Rattle.restricted.specs.Restricted.{restricted, restrictAnswer, restrictedLeft, restrictedTiles, restrictTilesAnswer, restrictedTilesLeft}
 use Rattle.restricted_csr32.proofs.LeftLaws.{left-list}
-use Rattle.demand_routes.specs.Routes.{packedDot, allAnswer, restrictedDot, tilesNumber, StoreLists, PlotLists}
-use Rattle.demand_routes.specs.Calls.{recordsAnswer, questionAnswer, prunedAnswer, rowDot, restrictedFits, restrictedAnswer, restrictedRowDot}
+use Rattle.demand.proofs.TilingLaws.{tiled-is, left-is-list}
+use Rattle.demand_routes.specs.Routes.{packedDot, allAnswer, restrictedDot, productAnswer, productOf, tilesNumber, StoreLists, PlotLists, TileLists}
+use Rattle.demand_routes.specs.Calls.{recordsAnswer, questionAnswer, prunedAnswer, rowDot, restrictedFits, restrictedAnswer, restrictedRowDot, tiledFits, tiledAnswer, tiledRowProduct}
 use Rattle.demand_routes.proofs.RouteLaws.{gave, refused-as}
-use Rattle.demand_routes.proofs.ExactLaws.{Asked, asked, pack-says, kept-packs, pruned-exact, restrict-says, restricted-exact}
+use Rattle.demand_routes.proofs.ExactLaws.{Asked, asked, pack-says, kept-packs, pruned-exact, restrict-says, restricted-exact, tiles-say, cut-said, product-said, tiled-exact}
 use Rattle.demand_routes.proofs.CheckLaws.{checks-accepted}
 
 -- ---- zeros
@@ -133,3 +134,77 @@ module _ (m : Csr) (a : Mask) (x : List Float) (r : ℕ) (rc : CsrRoom) (n : ℕ
         let two = subst (λ (c : Csr). StoreLists (allAnswer c n andThen packAnswer c rp) (storeOf c) rp p w b vp vs) left one in
         let three = subst (λ (t : Answer). StoreLists (t andThen packAnswer (restricted m a) rp) (storeOf (restricted m a)) rp p w b vp vs) second two in
         subst (λ (t : Answer). StoreLists t (storeOf (restricted m a)) rp p w b vp vs) (third ∙ sym good) three
+
+-- ---- tiles, restricting from them, and the row product
+
+module _ (m : Csr) (a : Mask) (h : AbtmConfig) (x : List Float) (r : ℕ) (rt : TileRoom) (rc : CsrRoom) (n : ℕ) (u v w : Verdict)
+    (eu : told u ≡ recordsAnswer m a) (ku : u ≡ Accepted) (ev : told v ≡ thresholdAnswer h) (kv : v ≡ Accepted) (ew : told w ≡ questionAnswer m a x r) (kw : w ≡ Accepted) where
+  put : Asked m a x r
+  put = asked m a x r (accepted-by (recordsAnswer m a) u eu ku) (accepted-by (questionAnswer m a x r) w ew kw)
+
+  limits : thresholdRules h ≡ true
+  unfolding thresholdAnswer
+  limits = demand-accepted (thresholdRules h) 9 (accepted-by (thresholdAnswer h) v ev kv)
+
+  abbrev whole : Answer
+  whole = tiledAnswer m a h x r rt rc n
+
+  tiled-says : whole ≡ tiledFits m a h rt rc n
+  unfolding tiledAnswer
+  tiled-says = rw (accepted-by (recordsAnswer m a) u eu ku, accepted-by (thresholdAnswer h) v ev kv, accepted-by (questionAnswer m a x r) w ew kw)
+
+  pub tiled-told : (g : Given Float) → g ≡ tilesNumber m a x h r rt rc n → g ≡ answers whole (tiledRowProduct m a h x r)
+  tiled-told g e = e ∙ tiled-exact m a x r put h limits rt rc n ∙ ap (λ (t : Answer). answers t (tiledRowProduct m a h x r)) (sym tiled-says)
+
+  pub tiled-short : (t : Told) → refuses t ≡ tilesNumber m a x h r rt rc n → whole ≡ refused t
+  tiled-short t e = refused-as whole (tiledRowProduct m a h x r) t (tiled-told (refuses t) e)
+
+  module _ (d : Float) (e : gives d ≡ tilesNumber m a x h r rt rc n) where
+    all-fine : whole ≡ accepted
+    all-fine = gave whole (tiledRowProduct m a h x r) d (tiled-told (gives d) e) .0
+
+    abbrev cut : Csr
+    cut = restrictedTiles (tilesFrom m h) a
+
+    room-is : (fitsTiles (tilesFrom m h) rt && fitsCsr cut rc && leb (m .rows) n) ≡ true
+    unfolding tiledFits
+    room-is = demand-accepted _ 13 (sym tiled-says ∙ all-fine)
+
+    tiles-fit : fitsTiles (tilesFrom m h) rt ≡ true
+    tiles-fit = and-left (fitsTiles (tilesFrom m h) rt) (fitsCsr cut rc) (and-left (fitsTiles (tilesFrom m h) rt && fitsCsr cut rc) (leb (m .rows) n) room-is)
+
+    built-first : tileAnswer m h rt ≡ accepted
+    built-first = tiles-say m a x r put h limits rt ∙ ap (λ (b : Bool). demand b 13) tiles-fit
+
+    tiles-are : tiled m h rt ≡ tilesFrom m h
+    tiles-are = tiled-is m h rt built-first
+
+    cut-second : restrictTilesAnswer (tilesFrom m h) a rc ≡ accepted
+    cut-second =
+        cut-said m a x r put h limits rc
+        ∙ ap (λ (b : Bool). demand b 13) (and-right (fitsTiles (tilesFrom m h) rt) (fitsCsr cut rc) (and-left (fitsTiles (tilesFrom m h) rt && fitsCsr cut rc) (leb (m .rows) n) room-is))
+
+    cut-left : restrictedTilesLeft (tilesFrom m h) a rc ≡ cut
+    cut-left = left-is-list m (put .packs) a h rc cut-second
+
+    product-third : productAnswer cut x r n ≡ accepted
+    product-third = product-said m a x r put h limits n ∙ ap (λ (b : Bool). demand b 13) (and-right (fitsTiles (tilesFrom m h) rt && fitsCsr cut rc) (leb (m .rows) n) room-is)
+
+    pub tiled-tiles : (p b o k : List ℕ) (vs : List Float) → TileLists (tileAnswer m h rt) (tilesFrom m h) rt p b o k vs → TileLists whole (tilesFrom m h) rt p b o k vs
+    tiled-tiles p b o k vs l = subst (λ (t : Answer). TileLists t (tilesFrom m h) rt p b o k vs) (built-first ∙ sym all-fine) l
+
+    pub tiled-plots : (p c : List ℕ) (vs : List Float) → PlotLists (tileAnswer m h rt andThen restrictTilesAnswer (tiled m h rt) a rc) (restrictedTiles (tiled m h rt) a) rc p c vs → PlotLists whole cut rc p c vs
+    tiled-plots p c vs l =
+        let one = subst (λ (t : Answer). PlotLists (t andThen restrictTilesAnswer (tiled m h rt) a rc) (restrictedTiles (tiled m h rt) a) rc p c vs) built-first l in
+        let two = subst (λ (t : Tiles). PlotLists (restrictTilesAnswer t a rc) (restrictedTiles t a) rc p c vs) tiles-are one in
+        subst (λ (t : Answer). PlotLists t cut rc p c vs) (cut-second ∙ sym all-fine) two
+
+    pub tiled-product : (out : List Float)
+        → out ≡ built zero64 n (tileAnswer m h rt andThen restrictTilesAnswer (tiled m h rt) a rc andThen productAnswer (restrictedTilesLeft (tiled m h rt) a rc) x r n) (productOf (restrictedTilesLeft (tiled m h rt) a rc) x)
+        → out ≡ built zero64 n whole (productOf cut x)
+    tiled-product out q =
+        q
+        ∙ ap (λ (t : Answer). built zero64 n (t andThen restrictTilesAnswer (tiled m h rt) a rc andThen productAnswer (restrictedTilesLeft (tiled m h rt) a rc) x r n) (productOf (restrictedTilesLeft (tiled m h rt) a rc) x)) built-first
+        ∙ ap (λ (t : Tiles). built zero64 n (restrictTilesAnswer t a rc andThen productAnswer (restrictedTilesLeft t a rc) x r n) (productOf (restrictedTilesLeft t a rc) x)) tiles-are
+        ∙ ap₂ (λ (t : Answer) (c : Csr). built zero64 n (t andThen productAnswer c x r n) (productOf c x)) cut-second cut-left
+        ∙ ap (λ (t : Answer). built zero64 n t (productOf cut x)) (product-third ∙ sym all-fine)

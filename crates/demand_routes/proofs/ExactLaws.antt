@@ -146,15 +146,18 @@ module _ (m : Csr) (a : Mask) (x : List Float) (r : ℕ) (k : Asked m a x r) whe
     unfolding tileAnswer thresholdAnswer
     tiles-say rt = rw (k .packs .list, good)
 
-    cut-said : (rc : CsrRoom) → restrictTilesAnswer (tilesFrom m h) a rc ≡ demand (fitsCsr cut rc) 13
+    pub cut-said : (rc : CsrRoom) → restrictTilesAnswer (tilesFrom m h) a rc ≡ demand (fitsCsr cut rc) 13
     cut-said rc = cut-says m (k .packs) a h (k .valid-mask) (k .mask-long) x r (k .vector-long) (k .here) rc
 
+    pub product-said : (n : ℕ) → productAnswer cut x r n ≡ demand (leb (m .rows) n) 13
+    unfolding productAnswer restrictedTiles csrOf tilesFrom tilesOf
+    product-said n =
+        ap₂ (λ (b : Bool) (t : Answer). demand b 7 andThen demand (leb (m .rows) n) 13 andThen t) (lt-ltb r (m .rows) (k .here)) (apply-accepted m (k .packs) a h x (k .vector-long))
+        ∙ last-accepted (leb (m .rows) n)
+
     list-exact : (n : ℕ) → listNumber cut x r n ≡ answers (demand (leb (m .rows) n) 13) (tiledRowProduct m a h x r)
-    unfolding listNumber productAnswer tiledRowProduct restrictedTiles csrOf tilesFrom tilesOf
-    list-exact n =
-        let seven : ltb r (m .rows) ≡ true = lt-ltb r (m .rows) (k .here) in
-        ap₂ (λ (b : Bool) (t : Answer). answers (demand b 7 andThen demand (leb (m .rows) n) 13 andThen t) (getD (product cut x) r nan)) seven (apply-accepted m (k .packs) a h x (k .vector-long))
-        ∙ ap (λ (t : Answer). answers t (getD (product cut x) r nan)) (last-accepted (leb (m .rows) n))
+    unfolding listNumber tiledRowProduct
+    list-exact n = ap (λ (t : Answer). answers t (getD (product cut x) r nan)) (product-said n)
 
     pub tiled-exact : (rt : TileRoom) (rc : CsrRoom) (n : ℕ) → tilesNumber m a x h r rt rc n ≡ answers (tiledFits m a h rt rc n) (tiledRowProduct m a h x r)
     unfolding tilesNumber tileListNumber tiledFits

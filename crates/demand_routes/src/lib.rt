@@ -35,7 +35,7 @@ pub enum NumberAnswer {
     Refused(HybitError),
 }
 
-// The plot list is packed, and the dot taken on the used parts. The five lists are what packing leaves.
+// The pruned dot of a row: the plot list is packed, and the dot taken on the used parts. The five lists are what packing leaves.
 fn pack_dot(
     nrows: usize,
     ncols: usize,
@@ -85,6 +85,337 @@ fn pack_dot(
             mask_len,
             mask,
             x,
+        ),
+    }
+}
+
+// The words of the mask whose every column is active.
+fn fill_active(ncols: usize, words: &mut [u64])
+    requires { ⌜ ncols ≤ 2 ^ 20 ⌝ ∗ ⌜ length (now words) ≡ ceil64 ncols ⌝ }
+    ensures { λ _. ⌜ now (words .exit) ≡ maskWords (λ c. true) ncols ⌝ }
+{
+    let n = words.len();
+    let mut w: usize = 0;
+    while w < n {
+        words[w] = word::trimmed(18446744073709551615, ncols - 64 * w);
+        w += 1;
+    }
+}
+
+// Zeros in the lists of a store.
+fn clear_store(
+    row_word_ptr: &mut [u32],
+    word_indices: &mut [u32],
+    bits: &mut [u64],
+    row_value_ptr: &mut [u32],
+    packed: &mut [f64],
+)
+    ensures pointers { λ _. ⌜ now («row_word_ptr» .exit) ≡ padded 0 (length (now («row_word_ptr» .entry))) [] ⌝ }
+    ensures numbers { λ _. ⌜ now («word_indices» .exit) ≡ padded 0 (length (now («word_indices» .entry))) [] ⌝ }
+    ensures bits { λ _. ⌜ now (bits .exit) ≡ padded 0 (length (now (bits .entry))) [] ⌝ }
+    ensures starts { λ _. ⌜ now («row_value_ptr» .exit) ≡ padded 0 (length (now («row_value_ptr» .entry))) [] ⌝ }
+    ensures values { λ _. ⌜ now (packed .exit) ≡ padded zero64 (length (now (packed .entry))) [] ⌝ }
+{
+    topology::clear_past(0, 0, row_word_ptr, word_indices, bits);
+    lent::clear_from_u32(row_value_ptr, 0);
+    lent::clear_from_f64(packed, 0);
+}
+
+// The pruned dot with every column active; the words of that mask go to `all`.
+fn all_dot(
+    nrows: usize,
+    ncols: usize,
+    row_ptr: &[u32],
+    col_idx: &[u32],
+    values: &[f64],
+    x: &[f64],
+    row: usize,
+    row_word_ptr: &mut [u32],
+    word_indices: &mut [u32],
+    bits: &mut [u64],
+    row_value_ptr: &mut [u32],
+    packed: &mut [f64],
+    all: &mut [u64],
+) -> DotAnswer
+    requires { ⌜ ncols ≤ 2 ^ 20 ⌝ }
+    ensures answer { λ r. ⌜ toldDot r ≡ allDot (asCsr nrows ncols (now («row_ptr» .entry)) (now («col_idx» .entry)) (now (values .entry))) (now (x .entry)) row (length (now (all .entry))) (asStoreRoom (length (now («row_word_ptr» .entry))) (length (now («word_indices» .entry))) (length (now (bits .entry))) (length (now («row_value_ptr» .entry))) (length (now (packed .entry)))) ⌝ }
+    ensures all { λ r. ⌜ now (all .exit) ≡ built 0 (length (now (all .entry))) (allAnswer (asCsr nrows ncols (now («row_ptr» .entry)) (now («col_idx» .entry)) (now (values .entry))) (length (now (all .entry)))) (maskWords (λ c. true) ncols) ⌝ }
+    ensures store { λ r. ⌜ StoreLists (allAnswer (asCsr nrows ncols (now («row_ptr» .entry)) (now («col_idx» .entry)) (now (values .entry))) (length (now (all .entry))) andThen packAnswer (asCsr nrows ncols (now («row_ptr» .entry)) (now («col_idx» .entry)) (now (values .entry))) (asStoreRoom (length (now («row_word_ptr» .entry))) (length (now («word_indices» .entry))) (length (now (bits .entry))) (length (now («row_value_ptr» .entry))) (length (now (packed .entry))))) (storeOf (asCsr nrows ncols (now («row_ptr» .entry)) (now («col_idx» .entry)) (now (values .entry)))) (asStoreRoom (length (now («row_word_ptr» .entry))) (length (now («word_indices» .entry))) (length (now (bits .entry))) (length (now («row_value_ptr» .entry))) (length (now (packed .entry)))) (now («row_word_ptr» .exit)) (now («word_indices» .exit)) (now (bits .exit)) (now («row_value_ptr» .exit)) (now (packed .exit)) ⌝ }
+{
+    let words = (ncols + 63) / 64;
+    if all.len() < words {
+        lent::clear_from_u64(all, 0);
+        clear_store(row_word_ptr, word_indices, bits, row_value_ptr, packed);
+        return DotAnswer::Refused(HybitError::ShortList);
+    }
+    fill_active(ncols, &mut all[..words]);
+    lent::clear_from_u64(all, words);
+    pack_dot(
+        nrows,
+        ncols,
+        row_ptr,
+        col_idx,
+        values,
+        ncols,
+        &all[..words],
+        x,
+        row,
+        row_word_ptr,
+        word_indices,
+        bits,
+        row_value_ptr,
+        packed,
+    )
+}
+
+// The dot of a row of the restriction to the active columns, packed, with every column active. Each list is what the call that writes
+// it leaves.
+fn restrict_dot(
+    nrows: usize,
+    ncols: usize,
+    row_ptr: &[u32],
+    col_idx: &[u32],
+    values: &[f64],
+    mask_len: usize,
+    mask: &[u64],
+    x: &[f64],
+    row: usize,
+    out_row_ptr: &mut [u32],
+    out_col_idx: &mut [u32],
+    out_values: &mut [f64],
+    row_word_ptr: &mut [u32],
+    word_indices: &mut [u32],
+    bits: &mut [u64],
+    row_value_ptr: &mut [u32],
+    packed: &mut [f64],
+    all: &mut [u64],
+) -> DotAnswer
+    ensures answer { λ r. ⌜ toldDot r ≡ restrictedDot (asCsr nrows ncols (now («row_ptr» .entry)) (now («col_idx» .entry)) (now (values .entry))) (asMask «mask_len» (now (mask .entry))) (now (x .entry)) row (asCsrRoom (length (now («out_row_ptr» .entry))) (length (now («out_col_idx» .entry))) (length (now («out_values» .entry)))) (length (now (all .entry))) (asStoreRoom (length (now («row_word_ptr» .entry))) (length (now («word_indices» .entry))) (length (now (bits .entry))) (length (now («row_value_ptr» .entry))) (length (now (packed .entry)))) ⌝ }
+    ensures list { λ r. ⌜ PlotLists (restrictAnswer (asCsr nrows ncols (now («row_ptr» .entry)) (now («col_idx» .entry)) (now (values .entry))) (asMask «mask_len» (now (mask .entry))) (asCsrRoom (length (now («out_row_ptr» .entry))) (length (now («out_col_idx» .entry))) (length (now («out_values» .entry))))) (restricted (asCsr nrows ncols (now («row_ptr» .entry)) (now («col_idx» .entry)) (now (values .entry))) (asMask «mask_len» (now (mask .entry)))) (asCsrRoom (length (now («out_row_ptr» .entry))) (length (now («out_col_idx» .entry))) (length (now («out_values» .entry)))) (now («out_row_ptr» .exit)) (now («out_col_idx» .exit)) (now («out_values» .exit)) ⌝ }
+    ensures all { λ r. ⌜ now (all .exit) ≡ built 0 (length (now (all .entry))) (restrictAnswer (asCsr nrows ncols (now («row_ptr» .entry)) (now («col_idx» .entry)) (now (values .entry))) (asMask «mask_len» (now (mask .entry))) (asCsrRoom (length (now («out_row_ptr» .entry))) (length (now («out_col_idx» .entry))) (length (now («out_values» .entry)))) andThen allAnswer (restrictedLeft (asCsr nrows ncols (now («row_ptr» .entry)) (now («col_idx» .entry)) (now (values .entry))) (asMask «mask_len» (now (mask .entry))) (asCsrRoom (length (now («out_row_ptr» .entry))) (length (now («out_col_idx» .entry))) (length (now («out_values» .entry))))) (length (now (all .entry)))) (maskWords (λ c. true) ncols) ⌝ }
+    ensures store { λ r. ⌜ StoreLists (restrictAnswer (asCsr nrows ncols (now («row_ptr» .entry)) (now («col_idx» .entry)) (now (values .entry))) (asMask «mask_len» (now (mask .entry))) (asCsrRoom (length (now («out_row_ptr» .entry))) (length (now («out_col_idx» .entry))) (length (now («out_values» .entry)))) andThen allAnswer (restrictedLeft (asCsr nrows ncols (now («row_ptr» .entry)) (now («col_idx» .entry)) (now (values .entry))) (asMask «mask_len» (now (mask .entry))) (asCsrRoom (length (now («out_row_ptr» .entry))) (length (now («out_col_idx» .entry))) (length (now («out_values» .entry))))) (length (now (all .entry))) andThen packAnswer (restrictedLeft (asCsr nrows ncols (now («row_ptr» .entry)) (now («col_idx» .entry)) (now (values .entry))) (asMask «mask_len» (now (mask .entry))) (asCsrRoom (length (now («out_row_ptr» .entry))) (length (now («out_col_idx» .entry))) (length (now («out_values» .entry))))) (asStoreRoom (length (now («row_word_ptr» .entry))) (length (now («word_indices» .entry))) (length (now (bits .entry))) (length (now («row_value_ptr» .entry))) (length (now (packed .entry))))) (storeOf (restrictedLeft (asCsr nrows ncols (now («row_ptr» .entry)) (now («col_idx» .entry)) (now (values .entry))) (asMask «mask_len» (now (mask .entry))) (asCsrRoom (length (now («out_row_ptr» .entry))) (length (now («out_col_idx» .entry))) (length (now («out_values» .entry)))))) (asStoreRoom (length (now («row_word_ptr» .entry))) (length (now («word_indices» .entry))) (length (now (bits .entry))) (length (now («row_value_ptr» .entry))) (length (now (packed .entry)))) (now («row_word_ptr» .exit)) (now («word_indices» .exit)) (now (bits .exit)) (now («row_value_ptr» .exit)) (now (packed .exit)) ⌝ }
+{
+    let t = restricted_csr32::from_csr32(
+        nrows,
+        ncols,
+        row_ptr,
+        col_idx,
+        values,
+        mask_len,
+        mask,
+        out_row_ptr,
+        out_col_idx,
+        out_values,
+    );
+    match t {
+        RestrictAnswer::Refused(e) => {
+            lent::clear_from_u64(all, 0);
+            clear_store(row_word_ptr, word_indices, bits, row_value_ptr, packed);
+            DotAnswer::Refused(e)
+        }
+        RestrictAnswer::Built(s) => {
+            let kept = s.retained_nnz;
+            all_dot(
+                nrows,
+                ncols,
+                &out_row_ptr[..nrows + 1],
+                &out_col_idx[..kept],
+                &out_values[..kept],
+                x,
+                row,
+                row_word_ptr,
+                word_indices,
+                bits,
+                row_value_ptr,
+                packed,
+                all,
+            )
+        }
+    }
+}
+
+// A row of a plot list's product, which goes to `product`.
+fn list_number(
+    nrows: usize,
+    ncols: usize,
+    row_ptr: &[u32],
+    col_idx: &[u32],
+    values: &[f64],
+    x: &[f64],
+    row: usize,
+    product: &mut [f64],
+) -> NumberAnswer
+    ensures answer { λ r. ⌜ toldNumber r ≡ listNumber (asCsr nrows ncols (now («row_ptr» .entry)) (now («col_idx» .entry)) (now (values .entry))) (now (x .entry)) row (length (now (product .entry))) ⌝ }
+    ensures list { λ r. ⌜ now (product .exit) ≡ built zero64 (length (now (product .entry))) (productAnswer (asCsr nrows ncols (now («row_ptr» .entry)) (now («col_idx» .entry)) (now (values .entry))) (now (x .entry)) row (length (now (product .entry)))) (productOf (asCsr nrows ncols (now («row_ptr» .entry)) (now («col_idx» .entry)) (now (values .entry))) (now (x .entry))) ⌝ }
+{
+    if row >= nrows {
+        lent::clear_from_f64(product, 0);
+        return NumberAnswer::Refused(HybitError::NoSuchPlace);
+    }
+    if product.len() < nrows {
+        lent::clear_from_f64(product, 0);
+        return NumberAnswer::Refused(HybitError::ShortList);
+    }
+    let v = csr32::apply(
+        nrows,
+        ncols,
+        row_ptr,
+        col_idx,
+        values,
+        x,
+        &mut product[..nrows],
+    );
+    if let Verdict::Refused(e) = v {
+        lent::clear_from_f64(product, 0);
+        return NumberAnswer::Refused(e);
+    }
+    lent::clear_from_f64(product, nrows);
+    NumberAnswer::Number(product[row])
+}
+
+// The row product of the list restricted from tiles.
+fn tile_list_number(
+    nrows: usize,
+    ncols: usize,
+    row_tile_ptr: &[u32],
+    tile_masks: &[u64],
+    value_offsets: &[u32],
+    metas: &[u32],
+    tile_values: &[f64],
+    matrix_nnz: usize,
+    mask_len: usize,
+    mask: &[u64],
+    x: &[f64],
+    row: usize,
+    out_row_ptr: &mut [u32],
+    out_col_idx: &mut [u32],
+    out_values: &mut [f64],
+    product: &mut [f64],
+) -> NumberAnswer
+    ensures answer { λ r. ⌜ toldNumber r ≡ tileListNumber (asTiles nrows ncols (now («row_tile_ptr» .entry)) (now («tile_masks» .entry)) (now («value_offsets» .entry)) (now (metas .entry)) (now («tile_values» .entry)) «matrix_nnz») (asMask «mask_len» (now (mask .entry))) (now (x .entry)) row (asCsrRoom (length (now («out_row_ptr» .entry))) (length (now («out_col_idx» .entry))) (length (now («out_values» .entry)))) (length (now (product .entry))) ⌝ }
+    ensures list { λ r. ⌜ PlotLists (restrictTilesAnswer (asTiles nrows ncols (now («row_tile_ptr» .entry)) (now («tile_masks» .entry)) (now («value_offsets» .entry)) (now (metas .entry)) (now («tile_values» .entry)) «matrix_nnz») (asMask «mask_len» (now (mask .entry))) (asCsrRoom (length (now («out_row_ptr» .entry))) (length (now («out_col_idx» .entry))) (length (now («out_values» .entry))))) (restrictedTiles (asTiles nrows ncols (now («row_tile_ptr» .entry)) (now («tile_masks» .entry)) (now («value_offsets» .entry)) (now (metas .entry)) (now («tile_values» .entry)) «matrix_nnz») (asMask «mask_len» (now (mask .entry)))) (asCsrRoom (length (now («out_row_ptr» .entry))) (length (now («out_col_idx» .entry))) (length (now («out_values» .entry)))) (now («out_row_ptr» .exit)) (now («out_col_idx» .exit)) (now («out_values» .exit)) ⌝ }
+    ensures product { λ r. ⌜ now (product .exit) ≡ built zero64 (length (now (product .entry))) (restrictTilesAnswer (asTiles nrows ncols (now («row_tile_ptr» .entry)) (now («tile_masks» .entry)) (now («value_offsets» .entry)) (now (metas .entry)) (now («tile_values» .entry)) «matrix_nnz») (asMask «mask_len» (now (mask .entry))) (asCsrRoom (length (now («out_row_ptr» .entry))) (length (now («out_col_idx» .entry))) (length (now («out_values» .entry)))) andThen productAnswer (restrictedTilesLeft (asTiles nrows ncols (now («row_tile_ptr» .entry)) (now («tile_masks» .entry)) (now («value_offsets» .entry)) (now (metas .entry)) (now («tile_values» .entry)) «matrix_nnz») (asMask «mask_len» (now (mask .entry))) (asCsrRoom (length (now («out_row_ptr» .entry))) (length (now («out_col_idx» .entry))) (length (now («out_values» .entry))))) (now (x .entry)) row (length (now (product .entry)))) (productOf (restrictedTilesLeft (asTiles nrows ncols (now («row_tile_ptr» .entry)) (now («tile_masks» .entry)) (now («value_offsets» .entry)) (now (metas .entry)) (now («tile_values» .entry)) «matrix_nnz») (asMask «mask_len» (now (mask .entry))) (asCsrRoom (length (now («out_row_ptr» .entry))) (length (now («out_col_idx» .entry))) (length (now («out_values» .entry))))) (now (x .entry))) ⌝ }
+{
+    let t = restricted_abtm::from_abtm(
+        nrows,
+        ncols,
+        row_tile_ptr,
+        tile_masks,
+        value_offsets,
+        metas,
+        tile_values,
+        matrix_nnz,
+        mask_len,
+        mask,
+        out_row_ptr,
+        out_col_idx,
+        out_values,
+    );
+    match t {
+        RestrictAnswer::Refused(e) => {
+            lent::clear_from_f64(product, 0);
+            NumberAnswer::Refused(e)
+        }
+        RestrictAnswer::Built(s) => {
+            let kept = s.retained_nnz;
+            list_number(
+                nrows,
+                ncols,
+                &out_row_ptr[..nrows + 1],
+                &out_col_idx[..kept],
+                &out_values[..kept],
+                x,
+                row,
+                product,
+            )
+        }
+    }
+}
+
+// Zeros in the lists of a plot list and of a product.
+fn clear_list(
+    out_row_ptr: &mut [u32],
+    out_col_idx: &mut [u32],
+    out_values: &mut [f64],
+    product: &mut [f64],
+)
+    ensures pointers { λ _. ⌜ now («out_row_ptr» .exit) ≡ padded 0 (length (now («out_row_ptr» .entry))) [] ⌝ }
+    ensures columns { λ _. ⌜ now («out_col_idx» .exit) ≡ padded 0 (length (now («out_col_idx» .entry))) [] ⌝ }
+    ensures values { λ _. ⌜ now («out_values» .exit) ≡ padded zero64 (length (now («out_values» .entry))) [] ⌝ }
+    ensures product { λ _. ⌜ now (product .exit) ≡ padded zero64 (length (now (product .entry))) [] ⌝ }
+{
+    lent::clear_from_u32(out_row_ptr, 0);
+    lent::clear_from_u32(out_col_idx, 0);
+    lent::clear_from_f64(out_values, 0);
+    lent::clear_from_f64(product, 0);
+}
+
+// The row product of the list restricted from the plot list's tiles. Each list is what the call that writes it leaves.
+fn tile_number(
+    nrows: usize,
+    ncols: usize,
+    row_ptr: &[u32],
+    col_idx: &[u32],
+    values: &[f64],
+    mask_len: usize,
+    mask: &[u64],
+    config: AbtmConfig,
+    x: &[f64],
+    row: usize,
+    row_tile_ptr: &mut [u32],
+    tile_masks: &mut [u64],
+    value_offsets: &mut [u32],
+    metas: &mut [u32],
+    tile_values: &mut [f64],
+    out_row_ptr: &mut [u32],
+    out_col_idx: &mut [u32],
+    out_values: &mut [f64],
+    product: &mut [f64],
+) -> NumberAnswer
+    ensures answer { λ r. ⌜ toldNumber r ≡ tilesNumber (asCsr nrows ncols (now («row_ptr» .entry)) (now («col_idx» .entry)) (now (values .entry))) (asMask «mask_len» (now (mask .entry))) (now (x .entry)) config row (asTileRoom (length (now («row_tile_ptr» .entry))) (length (now («tile_masks» .entry))) (length (now («value_offsets» .entry))) (length (now (metas .entry))) (length (now («tile_values» .entry)))) (asCsrRoom (length (now («out_row_ptr» .entry))) (length (now («out_col_idx» .entry))) (length (now («out_values» .entry)))) (length (now (product .entry))) ⌝ }
+    ensures tiles { λ r. ⌜ TileLists (tileAnswer (asCsr nrows ncols (now («row_ptr» .entry)) (now («col_idx» .entry)) (now (values .entry))) config (asTileRoom (length (now («row_tile_ptr» .entry))) (length (now («tile_masks» .entry))) (length (now («value_offsets» .entry))) (length (now (metas .entry))) (length (now («tile_values» .entry))))) (tilesFrom (asCsr nrows ncols (now («row_ptr» .entry)) (now («col_idx» .entry)) (now (values .entry))) config) (asTileRoom (length (now («row_tile_ptr» .entry))) (length (now («tile_masks» .entry))) (length (now («value_offsets» .entry))) (length (now (metas .entry))) (length (now («tile_values» .entry)))) (now («row_tile_ptr» .exit)) (now («tile_masks» .exit)) (now («value_offsets» .exit)) (now (metas .exit)) (now («tile_values» .exit)) ⌝ }
+    ensures list { λ r. ⌜ PlotLists (tileAnswer (asCsr nrows ncols (now («row_ptr» .entry)) (now («col_idx» .entry)) (now (values .entry))) config (asTileRoom (length (now («row_tile_ptr» .entry))) (length (now («tile_masks» .entry))) (length (now («value_offsets» .entry))) (length (now (metas .entry))) (length (now («tile_values» .entry)))) andThen restrictTilesAnswer (tiled (asCsr nrows ncols (now («row_ptr» .entry)) (now («col_idx» .entry)) (now (values .entry))) config (asTileRoom (length (now («row_tile_ptr» .entry))) (length (now («tile_masks» .entry))) (length (now («value_offsets» .entry))) (length (now (metas .entry))) (length (now («tile_values» .entry))))) (asMask «mask_len» (now (mask .entry))) (asCsrRoom (length (now («out_row_ptr» .entry))) (length (now («out_col_idx» .entry))) (length (now («out_values» .entry))))) (restrictedTiles (tiled (asCsr nrows ncols (now («row_ptr» .entry)) (now («col_idx» .entry)) (now (values .entry))) config (asTileRoom (length (now («row_tile_ptr» .entry))) (length (now («tile_masks» .entry))) (length (now («value_offsets» .entry))) (length (now (metas .entry))) (length (now («tile_values» .entry))))) (asMask «mask_len» (now (mask .entry)))) (asCsrRoom (length (now («out_row_ptr» .entry))) (length (now («out_col_idx» .entry))) (length (now («out_values» .entry)))) (now («out_row_ptr» .exit)) (now («out_col_idx» .exit)) (now («out_values» .exit)) ⌝ }
+    ensures product { λ r. ⌜ now (product .exit) ≡ built zero64 (length (now (product .entry))) (tileAnswer (asCsr nrows ncols (now («row_ptr» .entry)) (now («col_idx» .entry)) (now (values .entry))) config (asTileRoom (length (now («row_tile_ptr» .entry))) (length (now («tile_masks» .entry))) (length (now («value_offsets» .entry))) (length (now (metas .entry))) (length (now («tile_values» .entry)))) andThen restrictTilesAnswer (tiled (asCsr nrows ncols (now («row_ptr» .entry)) (now («col_idx» .entry)) (now (values .entry))) config (asTileRoom (length (now («row_tile_ptr» .entry))) (length (now («tile_masks» .entry))) (length (now («value_offsets» .entry))) (length (now (metas .entry))) (length (now («tile_values» .entry))))) (asMask «mask_len» (now (mask .entry))) (asCsrRoom (length (now («out_row_ptr» .entry))) (length (now («out_col_idx» .entry))) (length (now («out_values» .entry)))) andThen productAnswer (restrictedTilesLeft (tiled (asCsr nrows ncols (now («row_ptr» .entry)) (now («col_idx» .entry)) (now (values .entry))) config (asTileRoom (length (now («row_tile_ptr» .entry))) (length (now («tile_masks» .entry))) (length (now («value_offsets» .entry))) (length (now (metas .entry))) (length (now («tile_values» .entry))))) (asMask «mask_len» (now (mask .entry))) (asCsrRoom (length (now («out_row_ptr» .entry))) (length (now («out_col_idx» .entry))) (length (now («out_values» .entry))))) (now (x .entry)) row (length (now (product .entry)))) (productOf (restrictedTilesLeft (tiled (asCsr nrows ncols (now («row_ptr» .entry)) (now («col_idx» .entry)) (now (values .entry))) config (asTileRoom (length (now («row_tile_ptr» .entry))) (length (now («tile_masks» .entry))) (length (now («value_offsets» .entry))) (length (now (metas .entry))) (length (now («tile_values» .entry))))) (asMask «mask_len» (now (mask .entry))) (asCsrRoom (length (now («out_row_ptr» .entry))) (length (now («out_col_idx» .entry))) (length (now («out_values» .entry))))) (now (x .entry))) ⌝ }
+{
+    let t = abtm_build::from_csr32(
+        nrows,
+        ncols,
+        row_ptr,
+        col_idx,
+        values,
+        config,
+        row_tile_ptr,
+        tile_masks,
+        value_offsets,
+        metas,
+        tile_values,
+    );
+    match t {
+        TilesAnswer::Refused(e) => {
+            clear_list(out_row_ptr, out_col_idx, out_values, product);
+            NumberAnswer::Refused(e)
+        }
+        TilesAnswer::Built {
+            tiles,
+            value_slots,
+            matrix_nnz,
+        } => tile_list_number(
+            nrows,
+            ncols,
+            &row_tile_ptr[..nrows + 1],
+            &tile_masks[..tiles],
+            &value_offsets[..tiles],
+            &metas[..tiles],
+            &tile_values[..value_slots],
+            matrix_nnz,
+            mask_len,
+            mask,
+            x,
+            row,
+            out_row_ptr,
+            out_col_idx,
+            out_values,
+            product,
         ),
     }
 }

@@ -115,7 +115,7 @@ module _ (m : Csr) (a : Mask) (np nc nv : ℕ) (t : RestrictAnswer) (e : toldRes
     restrict-none q k ea ep ew em ev ex =
         let z : restrictAnswer m a (asCsrRoom np nc nv) ≡ refused (paper q) = refused-as (restrictAnswer m a (asCsrRoom np nc nv)) (restrictionOf m a) (paper q) (sym (ap toldRestriction k) ∙ e) in
         let y = subst (λ (s : Answer). (refuses (paper q) ≡ after s (allDot left x r n rp)) × ((oa ≡ built 0 n (s andThen allAnswer left n) (maskWords (λ c. true) (m .cols))) × StoreLists (s andThen allAnswer left n andThen packAnswer left rp) (storeOf left) rp op ow om ov ox))
-            (sym z) (refl, (ea, record { pointers = ep; numbers = ew; bits = em; starts = ev; values = ex })) in
+        (sym z) (refl, (ea, record { pointers = ep; numbers = ew; bits = em; starts = ev; values = ex })) in
         (y .0, (ls, (y .1 .0, y .1 .1)))
 
     module _ (s : ColumnRestriction) (k : t ≡ restriction.Built s) where

@@ -137,21 +137,33 @@ module _ (m : Csr) (a : Mask) (x : List Float) (r : ℕ) (rc : CsrRoom) (n : ℕ
 
 -- ---- tiles, restricting from them, and the row product
 
-module _ (m : Csr) (a : Mask) (h : AbtmConfig) (x : List Float) (r : ℕ) (rt : TileRoom) (rc : CsrRoom) (n : ℕ) (u v w : Verdict)
-    (eu : told u ≡ recordsAnswer m a) (ku : u ≡ Accepted) (ev : told v ≡ thresholdAnswer h) (kv : v ≡ Accepted) (ew : told w ≡ questionAnswer m a x r) (kw : w ≡ Accepted) where
+module _ (m : Csr) (a : Mask) (h : AbtmConfig) (x : List Float) (r : ℕ) (rt : TileRoom) (rc : CsrRoom) (n : ℕ) (v : Verdict)
+    (ev : told v ≡ recordsAnswer m a andThen thresholdAnswer h andThen questionAnswer m a x r) (kv : v ≡ Accepted) where
+  checked : recordsAnswer m a andThen thresholdAnswer h andThen questionAnswer m a x r ≡ accepted
+  checked = accepted-by (recordsAnswer m a andThen thresholdAnswer h andThen questionAnswer m a x r) v ev kv
+
+  records-good : recordsAnswer m a ≡ accepted
+  records-good = then-first (recordsAnswer m a) (thresholdAnswer h andThen questionAnswer m a x r) checked
+
+  limits-good : thresholdAnswer h ≡ accepted
+  limits-good = then-first (thresholdAnswer h) (questionAnswer m a x r) (then-second (recordsAnswer m a) (thresholdAnswer h andThen questionAnswer m a x r) checked)
+
+  question-good : questionAnswer m a x r ≡ accepted
+  question-good = then-second (thresholdAnswer h) (questionAnswer m a x r) (then-second (recordsAnswer m a) (thresholdAnswer h andThen questionAnswer m a x r) checked)
+
   put : Asked m a x r
-  put = asked m a x r (accepted-by (recordsAnswer m a) u eu ku) (accepted-by (questionAnswer m a x r) w ew kw)
+  put = asked m a x r records-good question-good
 
   limits : thresholdRules h ≡ true
   unfolding thresholdAnswer
-  limits = demand-accepted (thresholdRules h) 9 (accepted-by (thresholdAnswer h) v ev kv)
+  limits = demand-accepted (thresholdRules h) 9 limits-good
 
   abbrev whole : Answer
   whole = tiledAnswer m a h x r rt rc n
 
   tiled-says : whole ≡ tiledFits m a h rt rc n
   unfolding tiledAnswer
-  tiled-says = rw (accepted-by (recordsAnswer m a) u eu ku, accepted-by (thresholdAnswer h) v ev kv, accepted-by (questionAnswer m a x r) w ew kw)
+  tiled-says = rw (records-good, limits-good, question-good)
 
   pub tiled-told : (g : Given Float) → g ≡ tilesNumber m a x h r rt rc n → g ≡ answers whole (tiledRowProduct m a h x r)
   tiled-told g e = e ∙ tiled-exact m a x r put h limits rt rc n ∙ ap (λ (t : Answer). answers t (tiledRowProduct m a h x r)) (sym tiled-says)

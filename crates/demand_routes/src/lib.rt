@@ -16,6 +16,7 @@ ghost use Rattle.csr32.specs.Csr.{asCsr};
 ghost use Rattle.csr32.specs.Made.{asCsrRoom};
 ghost use Rattle.metadata_first.specs.Dot.{toldDot};
 ghost use Rattle.metadata_first_build.specs.Pack.{asStoreRoom, storeOf, packAnswer};
+ghost use Rattle.abtm.specs.Calls.{thresholdAnswer};
 ghost use Rattle.abtm.specs.Tiles.{asTiles};
 ghost use Rattle.abtm_build.specs.Build.{asTileRoom, tilesFrom, tileAnswer, tiled};
 ghost use Rattle.restricted.specs.Restricted.{restricted, restrictAnswer, restrictedLeft, restrictedTiles, restrictTilesAnswer, restrictedTilesLeft};
@@ -493,7 +494,15 @@ fn examine(
         return Verdict::Refused(e);
     }
     examine_question(
-        nrows, ncols, row_ptr, col_idx, values, mask_len, mask, x, row,
+        nrows,
+        ncols,
+        row_ptr,
+        col_idx,
+        values,
+        mask_len,
+        mask,
+        x,
+        row,
     )
 }
 
@@ -520,14 +529,18 @@ pub fn pruned_dot(
     ensures store { λ r. ⌜ StoreLists (prunedAnswer (asCsr nrows ncols (now («row_ptr» .entry)) (now («col_idx» .entry)) (now (values .entry))) (asMask «mask_len» (now (mask .entry))) (now (x .entry)) row (asStoreRoom (length (now («row_word_ptr» .entry))) (length (now («word_indices» .entry))) (length (now (bits .entry))) (length (now («row_value_ptr» .entry))) (length (now (packed .entry))))) (storeOf (asCsr nrows ncols (now («row_ptr» .entry)) (now («col_idx» .entry)) (now (values .entry)))) (asStoreRoom (length (now («row_word_ptr» .entry))) (length (now («word_indices» .entry))) (length (now (bits .entry))) (length (now («row_value_ptr» .entry))) (length (now (packed .entry)))) (now («row_word_ptr» .exit)) (now («word_indices» .exit)) (now (bits .exit)) (now («row_value_ptr» .exit)) (now (packed .exit)) ⌝ }
 {
     let v = examine(
-        nrows, ncols, row_ptr, col_idx, values, mask_len, mask, x, row,
+        nrows,
+        ncols,
+        row_ptr,
+        col_idx,
+        values,
+        mask_len,
+        mask,
+        x,
+        row,
     );
     if let Verdict::Refused(e) = v {
-        lent::clear_from_u32(row_word_ptr, 0);
-        lent::clear_from_u32(word_indices, 0);
-        lent::clear_from_u64(bits, 0);
-        lent::clear_from_u32(row_value_ptr, 0);
-        lent::clear_from_f64(packed, 0);
+        clear_store(row_word_ptr, word_indices, bits, row_value_ptr, packed);
         return DotAnswer::Refused(e);
     }
     pack_dot(
@@ -546,4 +559,277 @@ pub fn pruned_dot(
         row_value_ptr,
         packed,
     )
+}
+
+fn clear_restricted(
+    out_row_ptr: &mut [u32],
+    out_col_idx: &mut [u32],
+    out_values: &mut [f64],
+    row_word_ptr: &mut [u32],
+    word_indices: &mut [u32],
+    bits: &mut [u64],
+    row_value_ptr: &mut [u32],
+    packed: &mut [f64],
+    all: &mut [u64],
+)
+    ensures list { λ _. ⌜ (now («out_row_ptr» .exit) ≡ padded 0 (length (now («out_row_ptr» .entry))) []) × (now («out_col_idx» .exit) ≡ padded 0 (length (now («out_col_idx» .entry))) []) × (now («out_values» .exit) ≡ padded zero64 (length (now («out_values» .entry))) []) ⌝ }
+    ensures pointers { λ _. ⌜ now («row_word_ptr» .exit) ≡ padded 0 (length (now («row_word_ptr» .entry))) [] ⌝ }
+    ensures numbers { λ _. ⌜ now («word_indices» .exit) ≡ padded 0 (length (now («word_indices» .entry))) [] ⌝ }
+    ensures bits { λ _. ⌜ now (bits .exit) ≡ padded 0 (length (now (bits .entry))) [] ⌝ }
+    ensures starts { λ _. ⌜ now («row_value_ptr» .exit) ≡ padded 0 (length (now («row_value_ptr» .entry))) [] ⌝ }
+    ensures values { λ _. ⌜ now (packed .exit) ≡ padded zero64 (length (now (packed .entry))) [] ⌝ }
+    ensures all { λ _. ⌜ now (all .exit) ≡ padded 0 (length (now (all .entry))) [] ⌝ }
+{
+    lent::clear_from_u32(out_row_ptr, 0);
+    lent::clear_from_u32(out_col_idx, 0);
+    lent::clear_from_f64(out_values, 0);
+    clear_store(row_word_ptr, word_indices, bits, row_value_ptr, packed);
+    lent::clear_from_u64(all, 0);
+}
+
+// The dot of a row of the restriction to the active columns with every column active: the plot list is restricted and packed, and the
+// mask made, each in lists that then hold it.
+pub fn restricted_dot(
+    nrows: usize,
+    ncols: usize,
+    row_ptr: &[u32],
+    col_idx: &[u32],
+    values: &[f64],
+    mask_len: usize,
+    mask: &[u64],
+    x: &[f64],
+    row: usize,
+    out_row_ptr: &mut [u32],
+    out_col_idx: &mut [u32],
+    out_values: &mut [f64],
+    row_word_ptr: &mut [u32],
+    word_indices: &mut [u32],
+    bits: &mut [u64],
+    row_value_ptr: &mut [u32],
+    packed: &mut [f64],
+    all: &mut [u64],
+) -> DotAnswer
+    ensures answer { λ r. ⌜ toldDot r ≡ answers (restrictedAnswer (asCsr nrows ncols (now («row_ptr» .entry)) (now («col_idx» .entry)) (now (values .entry))) (asMask «mask_len» (now (mask .entry))) (now (x .entry)) row (asCsrRoom (length (now («out_row_ptr» .entry))) (length (now («out_col_idx» .entry))) (length (now («out_values» .entry)))) (length (now (all .entry))) (asStoreRoom (length (now («row_word_ptr» .entry))) (length (now («word_indices» .entry))) (length (now (bits .entry))) (length (now («row_value_ptr» .entry))) (length (now (packed .entry))))) (restrictedRowDot (asCsr nrows ncols (now («row_ptr» .entry)) (now («col_idx» .entry)) (now (values .entry))) (asMask «mask_len» (now (mask .entry))) (now (x .entry)) row) ⌝ }
+    ensures list { λ r. ⌜ PlotLists (restrictedAnswer (asCsr nrows ncols (now («row_ptr» .entry)) (now («col_idx» .entry)) (now (values .entry))) (asMask «mask_len» (now (mask .entry))) (now (x .entry)) row (asCsrRoom (length (now («out_row_ptr» .entry))) (length (now («out_col_idx» .entry))) (length (now («out_values» .entry)))) (length (now (all .entry))) (asStoreRoom (length (now («row_word_ptr» .entry))) (length (now («word_indices» .entry))) (length (now (bits .entry))) (length (now («row_value_ptr» .entry))) (length (now (packed .entry))))) (restricted (asCsr nrows ncols (now («row_ptr» .entry)) (now («col_idx» .entry)) (now (values .entry))) (asMask «mask_len» (now (mask .entry)))) (asCsrRoom (length (now («out_row_ptr» .entry))) (length (now («out_col_idx» .entry))) (length (now («out_values» .entry)))) (now («out_row_ptr» .exit)) (now («out_col_idx» .exit)) (now («out_values» .exit)) ⌝ }
+    ensures all { λ r. ⌜ now (all .exit) ≡ built 0 (length (now (all .entry))) (restrictedAnswer (asCsr nrows ncols (now («row_ptr» .entry)) (now («col_idx» .entry)) (now (values .entry))) (asMask «mask_len» (now (mask .entry))) (now (x .entry)) row (asCsrRoom (length (now («out_row_ptr» .entry))) (length (now («out_col_idx» .entry))) (length (now («out_values» .entry)))) (length (now (all .entry))) (asStoreRoom (length (now («row_word_ptr» .entry))) (length (now («word_indices» .entry))) (length (now (bits .entry))) (length (now («row_value_ptr» .entry))) (length (now (packed .entry))))) (maskWords (λ c. true) ncols) ⌝ }
+    ensures store { λ r. ⌜ StoreLists (restrictedAnswer (asCsr nrows ncols (now («row_ptr» .entry)) (now («col_idx» .entry)) (now (values .entry))) (asMask «mask_len» (now (mask .entry))) (now (x .entry)) row (asCsrRoom (length (now («out_row_ptr» .entry))) (length (now («out_col_idx» .entry))) (length (now («out_values» .entry)))) (length (now (all .entry))) (asStoreRoom (length (now («row_word_ptr» .entry))) (length (now («word_indices» .entry))) (length (now (bits .entry))) (length (now («row_value_ptr» .entry))) (length (now (packed .entry))))) (storeOf (restricted (asCsr nrows ncols (now («row_ptr» .entry)) (now («col_idx» .entry)) (now (values .entry))) (asMask «mask_len» (now (mask .entry))))) (asStoreRoom (length (now («row_word_ptr» .entry))) (length (now («word_indices» .entry))) (length (now (bits .entry))) (length (now («row_value_ptr» .entry))) (length (now (packed .entry)))) (now («row_word_ptr» .exit)) (now («word_indices» .exit)) (now (bits .exit)) (now («row_value_ptr» .exit)) (now (packed .exit)) ⌝ }
+{
+    let v = examine(
+        nrows,
+        ncols,
+        row_ptr,
+        col_idx,
+        values,
+        mask_len,
+        mask,
+        x,
+        row,
+    );
+    if let Verdict::Refused(e) = v {
+        clear_restricted(
+            out_row_ptr,
+            out_col_idx,
+            out_values,
+            row_word_ptr,
+            word_indices,
+            bits,
+            row_value_ptr,
+            packed,
+            all,
+        );
+        return DotAnswer::Refused(e);
+    }
+    let d = restrict_dot(
+        nrows,
+        ncols,
+        row_ptr,
+        col_idx,
+        values,
+        mask_len,
+        mask,
+        x,
+        row,
+        out_row_ptr,
+        out_col_idx,
+        out_values,
+        row_word_ptr,
+        word_indices,
+        bits,
+        row_value_ptr,
+        packed,
+        all,
+    );
+    match d {
+        DotAnswer::Dot(s) => DotAnswer::Dot(s),
+        DotAnswer::Refused(e) => {
+            clear_restricted(
+                out_row_ptr,
+                out_col_idx,
+                out_values,
+                row_word_ptr,
+                word_indices,
+                bits,
+                row_value_ptr,
+                packed,
+                all,
+            );
+            DotAnswer::Refused(e)
+        }
+    }
+}
+
+fn clear_tiled(
+    row_tile_ptr: &mut [u32],
+    tile_masks: &mut [u64],
+    value_offsets: &mut [u32],
+    metas: &mut [u32],
+    tile_values: &mut [f64],
+    out_row_ptr: &mut [u32],
+    out_col_idx: &mut [u32],
+    out_values: &mut [f64],
+    product: &mut [f64],
+)
+    ensures pointers { λ _. ⌜ now («row_tile_ptr» .exit) ≡ padded 0 (length (now («row_tile_ptr» .entry))) [] ⌝ }
+    ensures bits { λ _. ⌜ now («tile_masks» .exit) ≡ padded 0 (length (now («tile_masks» .entry))) [] ⌝ }
+    ensures offsets { λ _. ⌜ now («value_offsets» .exit) ≡ padded 0 (length (now («value_offsets» .entry))) [] ⌝ }
+    ensures metas { λ _. ⌜ now (metas .exit) ≡ padded 0 (length (now (metas .entry))) [] ⌝ }
+    ensures values { λ _. ⌜ now («tile_values» .exit) ≡ padded zero64 (length (now («tile_values» .entry))) [] ⌝ }
+    ensures list { λ _. ⌜ (now («out_row_ptr» .exit) ≡ padded 0 (length (now («out_row_ptr» .entry))) []) × (now («out_col_idx» .exit) ≡ padded 0 (length (now («out_col_idx» .entry))) []) × (now («out_values» .exit) ≡ padded zero64 (length (now («out_values» .entry))) []) ⌝ }
+    ensures product { λ _. ⌜ now (product .exit) ≡ padded zero64 (length (now (product .entry))) [] ⌝ }
+{
+    lent::clear_from_u32(row_tile_ptr, 0);
+    lent::clear_from_u64(tile_masks, 0);
+    lent::clear_from_u32(value_offsets, 0);
+    lent::clear_from_u32(metas, 0);
+    lent::clear_from_f64(tile_values, 0);
+    clear_list(out_row_ptr, out_col_idx, out_values, product);
+}
+
+fn examine_tiled(
+    nrows: usize,
+    ncols: usize,
+    row_ptr: &[u32],
+    col_idx: &[u32],
+    values: &[f64],
+    mask_len: usize,
+    mask: &[u64],
+    config: AbtmConfig,
+    x: &[f64],
+    row: usize,
+) -> Verdict
+    ensures { λ r. ⌜ told r ≡ (recordsAnswer (asCsr nrows ncols (now («row_ptr» .entry)) (now («col_idx» .entry)) (now (values .entry))) (asMask «mask_len» (now (mask .entry))) andThen thresholdAnswer config andThen questionAnswer (asCsr nrows ncols (now («row_ptr» .entry)) (now («col_idx» .entry)) (now (values .entry))) (asMask «mask_len» (now (mask .entry))) (now (x .entry)) row) ⌝ }
+{
+    let v = examine_records(nrows, ncols, row_ptr, col_idx, values, mask_len, mask);
+    if let Verdict::Refused(e) = v {
+        return Verdict::Refused(e);
+    }
+    let t = config.validate();
+    if let Verdict::Refused(e) = t {
+        return Verdict::Refused(e);
+    }
+    examine_question(
+        nrows,
+        ncols,
+        row_ptr,
+        col_idx,
+        values,
+        mask_len,
+        mask,
+        x,
+        row,
+    )
+}
+
+// The row product of the list restricted from the plot list's tiles: the tiles are built and restricted, and the product of all rows
+// made, each in lists that then hold it.
+pub fn tiled_number(
+    nrows: usize,
+    ncols: usize,
+    row_ptr: &[u32],
+    col_idx: &[u32],
+    values: &[f64],
+    mask_len: usize,
+    mask: &[u64],
+    config: AbtmConfig,
+    x: &[f64],
+    row: usize,
+    row_tile_ptr: &mut [u32],
+    tile_masks: &mut [u64],
+    value_offsets: &mut [u32],
+    metas: &mut [u32],
+    tile_values: &mut [f64],
+    out_row_ptr: &mut [u32],
+    out_col_idx: &mut [u32],
+    out_values: &mut [f64],
+    product: &mut [f64],
+) -> NumberAnswer
+    ensures answer { λ r. ⌜ toldNumber r ≡ answers (tiledAnswer (asCsr nrows ncols (now («row_ptr» .entry)) (now («col_idx» .entry)) (now (values .entry))) (asMask «mask_len» (now (mask .entry))) config (now (x .entry)) row (asTileRoom (length (now («row_tile_ptr» .entry))) (length (now («tile_masks» .entry))) (length (now («value_offsets» .entry))) (length (now (metas .entry))) (length (now («tile_values» .entry)))) (asCsrRoom (length (now («out_row_ptr» .entry))) (length (now («out_col_idx» .entry))) (length (now («out_values» .entry)))) (length (now (product .entry)))) (tiledRowProduct (asCsr nrows ncols (now («row_ptr» .entry)) (now («col_idx» .entry)) (now (values .entry))) (asMask «mask_len» (now (mask .entry))) config (now (x .entry)) row) ⌝ }
+    ensures tiles { λ r. ⌜ TileLists (tiledAnswer (asCsr nrows ncols (now («row_ptr» .entry)) (now («col_idx» .entry)) (now (values .entry))) (asMask «mask_len» (now (mask .entry))) config (now (x .entry)) row (asTileRoom (length (now («row_tile_ptr» .entry))) (length (now («tile_masks» .entry))) (length (now («value_offsets» .entry))) (length (now (metas .entry))) (length (now («tile_values» .entry)))) (asCsrRoom (length (now («out_row_ptr» .entry))) (length (now («out_col_idx» .entry))) (length (now («out_values» .entry)))) (length (now (product .entry)))) (tilesFrom (asCsr nrows ncols (now («row_ptr» .entry)) (now («col_idx» .entry)) (now (values .entry))) config) (asTileRoom (length (now («row_tile_ptr» .entry))) (length (now («tile_masks» .entry))) (length (now («value_offsets» .entry))) (length (now (metas .entry))) (length (now («tile_values» .entry)))) (now («row_tile_ptr» .exit)) (now («tile_masks» .exit)) (now («value_offsets» .exit)) (now (metas .exit)) (now («tile_values» .exit)) ⌝ }
+    ensures list { λ r. ⌜ PlotLists (tiledAnswer (asCsr nrows ncols (now («row_ptr» .entry)) (now («col_idx» .entry)) (now (values .entry))) (asMask «mask_len» (now (mask .entry))) config (now (x .entry)) row (asTileRoom (length (now («row_tile_ptr» .entry))) (length (now («tile_masks» .entry))) (length (now («value_offsets» .entry))) (length (now (metas .entry))) (length (now («tile_values» .entry)))) (asCsrRoom (length (now («out_row_ptr» .entry))) (length (now («out_col_idx» .entry))) (length (now («out_values» .entry)))) (length (now (product .entry)))) (restrictedTiles (tilesFrom (asCsr nrows ncols (now («row_ptr» .entry)) (now («col_idx» .entry)) (now (values .entry))) config) (asMask «mask_len» (now (mask .entry)))) (asCsrRoom (length (now («out_row_ptr» .entry))) (length (now («out_col_idx» .entry))) (length (now («out_values» .entry)))) (now («out_row_ptr» .exit)) (now («out_col_idx» .exit)) (now («out_values» .exit)) ⌝ }
+    ensures product { λ r. ⌜ now (product .exit) ≡ built zero64 (length (now (product .entry))) (tiledAnswer (asCsr nrows ncols (now («row_ptr» .entry)) (now («col_idx» .entry)) (now (values .entry))) (asMask «mask_len» (now (mask .entry))) config (now (x .entry)) row (asTileRoom (length (now («row_tile_ptr» .entry))) (length (now («tile_masks» .entry))) (length (now («value_offsets» .entry))) (length (now (metas .entry))) (length (now («tile_values» .entry)))) (asCsrRoom (length (now («out_row_ptr» .entry))) (length (now («out_col_idx» .entry))) (length (now («out_values» .entry)))) (length (now (product .entry)))) (productOf (restrictedTiles (tilesFrom (asCsr nrows ncols (now («row_ptr» .entry)) (now («col_idx» .entry)) (now (values .entry))) config) (asMask «mask_len» (now (mask .entry)))) (now (x .entry))) ⌝ }
+{
+    let v = examine_tiled(
+        nrows,
+        ncols,
+        row_ptr,
+        col_idx,
+        values,
+        mask_len,
+        mask,
+        config,
+        x,
+        row,
+    );
+    if let Verdict::Refused(e) = v {
+        clear_tiled(
+            row_tile_ptr,
+            tile_masks,
+            value_offsets,
+            metas,
+            tile_values,
+            out_row_ptr,
+            out_col_idx,
+            out_values,
+            product,
+        );
+        return NumberAnswer::Refused(e);
+    }
+    let d = tile_number(
+        nrows,
+        ncols,
+        row_ptr,
+        col_idx,
+        values,
+        mask_len,
+        mask,
+        config,
+        x,
+        row,
+        row_tile_ptr,
+        tile_masks,
+        value_offsets,
+        metas,
+        tile_values,
+        out_row_ptr,
+        out_col_idx,
+        out_values,
+        product,
+    );
+    match d {
+        NumberAnswer::Number(n) => NumberAnswer::Number(n),
+        NumberAnswer::Refused(e) => {
+            clear_tiled(
+                row_tile_ptr,
+                tile_masks,
+                value_offsets,
+                metas,
+                tile_values,
+                out_row_ptr,
+                out_col_idx,
+                out_values,
+                product,
+            );
+            NumberAnswer::Refused(e)
+        }
+    }
 }

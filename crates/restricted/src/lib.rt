@@ -69,13 +69,17 @@ impl LocalRegion {
         if self.source_row_nnz == 0 {
             return 0.0f64;
         }
-        hybit_core::count_as_f64(1) - hybit_core::ratio(self.local_nnz as u64, self.source_row_nnz as u64)
+        hybit_core::count_as_f64(1)
+            - hybit_core::ratio(self.local_nnz as u64, self.source_row_nnz as u64)
     }
 
     pub fn storage_bytes(self) -> usize
         ensures { λ r. ⌜ r ≡ regionBytes self ⌝ }
     {
-        let pointers = hybit_core::saturating_mul(4, hybit_core::saturating_add(self.local_nodes, 1));
+        let pointers = hybit_core::saturating_mul(
+            4,
+            hybit_core::saturating_add(self.local_nodes, 1),
+        );
         let entries = hybit_core::saturating_mul(12, self.local_nnz);
         let members = hybit_core::saturating_mul(4, self.local_nodes);
         hybit_core::saturating_add(hybit_core::saturating_add(pointers, entries), members)

@@ -45,12 +45,15 @@ pub fn from_csr32(
 // Whether these are members of a region of `global_size` rows: rising, and below that size.
 pub fn check(global_size: usize, members: &[u32]) -> Verdict
     ensures { λ r. ⌜ told r ≡ membersAnswer «global_size» (now (members .entry)) ⌝ }
-{
-}
+{}
 
 // The region's numbers of a vector, in `local`.
-pub fn gather_input(global_size: usize, members: &[u32], global: &[f64], local: &mut [f64]) -> Verdict
+pub fn gather_input(
+    global_size: usize,
+    members: &[u32],
+    global: &[f64],
+    local: &mut [f64],
+) -> Verdict
     ensures answer { λ r. ⌜ told r ≡ gatherAnswer «global_size» (now (members .entry)) (now (global .entry)) (length (now (local .entry))) ⌝ }
     ensures list { λ r. ⌜ now (local .exit) ≡ kept (gatherAnswer «global_size» (now (members .entry)) (now (global .entry)) (length (now (local .entry)))) (gathered (now (members .entry)) (now (global .entry))) (now (local .entry)) ⌝ }
-{
-}
+{}

@@ -15,9 +15,14 @@ use Rattle.hybit_core.specs.declared.HybitError.{HybitError}
 use Rattle.hybit_core.proofs.BoolLaws.{and-first, and-right, is-below, is-not-below}
 use Rattle.hybit_core.proofs.AnswerLaws.{demand-accepted, then-first, then-second, test-fails, test-passes, length-wrong, length-right, call-refused, call-accepted, accepted-by, refused-by}
 use Rattle.mask.specs.Mask.{Mask, maskRules, maskAnswer}
+use Rattle.csr32.specs.Made.{CsrRoom}
 use Rattle.csr32.specs.Csr.{Csr, csrSizes, csrRules, csrAnswer}
 use Rattle.metadata_first_merge.specs.Merge.{mergedFinite, mergeAnswer}
-use Rattle.demand_routes.specs.Calls.{recordsAnswer, questionAnswer}
+use Rattle.metadata_first_build.specs.Pack.{StoreRoom, storeOf, fitsStore}
+use Rattle.abtm.specs.declared.AbtmConfig.{AbtmConfig}
+use Rattle.abtm.specs.Calls.{thresholdAnswer}
+use Rattle.abtm_build.specs.Build.{TileRoom}
+use Rattle.demand_routes.specs.Calls.{recordsAnswer, questionAnswer, prunedAnswer, restrictedFits, restrictedAnswer, tiledFits, tiledAnswer}
 
 -- 1 over both records, then the rules of each: as the code asks them, one record after the other
 by-records : (f s t : Bool) (rules : Answer) → true ≡ f → demand (f && s) 1 andThen rules andThen demand t 5 ≡ (demand s 1 andThen rules) andThen (demand f 1 andThen demand t 5)
@@ -87,3 +92,25 @@ pub checks-accepted : (a b c : Answer) (v : Verdict) → told v ≡ a andThen b 
 checks-accepted a b c v h k =
     let q : a andThen b ≡ accepted = accepted-by (a andThen b) v h k in
     ap (λ (t : Answer). t andThen b andThen c) (then-first a b q) ∙ ap (λ (t : Answer). t andThen c) (then-second a b q)
+
+-- ---- the answer of a route where the checks refuse
+
+pub pruned-refused : (m : Csr) (a : Mask) (x : List Float) (r : ℕ) (room : StoreRoom) (v : Verdict) (e : HybitError) → told v ≡ recordsAnswer m a andThen questionAnswer m a x r → v ≡ Refused e
+    → prunedAnswer m a x r room ≡ refused (paper e)
+unfolding prunedAnswer
+pruned-refused m a x r room v e h k = checks-refused (recordsAnswer m a) (questionAnswer m a x r) (demand (fitsStore (storeOf m) room) 13) v e h k
+
+pub restricted-refused : (m : Csr) (a : Mask) (x : List Float) (r : ℕ) (rc : CsrRoom) (n : ℕ) (rp : StoreRoom) (v : Verdict) (e : HybitError)
+    → told v ≡ recordsAnswer m a andThen questionAnswer m a x r → v ≡ Refused e → restrictedAnswer m a x r rc n rp ≡ refused (paper e)
+unfolding restrictedAnswer
+restricted-refused m a x r rc n rp v e h k = checks-refused (recordsAnswer m a) (questionAnswer m a x r) (restrictedFits m a rc n rp) v e h k
+
+pub tiled-refused : (m : Csr) (a : Mask) (h : AbtmConfig) (x : List Float) (r : ℕ) (rt : TileRoom) (rc : CsrRoom) (n : ℕ) (v : Verdict) (e : HybitError)
+    → told v ≡ recordsAnswer m a andThen thresholdAnswer h andThen questionAnswer m a x r → v ≡ Refused e → tiledAnswer m a h x r rt rc n ≡ refused (paper e)
+unfolding tiledAnswer
+tiled-refused m a h x r rt rc n v e q k = go (recordsAnswer m a) (thresholdAnswer h) (refused-by (recordsAnswer m a andThen thresholdAnswer h andThen questionAnswer m a x r) v e q k)
+  where
+    go : (s t : Answer) → s andThen t andThen questionAnswer m a x r ≡ refused (paper e) → s andThen t andThen questionAnswer m a x r andThen tiledFits m a h rt rc n ≡ refused (paper e)
+    go accepted accepted z = ap (λ (y : Answer). y andThen tiledFits m a h rt rc n) z
+    go accepted (refused y) z = z
+    go (refused y) t z = z

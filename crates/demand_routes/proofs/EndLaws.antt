@@ -47,6 +47,14 @@ pub plot-zeros : (t : Answer) (e : Told) (m : Csr) (room : CsrRoom) (p c : List 
     → p ≡ padded 0 (room .ptr) [] → c ≡ padded 0 (room .col) [] → v ≡ padded zero64 (room .val) [] → PlotLists t m room p c v
 plot-zeros t e m room p c v k ep ec ev = subst (λ (u : Answer). PlotLists u m room p c v) (sym k) (record { pointers = ep; columns = ec; values = ev })
 
+pub tile-zeros : (t : Answer) (e : Told) (s : Tiles) (room : TileRoom) (p b o k : List ℕ) (v : List Float) → t ≡ refused e
+    → p ≡ padded 0 (room .ptr) [] → b ≡ padded 0 (room .mask) [] → o ≡ padded 0 (room .offset) [] → k ≡ padded 0 (room .meta) [] → v ≡ padded zero64 (room .vals) [] → TileLists t s room p b o k v
+tile-zeros t e s room p b o k v q ep eb eo ek ev = subst (λ (u : Answer). TileLists u s room p b o k v) (sym q) (record { pointers = ep; bits = eb; offsets = eo; metas = ek; values = ev })
+
+-- of a list that had n places when it was cleared, and k at first
+pub at-length : {A : Type 0} (z : A) (n k : ℕ) (out : List A) → out ≡ padded z n [] → n ≡ k → out ≡ padded z k []
+at-length z n k out e h = e ∙ ap (λ (i : ℕ). padded z i []) h
+
 pub list-zeros : {A : Type 0} (z : A) (n : ℕ) (t : Answer) (e : Told) (new out : List A) → t ≡ refused e → out ≡ padded z n [] → out ≡ built z n t new
 list-zeros z n t e new out k h = h ∙ sym (ap (λ (u : Answer). built z n u new) k)
 

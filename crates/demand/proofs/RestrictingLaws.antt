@@ -80,7 +80,7 @@ module _ (m : Csr) (k : Packable m) (a : Mask) where
     restricted-is rc f = left-is (m .rows) (m .cols) cut (restrictAnswer m a rc) rc (restrict-is rc f)
 
     module _ (x : List Float) (r : ℕ) (lx : length x ≡ m .cols) (h : r < m .rows) (all : Mask) (every-one : EveryActive (m .cols) all) where
-      wanted-again : wanted (restricted m a) all x r ≡ wanted m a x r
+      pub wanted-again : wanted (restricted m a) all x r ≡ wanted m a x r
       unfolding restricted csrOf
       wanted-again =
           ap (λ (es : List Entry). demanded (m .cols) es (active all) (at x)) (entries-of (m .rows) (m .cols) cut r h)

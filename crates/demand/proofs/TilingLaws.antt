@@ -174,7 +174,7 @@ module _ (m : Csr) (k : Packable m) (a : Mask) (t : AbtmConfig) where
         (three-cong (m .cols) (solidAt r) (present (entries m r)) (active a) (active a) (value r) (merged (entries m r)) (at x) (at x)
         same-columns (λ c l e. same-value c (and-right (solidAt r c) (active a c) e)) (λ c l e. refl))
 
-    left-number : (x : List Float) → r < m .rows → getD (product left x) r nan ≡ wanted m a x r .number
+    pub left-number : (x : List Float) → r < m .rows → getD (product left x) r nan ≡ wanted m a x r .number
     unfolding product restrictedTiles csrOf tilesFrom tilesOf
     left-number x h =
         getD-each (λ q. rowProduct (entries left q) x) (m .rows) r nan h

@@ -38,7 +38,7 @@ module _ (m : Csr) (k : Packable m) (a : Mask) where
   cut-few : length (joined cut (m .rows)) ≤ 2 ^ 24
   cut-few = omega (arith, entries-few m k, joined-le cut (entries m) (m .rows) (λ r l. length-only (λ (e : Entry). active a (e .0)) (entries m r)))
 
-  restricted-list : csrAnswer (restricted m a) ≡ accepted
+  pub restricted-list : csrAnswer (restricted m a) ≡ accepted
   unfolding restricted
   restricted-list =
       made-accepted (m .rows) (m .cols) cut (λ r l. every-only (λ (e : Entry). ltb (e .0) (m .cols) && finite (e .1)) (λ (e : Entry). active a (e .0)) (entries m r) (entries-good m k r))
@@ -54,7 +54,7 @@ module _ (m : Csr) (k : Packable m) (a : Mask) where
       let b : (present (entries m r) c && active a c) ≡ true = sym (present-in (active a) (entries m r) c) ∙ e in
       ap finite (merged-in (active a) (entries m r) c (and-right (present (entries m r) c) (active a c) b)) ∙ merged-at m k r c h l (and-left (present (entries m r) c) (active a c) b))
 
-  restricted-finite : mergedFinite (restricted m a) ≡ true
+  pub restricted-finite : mergedFinite (restricted m a) ≡ true
   unfolding mergedFinite restricted csrOf
   restricted-finite =
       every-joined finite (λ r. rowValues (m .cols) (entries (restricted m a) r)) (m .rows)
@@ -80,7 +80,7 @@ module _ (m : Csr) (k : Packable m) (a : Mask) where
     restricted-is rc f = left-is (m .rows) (m .cols) cut (restrictAnswer m a rc) rc (restrict-is rc f)
 
     module _ (x : List Float) (r : ℕ) (lx : length x ≡ m .cols) (h : r < m .rows) (all : Mask) (every-one : EveryActive (m .cols) all) where
-      wanted-again : wanted (restricted m a) all x r ≡ wanted m a x r
+      pub wanted-again : wanted (restricted m a) all x r ≡ wanted m a x r
       unfolding restricted csrOf
       wanted-again =
           ap (λ (es : List Entry). demanded (m .cols) es (active all) (at x)) (entries-of (m .rows) (m .cols) cut r h)

@@ -62,15 +62,14 @@ tiled-is m h room e =
 
 -- ---- restricting from tiles that `check` accepts
 
-restrict-accepted : (t : Tiles) (a : Mask) (rc : CsrRoom) → tilesAnswer t ≡ accepted → few (a .size) ≡ true → maskRules a ≡ true → a .size ≡ t .cols
-    → every finite (restrictedTiles t a .val) ≡ true → many (length (restrictedTiles t a .val)) ≡ true → fitsCsr (restrictedTiles t a) rc ≡ true
-    → restrictTilesAnswer t a rc ≡ accepted
+restrict-says : (t : Tiles) (a : Mask) (rc : CsrRoom) → tilesAnswer t ≡ accepted → few (a .size) ≡ true → maskRules a ≡ true → a .size ≡ t .cols
+    → every finite (restrictedTiles t a .val) ≡ true → many (length (restrictedTiles t a .val)) ≡ true → restrictTilesAnswer t a rc ≡ demand (fitsCsr (restrictedTiles t a) rc) 13
 unfolding restrictTilesAnswer tilesAnswer
-restrict-accepted t a rc e s va la vs n f =
+restrict-says t a rc e s va la vs n =
     let one : (few (a .size) && tileSizes t) ≡ true = and-both (few (a .size)) (tileSizes t) s (demand-accepted (tileSizes t) 1 (then-first (demand (tileSizes t) 1) (demand (tilesRules t) 12) e)) in
     let twelve : tilesRules t ≡ true = demand-accepted (tilesRules t) 12 (then-second (demand (tileSizes t) 1) (demand (tilesRules t) 12) e) in
     let six : eqb (a .size) (t .cols) ≡ true = eq-eqb (a .size) (t .cols) la in
-    rw (one, twelve, va, six, vs, n, f)
+    rw (one, twelve, va, six, vs, n)
 
 -- ---- a row that is restricted from tiles
 
@@ -135,18 +134,18 @@ module _ (m : Csr) (k : Packable m) (a : Mask) (t : AbtmConfig) where
   unfolding restrictedTiles tilesFrom tilesOf
   left-many = le-leb (length (left .val)) (2 ^ 24) (omega (arith, made-values (m .rows) (m .cols) cut, cut-few))
 
-  apply-accepted : (x : List Float) → length x ≡ m .cols → applyAnswer left x (m .rows) ≡ accepted
+  pub apply-accepted : (x : List Float) → length x ≡ m .cols → applyAnswer left x (m .rows) ≡ accepted
   unfolding applyAnswer restrictedTiles csrOf tilesFrom tilesOf
   apply-accepted x lx =
       let six : eqb (length x) (m .cols) ≡ true = eq-eqb (length x) (m .cols) lx in
       let rows : eqb (m .rows) (m .rows) ≡ true = eq-eqb (m .rows) (m .rows) refl in
       rw (left-list, six, rows)
 
-  build-accepted : (rt : TileRoom) → thresholdRules t ≡ true → fitsTiles (tilesFrom m t) rt ≡ true → tileAnswer m t rt ≡ accepted
+  pub build-accepted : (rt : TileRoom) → thresholdRules t ≡ true → fitsTiles (tilesFrom m t) rt ≡ true → tileAnswer m t rt ≡ accepted
   unfolding tileAnswer thresholdAnswer
   build-accepted rt ht ft = rw (k .list, ht, ft)
 
-  left-is-list : (rc : CsrRoom) → restrictTilesAnswer (tilesFrom m t) a rc ≡ accepted → restrictedTilesLeft (tilesFrom m t) a rc ≡ left
+  pub left-is-list : (rc : CsrRoom) → restrictTilesAnswer (tilesFrom m t) a rc ≡ accepted → restrictedTilesLeft (tilesFrom m t) a rc ≡ left
   unfolding restrictedTiles
   left-is-list rc e = left-is (tilesFrom m t .rows) (tilesFrom m t .cols) cut (restrictTilesAnswer (tilesFrom m t) a rc) rc e
 
@@ -175,7 +174,7 @@ module _ (m : Csr) (k : Packable m) (a : Mask) (t : AbtmConfig) where
         (three-cong (m .cols) (solidAt r) (present (entries m r)) (active a) (active a) (value r) (merged (entries m r)) (at x) (at x)
         same-columns (λ c l e. same-value c (and-right (solidAt r c) (active a c) e)) (λ c l e. refl))
 
-    left-number : (x : List Float) → r < m .rows → getD (product left x) r nan ≡ wanted m a x r .number
+    pub left-number : (x : List Float) → r < m .rows → getD (product left x) r nan ≡ wanted m a x r .number
     unfolding product restrictedTiles csrOf tilesFrom tilesOf
     left-number x h =
         getD-each (λ q. rowProduct (entries left q) x) (m .rows) r nan h
@@ -185,16 +184,16 @@ module _ (m : Csr) (k : Packable m) (a : Mask) (t : AbtmConfig) where
   -- ---- the route
 
   module _ (va : maskRules a ≡ true) (la : a .size ≡ m .cols) (x : List Float) (r : ℕ) (lx : length x ≡ m .cols) (h : r < m .rows) where
-    cut-accepted : (rc : CsrRoom) → fitsCsr left rc ≡ true → restrictTilesAnswer (tilesFrom m t) a rc ≡ accepted
+    -- only 13 can be said
+    pub cut-says : (rc : CsrRoom) → restrictTilesAnswer (tilesFrom m t) a rc ≡ demand (fitsCsr left rc) 13
     unfolding tilesFrom tilesOf
-    cut-accepted rc f =
-        restrict-accepted (tilesFrom m t) a rc (built-accepted m t (k .list)) (le-leb (a .size) (2 ^ 20) (omega (arith, is-valid m k .cols-in))) va la left-finite left-many f
+    cut-says rc = restrict-says (tilesFrom m t) a rc (built-accepted m t (k .list)) (le-leb (a .size) (2 ^ 20) (omega (arith, is-valid m k .cols-in))) va la left-finite left-many
 
     pub tiling : (rt : TileRoom) (rc : CsrRoom) → thresholdRules t ≡ true → fitsTiles (tilesFrom m t) rt ≡ true → fitsCsr (restrictedTiles (tiled m t rt) a) rc ≡ true → Tiling m a x r t rt rc
     tiling rt rc ht ft fc =
         let b : tileAnswer m t rt ≡ accepted = build-accepted rt ht ft in
         let s : tiled m t rt ≡ tilesFrom m t = tiled-is m t rt b in
-        let g : restrictTilesAnswer (tilesFrom m t) a rc ≡ accepted = cut-accepted rc (sym (ap (λ (s : Tiles). fitsCsr (restrictedTiles s a) rc) s) ∙ fc) in
+        let g : restrictTilesAnswer (tilesFrom m t) a rc ≡ accepted = cut-says rc ∙ ap (λ (b : Bool). demand b 13) (sym (ap (λ (s : Tiles). fitsCsr (restrictedTiles s a) rc) s) ∙ fc) in
         let l : restrictedTilesLeft (tiled m t rt) a rc ≡ left = ap (λ (s : Tiles). restrictedTilesLeft s a rc) s ∙ left-is-list rc g in
         record {
           build-accepted = b;

@@ -2,12 +2,14 @@
 // document's figures.
 use abtm::AbtmConfig;
 use abtm_build::TilesAnswer;
+use demand_routes::NumberAnswer;
 use hybit_core::BoolAnswer;
 use hybit_core::CountAnswer;
 use hybit_core::HybitError;
 use hybit_core::Verdict;
 use metadata_first::AbtmRowDot;
 use metadata_first::DotAnswer;
+use restricted::RestrictAnswer;
 use topology::SelectAnswer;
 use topology::StatsAnswer;
 use topology::TopologyAnswer;
@@ -686,13 +688,163 @@ fn show_pair(values: &[f64]) {
     text(b"\n");
 }
 
-// The largest finite value twice, and values that cancel.
+fn restrict_answer(a: RestrictAnswer) {
+    match a {
+        RestrictAnswer::Built(s) => {
+            text(b" kept");
+            size(s.retained_nnz);
+            text(b" of");
+            size(s.source_nnz);
+        }
+        RestrictAnswer::Refused(e) => refused(e),
+    }
+}
+
+// A tile with column 5 alone, restricted to these columns.
+fn show_cut(name: &[u8], values: &[f64], active: &[u64]) {
+    let ptr: [u32; 2] = [0, 1];
+    let masks: [u64; 1] = [32];
+    let zero: [u32; 1] = [0];
+    let mut out_ptr: [u32; 2] = [9; 2];
+    let mut cols: [u32; 1] = [9];
+    let mut kept: [f64; 1] = [9.0];
+    text(name);
+    restrict_answer(restricted_abtm::from_abtm(
+        1,
+        70,
+        &ptr,
+        &masks,
+        &zero,
+        &zero,
+        values,
+        1,
+        70,
+        active,
+        &mut out_ptr,
+        &mut cols,
+        &mut kept,
+    ));
+    text(b"\n");
+}
+
+// The largest finite value twice, its tile restricted with the column active and inactive; and values that cancel.
 fn show_pairs() {
     let largest = f64::from_bits(9218868437227405311);
     let twice: [f64; 2] = [largest; 2];
+    let merged: [f64; 1] = [largest + largest];
+    let five: [u64; 2] = [32, 0];
+    let none: [u64; 2] = [0; 2];
     let cancelling: [f64; 2] = [1.0, -1.0];
     show_pair(&twice);
+    show_cut(b"restricted with 5 active:", &merged, &five);
+    show_cut(b"restricted with 5 inactive:", &merged, &none);
     show_pair(&cancelling);
+}
+
+fn number_answer(a: NumberAnswer) {
+    match a {
+        NumberAnswer::Number(n) => float(n),
+        NumberAnswer::Refused(e) => refused(e),
+    }
+}
+
+// Demand 3's route by tiles: the row product.
+fn show_tiled(row_ptr: &[u32], cols: &[u32], values: &[f64], active: &[u64], x: &[f64]) {
+    let mut ptr: [u32; 2] = [9; 2];
+    let mut masks: [u64; 2] = [9; 2];
+    let mut offsets: [u32; 2] = [9; 2];
+    let mut metas: [u32; 2] = [9; 2];
+    let mut slots: [f64; 3] = [9.0; 3];
+    let mut out_ptr: [u32; 2] = [9; 2];
+    let mut out_cols: [u32; 2] = [9; 2];
+    let mut out_values: [f64; 2] = [9.0; 2];
+    let mut product: [f64; 1] = [9.0];
+    text(b"tiled:");
+    number_answer(demand_routes::tiled_number(
+        1,
+        70,
+        row_ptr,
+        cols,
+        values,
+        70,
+        active,
+        abtm::default_config(),
+        x,
+        0,
+        &mut ptr,
+        &mut masks,
+        &mut offsets,
+        &mut metas,
+        &mut slots,
+        &mut out_ptr,
+        &mut out_cols,
+        &mut out_values,
+        &mut product,
+    ));
+    text(b"\n");
+}
+
+// Demand 3's two routes by the dot.
+fn show_dots(row_ptr: &[u32], cols: &[u32], values: &[f64], active: &[u64], x: &[f64]) {
+    let mut ptr: [u32; 2] = [9; 2];
+    let mut words: [u32; 2] = [9; 2];
+    let mut masks: [u64; 2] = [9; 2];
+    let mut value_ptr: [u32; 2] = [9; 2];
+    let mut packed: [f64; 3] = [9.0; 3];
+    let mut out_ptr: [u32; 2] = [9; 2];
+    let mut out_cols: [u32; 3] = [9; 3];
+    let mut out_values: [f64; 3] = [9.0; 3];
+    let mut all: [u64; 2] = [9; 2];
+    text(b"pruned:");
+    dot_answer(demand_routes::pruned_dot(
+        1,
+        70,
+        row_ptr,
+        cols,
+        values,
+        70,
+        active,
+        x,
+        0,
+        &mut ptr,
+        &mut words,
+        &mut masks,
+        &mut value_ptr,
+        &mut packed,
+    ));
+    text(b"\nrestricted:");
+    dot_answer(demand_routes::restricted_dot(
+        1,
+        70,
+        row_ptr,
+        cols,
+        values,
+        70,
+        active,
+        x,
+        0,
+        &mut out_ptr,
+        &mut out_cols,
+        &mut out_values,
+        &mut ptr,
+        &mut words,
+        &mut masks,
+        &mut value_ptr,
+        &mut packed,
+        &mut all,
+    ));
+    text(b"\n");
+}
+
+// The worked row with 3 and 65 active by all three routes.
+fn show_routes() {
+    let row_ptr: [u32; 2] = [0, 4];
+    let cols: [u32; 4] = [65, 3, 3, 64];
+    let values: [f64; 4] = [2.0, 1.0, 0.5, 4.0];
+    let active: [u64; 2] = [8, 2];
+    let x: [f64; 70] = [1.0; 70];
+    show_dots(&row_ptr, &cols, &values, &active, &x);
+    show_tiled(&row_ptr, &cols, &values, &active, &x);
 }
 
 fn main() {
@@ -714,4 +866,5 @@ fn main() {
     show_thresholds(4, 64);
     show_thresholds(4, 65);
     show_thresholds(4, 4);
+    show_routes();
 }

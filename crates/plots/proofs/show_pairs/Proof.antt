@@ -14,6 +14,30 @@ slice-aggregate-show-pair c = search needs
 show-pair-requires : tie.Need-show-pair-requires
 show-pair-requires c κs = search needs
 
+slice-aggregate-show-cut : tie.Need-slice-aggregate-show-cut
+slice-aggregate-show-cut c = search needs
+
+slice-aggregate-show-cut-2 : tie.Need-slice-aggregate-show-cut-2
+slice-aggregate-show-cut-2 c = search needs
+
+slice-aggregate-show-cut-3 : tie.Need-slice-aggregate-show-cut-3
+slice-aggregate-show-cut-3 c = search needs
+
+show-cut-requires : tie.Need-show-cut-requires
+show-cut-requires c κs = search needs
+
+slice-aggregate-show-cut-4 : tie.Need-slice-aggregate-show-cut-4
+slice-aggregate-show-cut-4 c = search needs
+
+slice-aggregate-show-cut-5 : tie.Need-slice-aggregate-show-cut-5
+slice-aggregate-show-cut-5 c = search needs
+
+slice-aggregate-show-cut-6 : tie.Need-slice-aggregate-show-cut-6
+slice-aggregate-show-cut-6 c = search needs
+
+show-cut-requires-2 : tie.Need-show-cut-requires-2
+show-cut-requires-2 c κs = search needs
+
 slice-aggregate-show-pair-2 : tie.Need-slice-aggregate-show-pair-2
 slice-aggregate-show-pair-2 c = search needs
 
@@ -30,6 +54,14 @@ show-pairs-spec =
     float-from-bits-largest
     slice-aggregate-show-pair
     show-pair-requires
+    slice-aggregate-show-cut
+    slice-aggregate-show-cut-2
+    slice-aggregate-show-cut-3
+    show-cut-requires
+    slice-aggregate-show-cut-4
+    slice-aggregate-show-cut-5
+    slice-aggregate-show-cut-6
+    show-cut-requires-2
     slice-aggregate-show-pair-2
     show-pair-requires-2
     returns)

@@ -120,7 +120,7 @@ fn local_from_csr32(
 
 /// The Rust's local list of these members, where it can hold them.
 fn local(global_size: usize, members: &[u32]) -> Result<Local, Reason> {
-    within(&[global_size, members.len()], &[])?;
+    within(&[global_size], &[])?;
     let indices: Vec<usize> = members.iter().map(|&m| m as usize).collect();
     let region = DofMask::from_indices(global_size, &indices).map_err(|_| Reason::BadMembers)?;
     let pointers = vec![0; global_size + 1];

@@ -1,0 +1,380 @@
+// dense_block.rs: `LinearOperator::apply` of `DenseBlockCsrOperator`, the product of blocks. Each value is read once.
+ghost use mathlib.Core.Path.{_≡_};
+ghost use mathlib.Core.Bool.{cond};
+ghost use Prim.Native.Nat.{ℕ, min, _+_, _*_, _/_, _≤_, _<_, _^_};
+ghost use lib.Dec.{ltb};
+ghost use lib.ListN.{length, getD};
+ghost use lib.Ieee.{nan, binary64, add};
+ghost use Rattle.hybit_core.specs.Answer.{accepted};
+ghost use Rattle.hybit_core.specs.Floats.{zero64};
+ghost use Rattle.hybit_core.specs.Table.{told};
+ghost use Rattle.lent.specs.Lists.{each};
+ghost use Rattle.lent.specs.Lent.{kept};
+ghost use Rattle.dense_block.specs.Blocks.{widthOf, asBlocks};
+ghost use Rattle.dense_block_apply.specs.Product.{products, termByTerm, asOne, blockSum, blocksProduct, applyBlocksAnswer};
+use dense_block::DenseBlockSize;
+use hybit_core::HybitError;
+use hybit_core::Verdict;
+
+// A full block's terms in one row of three, as one number.
+fn three(values: &[f64], at: usize, x: &[f64], col: usize) -> f64
+    requires { ⌜ at + 3 ≤ length (now values) ⌝ ∗ ⌜ col + 3 ≤ length (now x) ⌝ ∗ ⌜ (at ≤ 2 ^ 40) × (col ≤ 2 ^ 40) ⌝ }
+    ensures { λ r. ⌜ r ≡ asOne (products (now (values .entry)) (now (x .entry)) at col 3) ⌝ }
+{
+    values[at] * x[col] + values[at + 1] * x[col + 1] + values[at + 2] * x[col + 2]
+}
+
+// The same in one row of six.
+fn six(values: &[f64], at: usize, x: &[f64], col: usize) -> f64
+    requires { ⌜ at + 6 ≤ length (now values) ⌝ ∗ ⌜ col + 6 ≤ length (now x) ⌝ ∗ ⌜ (at ≤ 2 ^ 40) × (col ≤ 2 ^ 40) ⌝ }
+    ensures { λ r. ⌜ r ≡ asOne (products (now (values .entry)) (now (x .entry)) at col 6) ⌝ }
+{
+    values[at] * x[col]
+        + values[at + 1] * x[col + 1]
+        + values[at + 2] * x[col + 2]
+        + values[at + 3] * x[col + 3]
+        + values[at + 4] * x[col + 4]
+        + values[at + 5] * x[col + 5]
+}
+
+// Adds `count` terms of a row to `start`, one after the other.
+fn add_terms(start: f64, count: usize, values: &[f64], at: usize, x: &[f64], col: usize) -> f64
+    requires { ⌜ at + count ≤ length (now values) ⌝ ∗ ⌜ col + count ≤ length (now x) ⌝ ∗ ⌜ (at ≤ 2 ^ 40) × (col ≤ 2 ^ 40) ⌝ }
+    ensures { λ r. ⌜ r ≡ termByTerm start (products (now (values .entry)) (now (x .entry)) at col count) ⌝ }
+{
+    let mut sum = start;
+    let mut j: usize = 0;
+    while j < count {
+        sum = sum + values[at + j] * x[col + j];
+        j += 1;
+    }
+    sum
+}
+
+// The three rows of a full block row after a full block more.
+fn add_full3(sums: [f64; 3], values: &[f64], at: usize, x: &[f64], col: usize) -> [f64; 3]
+    requires { ⌜ at + 9 ≤ length (now values) ⌝ ∗ ⌜ col + 3 ≤ length (now x) ⌝ ∗ ⌜ (at ≤ 2 ^ 39) × (col ≤ 2 ^ 39) ⌝ }
+    ensures { λ r. ⌜ r ≡ each (λ i. add binary64 (getD sums i nan) (asOne (products (now (values .entry)) (now (x .entry)) (at + 3 * i) col 3))) 3 ⌝ }
+{
+    let a = sums[0] + three(values, at, x, col);
+    let b = sums[1] + three(values, at + 3, x, col);
+    let c = sums[2] + three(values, at + 6, x, col);
+    [a, b, c]
+}
+
+// The same of six rows.
+fn add_full6(sums: [f64; 6], values: &[f64], at: usize, x: &[f64], col: usize) -> [f64; 6]
+    requires { ⌜ at + 36 ≤ length (now values) ⌝ ∗ ⌜ col + 6 ≤ length (now x) ⌝ ∗ ⌜ (at ≤ 2 ^ 39) × (col ≤ 2 ^ 39) ⌝ }
+    ensures { λ r. ⌜ r ≡ each (λ i. add binary64 (getD sums i nan) (asOne (products (now (values .entry)) (now (x .entry)) (at + 6 * i) col 6))) 6 ⌝ }
+{
+    let a = sums[0] + six(values, at, x, col);
+    let b = sums[1] + six(values, at + 6, x, col);
+    let c = sums[2] + six(values, at + 12, x, col);
+    let d = sums[3] + six(values, at + 18, x, col);
+    let e = sums[4] + six(values, at + 24, x, col);
+    let f = sums[5] + six(values, at + 30, x, col);
+    [a, b, c, d, e, f]
+}
+
+// The three rows after a column tail more, `count` columns wide.
+fn add_tail3(
+    sums: [f64; 3],
+    count: usize,
+    values: &[f64],
+    at: usize,
+    x: &[f64],
+    col: usize,
+) -> [f64; 3]
+    requires { ⌜ (at + 9 ≤ length (now values)) × (count ≤ 3) ⌝ ∗ ⌜ col + count ≤ length (now x) ⌝ ∗ ⌜ (at ≤ 2 ^ 39) × (col ≤ 2 ^ 39) ⌝ }
+    ensures { λ r. ⌜ r ≡ each (λ i. termByTerm (getD sums i nan) (products (now (values .entry)) (now (x .entry)) (at + 3 * i) col count)) 3 ⌝ }
+{
+    let a = add_terms(sums[0], count, values, at, x, col);
+    let b = add_terms(sums[1], count, values, at + 3, x, col);
+    let c = add_terms(sums[2], count, values, at + 6, x, col);
+    [a, b, c]
+}
+
+// The same of six rows.
+fn add_tail6(
+    sums: [f64; 6],
+    count: usize,
+    values: &[f64],
+    at: usize,
+    x: &[f64],
+    col: usize,
+) -> [f64; 6]
+    requires { ⌜ (at + 36 ≤ length (now values)) × (count ≤ 6) ⌝ ∗ ⌜ col + count ≤ length (now x) ⌝ ∗ ⌜ (at ≤ 2 ^ 39) × (col ≤ 2 ^ 39) ⌝ }
+    ensures { λ r. ⌜ r ≡ each (λ i. termByTerm (getD sums i nan) (products (now (values .entry)) (now (x .entry)) (at + 6 * i) col count)) 6 ⌝ }
+{
+    let a = add_terms(sums[0], count, values, at, x, col);
+    let b = add_terms(sums[1], count, values, at + 6, x, col);
+    let c = add_terms(sums[2], count, values, at + 12, x, col);
+    let d = add_terms(sums[3], count, values, at + 18, x, col);
+    let e = add_terms(sums[4], count, values, at + 24, x, col);
+    let f = add_terms(sums[5], count, values, at + 30, x, col);
+    [a, b, c, d, e, f]
+}
+
+fn smaller(a: usize, b: usize) -> usize
+    ensures { λ r. ⌜ r ≡ min a b ⌝ }
+{
+    if a < b {
+        return a;
+    }
+    b
+}
+
+// The three rows of full block row `row` of accepted blocks.
+fn full_row3(
+    nrows: usize,
+    ncols: usize,
+    row_ptr: &[u32],
+    col_idx: &[u32],
+    values: &[f64],
+    x: &[f64],
+    row: usize,
+) -> [f64; 3]
+    requires { ⌜ applyBlocksAnswer (asBlocks nrows ncols 3 (now «row_ptr») (now «col_idx») (now values)) (now x) nrows ≡ accepted ⌝ ∗ ⌜ 3 * row + 3 ≤ nrows ⌝ }
+    ensures { λ r. ⌜ r ≡ each (λ i. blockSum (asBlocks nrows ncols 3 (now («row_ptr» .entry)) (now («col_idx» .entry)) (now (values .entry))) (now (x .entry)) (3 * row + i)) 3 ⌝ }
+{
+    let end = hybit_core::wide(row_ptr[row + 1]);
+    let mut sums = [0.0f64; 3];
+    let mut p = hybit_core::wide(row_ptr[row]);
+    while p < end {
+        let col = 3 * hybit_core::wide(col_idx[p]);
+        if col + 3 <= ncols {
+            let full = add_full3(sums, values, 9 * p, x, col);
+            sums = full;
+        } else {
+            let tail = add_tail3(sums, ncols - col, values, 9 * p, x, col);
+            sums = tail;
+        }
+        p += 1;
+    }
+    sums
+}
+
+// The six rows of full block row `row`.
+fn full_row6(
+    nrows: usize,
+    ncols: usize,
+    row_ptr: &[u32],
+    col_idx: &[u32],
+    values: &[f64],
+    x: &[f64],
+    row: usize,
+) -> [f64; 6]
+    requires { ⌜ applyBlocksAnswer (asBlocks nrows ncols 6 (now «row_ptr») (now «col_idx») (now values)) (now x) nrows ≡ accepted ⌝ ∗ ⌜ 6 * row + 6 ≤ nrows ⌝ }
+    ensures { λ r. ⌜ r ≡ each (λ i. blockSum (asBlocks nrows ncols 6 (now («row_ptr» .entry)) (now («col_idx» .entry)) (now (values .entry))) (now (x .entry)) (6 * row + i)) 6 ⌝ }
+{
+    let end = hybit_core::wide(row_ptr[row + 1]);
+    let mut sums = [0.0f64; 6];
+    let mut p = hybit_core::wide(row_ptr[row]);
+    while p < end {
+        let col = 6 * hybit_core::wide(col_idx[p]);
+        if col + 6 <= ncols {
+            let full = add_full6(sums, values, 36 * p, x, col);
+            sums = full;
+        } else {
+            let tail = add_tail6(sums, ncols - col, values, 36 * p, x, col);
+            sums = tail;
+        }
+        p += 1;
+    }
+    sums
+}
+
+// The full block rows, written from row 0 on; answers the first row after them.
+fn apply3(
+    nrows: usize,
+    ncols: usize,
+    row_ptr: &[u32],
+    col_idx: &[u32],
+    values: &[f64],
+    x: &[f64],
+    y: &mut [f64],
+)
+    requires { ⌜ applyBlocksAnswer (asBlocks nrows ncols 3 (now «row_ptr») (now «col_idx») (now values)) (now x) (length (now y)) ≡ accepted ⌝ }
+    ensures { λ _. ⌜ now (y .exit) ≡ blocksProduct (asBlocks nrows ncols 3 (now («row_ptr» .entry)) (now («col_idx» .entry)) (now (values .entry))) (now (x .entry)) ⌝ }
+{
+    let full = nrows / 3;
+    let mut row: usize = 0;
+    while row < full {
+        let sums = full_row3(nrows, ncols, row_ptr, col_idx, values, x, row);
+        let at = 3 * row;
+        y[at] = sums[0];
+        y[at + 1] = sums[1];
+        y[at + 2] = sums[2];
+        row += 1;
+    }
+    apply_partial_last_row(
+        nrows,
+        ncols,
+        DenseBlockSize::B3,
+        row_ptr,
+        col_idx,
+        values,
+        x,
+        y,
+    );
+}
+
+fn apply6(
+    nrows: usize,
+    ncols: usize,
+    row_ptr: &[u32],
+    col_idx: &[u32],
+    values: &[f64],
+    x: &[f64],
+    y: &mut [f64],
+)
+    requires { ⌜ applyBlocksAnswer (asBlocks nrows ncols 6 (now «row_ptr») (now «col_idx») (now values)) (now x) (length (now y)) ≡ accepted ⌝ }
+    ensures { λ _. ⌜ now (y .exit) ≡ blocksProduct (asBlocks nrows ncols 6 (now («row_ptr» .entry)) (now («col_idx» .entry)) (now (values .entry))) (now (x .entry)) ⌝ }
+{
+    let full = nrows / 6;
+    let mut row: usize = 0;
+    while row < full {
+        let sums = full_row6(nrows, ncols, row_ptr, col_idx, values, x, row);
+        let at = 6 * row;
+        y[at] = sums[0];
+        y[at + 1] = sums[1];
+        y[at + 2] = sums[2];
+        y[at + 3] = sums[3];
+        y[at + 4] = sums[4];
+        y[at + 5] = sums[5];
+        row += 1;
+    }
+    apply_partial_last_row(
+        nrows,
+        ncols,
+        DenseBlockSize::B6,
+        row_ptr,
+        col_idx,
+        values,
+        x,
+        y,
+    );
+}
+
+// The number of a row below the full block rows: each block is summed from 0.0.
+fn partial_sum(
+    nrows: usize,
+    ncols: usize,
+    size: DenseBlockSize,
+    row_ptr: &[u32],
+    col_idx: &[u32],
+    values: &[f64],
+    x: &[f64],
+    row: usize,
+) -> f64
+    requires { ⌜ applyBlocksAnswer (asBlocks nrows ncols (widthOf size) (now «row_ptr») (now «col_idx») (now values)) (now x) nrows ≡ accepted ⌝ ∗ ⌜ (widthOf size * (nrows / widthOf size) ≤ row) × (row < nrows) ⌝ }
+    ensures { λ r. ⌜ r ≡ blockSum (asBlocks nrows ncols (widthOf size) (now («row_ptr» .entry)) (now («col_idx» .entry)) (now (values .entry))) (now (x .entry)) row ⌝ }
+{
+    let width = size.width();
+    let last = size.full_blocks(nrows);
+    let local_row = row - width * last;
+    let end = hybit_core::wide(row_ptr[last + 1]);
+    let mut sum: f64 = 0.0;
+    let mut p = hybit_core::wide(row_ptr[last]);
+    while p < end {
+        let col = width * hybit_core::wide(col_idx[p]);
+        let at = p * (width * width) + width * local_row;
+        sum = sum + add_terms(0.0, smaller(width, ncols - col), values, at, x, col);
+        p += 1;
+    }
+    sum
+}
+
+// The rows below the full block rows.
+fn apply_partial_last_row(
+    nrows: usize,
+    ncols: usize,
+    size: DenseBlockSize,
+    row_ptr: &[u32],
+    col_idx: &[u32],
+    values: &[f64],
+    x: &[f64],
+    y: &mut [f64],
+)
+    requires { ⌜ applyBlocksAnswer (asBlocks nrows ncols (widthOf size) (now «row_ptr») (now «col_idx») (now values)) (now x) (length (now y)) ≡ accepted ⌝ }
+    ensures { λ _. ⌜ (length (now (y .exit)) ≡ nrows) × ((r : ℕ) → r < nrows → getD (now (y .exit)) r nan ≡ cond (ltb r (widthOf size * (nrows / widthOf size))) (getD (now (y .entry)) r nan) (blockSum (asBlocks nrows ncols (widthOf size) (now («row_ptr» .entry)) (now («col_idx» .entry)) (now (values .entry))) (now (x .entry)) r)) ⌝ }
+{
+    let mut row = size.width() * size.full_blocks(nrows);
+    while row < nrows {
+        y[row] = partial_sum(nrows, ncols, size, row_ptr, col_idx, values, x, row);
+        row += 1;
+    }
+}
+
+// The rows of accepted blocks.
+fn fill_product(
+    nrows: usize,
+    ncols: usize,
+    size: DenseBlockSize,
+    row_ptr: &[u32],
+    col_idx: &[u32],
+    values: &[f64],
+    x: &[f64],
+    y: &mut [f64],
+)
+    requires { ⌜ applyBlocksAnswer (asBlocks nrows ncols (widthOf size) (now «row_ptr») (now «col_idx») (now values)) (now x) (length (now y)) ≡ accepted ⌝ }
+    ensures { λ _. ⌜ now (y .exit) ≡ blocksProduct (asBlocks nrows ncols (widthOf size) (now («row_ptr» .entry)) (now («col_idx» .entry)) (now (values .entry))) (now (x .entry)) ⌝ }
+{
+    match size {
+        DenseBlockSize::B3 => apply3(nrows, ncols, row_ptr, col_idx, values, x, y),
+        DenseBlockSize::B6 => apply6(nrows, ncols, row_ptr, col_idx, values, x, y),
+    }
+}
+
+fn examine_apply(
+    nrows: usize,
+    ncols: usize,
+    size: DenseBlockSize,
+    row_ptr: &[u32],
+    col_idx: &[u32],
+    values: &[f64],
+    x: &[f64],
+    places: usize,
+) -> Verdict
+    ensures { λ r. ⌜ told r ≡ applyBlocksAnswer (asBlocks nrows ncols (widthOf size) (now («row_ptr» .entry)) (now («col_idx» .entry)) (now (values .entry))) (now (x .entry)) places ⌝ }
+{
+    let v = dense_block_check::check(nrows, ncols, size, row_ptr, col_idx, values);
+    if let Verdict::Refused(e) = v {
+        return Verdict::Refused(e);
+    }
+    if x.len() != ncols {
+        return Verdict::Refused(HybitError::DimensionMismatch {
+            expected: ncols,
+            actual: x.len(),
+        });
+    }
+    if places != nrows {
+        return Verdict::Refused(HybitError::DimensionMismatch {
+            expected: nrows,
+            actual: places,
+        });
+    }
+    Verdict::Accepted
+}
+
+// The row products in y, which stays as it was where the call is refused.
+pub fn apply(
+    nrows: usize,
+    ncols: usize,
+    size: DenseBlockSize,
+    row_ptr: &[u32],
+    col_idx: &[u32],
+    values: &[f64],
+    x: &[f64],
+    y: &mut [f64],
+) -> Verdict
+    ensures answer { λ r. ⌜ told r ≡ applyBlocksAnswer (asBlocks nrows ncols (widthOf size) (now («row_ptr» .entry)) (now («col_idx» .entry)) (now (values .entry))) (now (x .entry)) (length (now (y .entry))) ⌝ }
+    ensures product { λ r. ⌜ now (y .exit) ≡ kept (applyBlocksAnswer (asBlocks nrows ncols (widthOf size) (now («row_ptr» .entry)) (now («col_idx» .entry)) (now (values .entry))) (now (x .entry)) (length (now (y .entry)))) (blocksProduct (asBlocks nrows ncols (widthOf size) (now («row_ptr» .entry)) (now («col_idx» .entry)) (now (values .entry))) (now (x .entry))) (now (y .entry)) ⌝ }
+{
+    let v = examine_apply(nrows, ncols, size, row_ptr, col_idx, values, x, y.len());
+    if let Verdict::Refused(e) = v {
+        return Verdict::Refused(e);
+    }
+    fill_product(nrows, ncols, size, row_ptr, col_idx, values, x, y);
+    Verdict::Accepted
+}

@@ -1,0 +1,179 @@
+// dense_block.rs: the check of blocks that are handed in, and `fast_block_fraction`, which needs them. Their lists are lent by the
+// caller, and every call on a record checks it: 1, 12.
+ghost use mathlib.Core.Path.{_≡_};
+ghost use mathlib.Core.Bool.{true, _&&_};
+ghost use mir.Val.{boolByte};
+ghost use Prim.Native.Nat.{_+_, _*_, _≤_, _^_};
+ghost use lib.Dec.{leb, ltb};
+ghost use lib.ListN.{length};
+ghost use Rattle.hybit_core.specs.Table.{told};
+ghost use Rattle.lent.specs.Lists.{every, only, climbs};
+ghost use Rattle.csr32.specs.Csr.{framed};
+ghost use Rattle.dense_block.specs.Blocks.{widthOf, blocksFor, asBlocks, rowsClimb, blocksRules, blocksAnswer};
+ghost use Rattle.dense_block.specs.Calls.{fastBlocks, fastAnswer, toldRatio};
+use dense_block::DenseBlockSize;
+use dense_block::RatioAnswer;
+use hybit_core::HybitError;
+use hybit_core::Verdict;
+
+// The scans below keep a flag and never leave early, as those of csr32 do.
+fn also(holds: bool, test: bool) -> bool
+    ensures { λ r. ⌜ r ≡ (holds && test) ⌝ }
+{
+    if holds {
+        return test;
+    }
+    false
+}
+
+// Whether each block column of a row is above the one before it.
+fn row_climbs(cols: &[u32]) -> bool
+    ensures { λ r. ⌜ r ≡ climbs 0 (now (cols .entry)) ⌝ }
+{
+    let mut holds = true;
+    let mut i: usize = 1;
+    while i < cols.len() {
+        holds = also(holds, cols[i - 1] < cols[i]);
+        i += 1;
+    }
+    holds
+}
+
+fn rows_climb(
+    nrows: usize,
+    ncols: usize,
+    size: DenseBlockSize,
+    row_ptr: &[u32],
+    col_idx: &[u32],
+    values: &[f64],
+) -> bool
+    requires { ⌜ framed (blocksFor (widthOf size) nrows) (now «row_ptr») (length (now «col_idx»)) ≡ true ⌝ }
+    ensures { λ r. ⌜ r ≡ rowsClimb (asBlocks nrows ncols (widthOf size) (now («row_ptr» .entry)) (now («col_idx» .entry)) (now (values .entry))) ⌝ }
+{
+    let rows = size.blocks_for(nrows);
+    let mut row: usize = 0;
+    while row < rows {
+        let start = hybit_core::wide(row_ptr[row]);
+        let end = hybit_core::wide(row_ptr[row + 1]);
+        if !row_climbs(&col_idx[start..end]) {
+            return false;
+        }
+        row += 1;
+    }
+    true
+}
+
+fn columns_below(col_idx: &[u32], limit: usize) -> bool
+    ensures { λ r. ⌜ r ≡ every (λ c. ltb c limit) (now («col_idx» .entry)) ⌝ }
+{
+    let mut holds = true;
+    let mut i: usize = 0;
+    while i < col_idx.len() {
+        holds = also(holds, hybit_core::wide(col_idx[i]) < limit);
+        i += 1;
+    }
+    holds
+}
+
+// The rules that the Rust's private fields keep.
+fn rules_hold(
+    nrows: usize,
+    ncols: usize,
+    size: DenseBlockSize,
+    row_ptr: &[u32],
+    col_idx: &[u32],
+    values: &[f64],
+) -> bool
+    requires { ⌜ length (now «col_idx») ≤ 2 ^ 24 ⌝ }
+    ensures { λ r. ⌜ r ≡ blocksRules (asBlocks nrows ncols (widthOf size) (now («row_ptr» .entry)) (now («col_idx» .entry)) (now (values .entry))) ⌝ }
+{
+    if !csr32::pointers_hold(size.blocks_for(nrows), row_ptr, col_idx.len()) {
+        return false;
+    }
+    let width = size.width();
+    if values.len() != col_idx.len() * (width * width) {
+        return false;
+    }
+    if !columns_below(col_idx, size.blocks_for(ncols)) {
+        return false;
+    }
+    rows_climb(nrows, ncols, size, row_ptr, col_idx, values)
+}
+
+pub fn check(
+    nrows: usize,
+    ncols: usize,
+    size: DenseBlockSize,
+    row_ptr: &[u32],
+    col_idx: &[u32],
+    values: &[f64],
+) -> Verdict
+    ensures { λ r. ⌜ told r ≡ blocksAnswer (asBlocks nrows ncols (widthOf size) (now («row_ptr» .entry)) (now («col_idx» .entry)) (now (values .entry))) ⌝ }
+{
+    if !hybit_core::sizes_fit(nrows, ncols, col_idx.len(), col_idx.len()) {
+        return Verdict::Refused(HybitError::SizeOverflow);
+    }
+    if !rules_hold(nrows, ncols, size, row_ptr, col_idx, values) {
+        return Verdict::Refused(HybitError::BadStore);
+    }
+    Verdict::Accepted
+}
+
+fn one_if(test: bool) -> usize
+    ensures { λ r. ⌜ r ≡ boolByte test ⌝ }
+{
+    if test {
+        return 1;
+    }
+    0
+}
+
+// How many of these block columns lie wholly inside a frame of `ncols`.
+fn count_full(width: usize, ncols: usize, cols: &[u32]) -> usize
+    requires { ⌜ width ≤ 6 ⌝ }
+    ensures { λ r. ⌜ r ≡ length (only (λ C. leb (width * C + width) ncols) (now (cols .entry))) ⌝ }
+{
+    let mut full: usize = 0;
+    let mut i: usize = 0;
+    while i < cols.len() {
+        full += one_if(width * hybit_core::wide(cols[i]) + width <= ncols);
+        i += 1;
+    }
+    full
+}
+
+// The blocks of the full block rows are the first ones, up to the pointer of the row after them.
+fn count_fast(
+    nrows: usize,
+    ncols: usize,
+    size: DenseBlockSize,
+    row_ptr: &[u32],
+    col_idx: &[u32],
+    values: &[f64],
+) -> usize
+    requires { ⌜ framed (blocksFor (widthOf size) nrows) (now «row_ptr») (length (now «col_idx»)) ≡ true ⌝ }
+    ensures { λ r. ⌜ r ≡ fastBlocks (asBlocks nrows ncols (widthOf size) (now («row_ptr» .entry)) (now («col_idx» .entry)) (now (values .entry))) ⌝ }
+{
+    let width = size.width();
+    let end = hybit_core::wide(row_ptr[size.full_blocks(nrows)]);
+    count_full(width, ncols, &col_idx[..end])
+}
+
+// The blocks wholly inside the frame ÷ all blocks.
+pub fn fast_block_fraction(
+    nrows: usize,
+    ncols: usize,
+    size: DenseBlockSize,
+    row_ptr: &[u32],
+    col_idx: &[u32],
+    values: &[f64],
+) -> RatioAnswer
+    ensures { λ r. ⌜ toldRatio r ≡ fastAnswer (asBlocks nrows ncols (widthOf size) (now («row_ptr» .entry)) (now («col_idx» .entry)) (now (values .entry))) ⌝ }
+{
+    let v = check(nrows, ncols, size, row_ptr, col_idx, values);
+    if let Verdict::Refused(e) = v {
+        return RatioAnswer::Refused(e);
+    }
+    let fast = count_fast(nrows, ncols, size, row_ptr, col_idx, values);
+    RatioAnswer::Ratio(hybit_core::ratio(fast as u64, col_idx.len() as u64))
+}

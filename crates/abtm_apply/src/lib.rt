@@ -2,7 +2,7 @@
 ghost use mathlib.Core.Path.{_≡_};
 ghost use mathlib.Core.Bool.{true};
 ghost use mathlib.Core.List.{map, zip};
-ghost use Prim.Native.Nat.{min, _+_, _≤_, _^_};
+ghost use Prim.Native.Nat.{_+_, _≤_, _^_};
 ghost use lib.Dec.{ltb};
 ghost use lib.ListN.{length};
 ghost use Rattle.hybit_core.specs.Answer.{accepted};
@@ -36,21 +36,12 @@ fn compact_sum(mask: u64, base: usize, values: &[f64], x: &[f64]) -> f64
     sum
 }
 
-fn smaller(a: usize, b: usize) -> usize
-    ensures { λ r. ⌜ r ≡ min a b ⌝ }
-{
-    if a < b {
-        return a;
-    }
-    b
-}
-
 // The products of a Dense tile's places in range added to `start`, absent places too.
 fn add_dense(start: f64, base: usize, values: &[f64], x: &[f64]) -> f64
     requires { ⌜ (base ≤ length (now x)) × (length (now values) ≡ 64) ⌝ }
     ensures { λ r. ⌜ r ≡ addedTo start (only (λ (e : Entry). ltb (e .0) (length (now (x .entry)))) (zip (map (λ i. base + i) (below (λ i. true) 64)) (now (values .entry)))) (now (x .entry)) ⌝ }
 {
-    let limit = smaller(64, x.len() - base);
+    let limit = hybit_core::smaller(64, x.len() - base);
     let mut sum = start;
     let mut j: usize = 0;
     while j < limit {

@@ -5,7 +5,7 @@
 ghost use mathlib.Core.Path.{_≡_};
 ghost use mathlib.Core.Bool.{true, not, cond, _||_};
 ghost use mathlib.Core.List.{[], map, zip};
-ghost use Prim.Native.Nat.{min, _+_, _*_, _≤_, _<_, _^_};
+ghost use Prim.Native.Nat.{_+_, _*_, _≤_, _<_, _^_};
 ghost use lib.Dec.{ltb, eqb};
 ghost use lib.ListN.{length, take, replicate, set, getD};
 ghost use lib.Ieee.{nan, binary64, add};
@@ -40,15 +40,6 @@ pub struct Cursor {
     pub tiles: usize,
     pub slots: usize,
     pub nnz: usize,
-}
-
-fn smaller(a: usize, b: usize) -> usize
-    ensures { λ r. ⌜ r ≡ min a b ⌝ }
-{
-    if a < b {
-        return a;
-    }
-    b
 }
 
 // Adds a value at a place of the window, and marks its word and its block.
@@ -92,7 +83,7 @@ fn gather(
                 if i < width {
                     add_at(i, v, sums, words, blocks);
                 } else {
-                    next = smaller(next, c);
+                    next = hybit_core::smaller(next, c);
                 }
             }
         }
@@ -522,11 +513,11 @@ pub fn from_csr32(
         clear_past(0, 0, 0, row_tile_ptr, masks, value_offsets, metas, values);
         return TilesAnswer::Refused(e);
     }
-    let room = smaller(
-        smaller(masks.len(), value_offsets.len()),
-        smaller(metas.len(), 16777216),
+    let room = hybit_core::smaller(
+        hybit_core::smaller(masks.len(), value_offsets.len()),
+        hybit_core::smaller(metas.len(), 16777216),
     );
-    let places = smaller(values.len(), 1073741824);
+    let places = hybit_core::smaller(values.len(), 1073741824);
     let at = build(
         nrows,
         ncols,

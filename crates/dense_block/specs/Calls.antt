@@ -32,6 +32,10 @@ figuresOf m w = record {
   «valid_dense_slots» = validSlots m w;
 }
 
+-- where the blocks stand: 1; 2, 3, 4; 13, with np places for pointers and nc for block columns
+unfoldable pub columnsAnswer : Csr → ℕ → ℕ → ℕ → Answer
+columnsAnswer m w np nc = csrAnswer m andThen demand (leb (length (blocksOf m w .ptr)) np && leb (length (blocksOf m w .col)) nc) 13
+
 -- 13 finds nothing
 unfoldable pub fitsBlocks : Blocks → CsrRoom → Bool
 fitsBlocks b room = leb (length (b .ptr)) (room .ptr) && leb (length (b .col)) (room .col) && leb (length (b .vals)) (room .val)

@@ -1,7 +1,7 @@
 // dense_block.rs: the width of a block and the figures of `DenseBlockCsrOperator`. The check of blocks that are handed in is the crate
 // dense_block_check, the build from a plot list dense_block_build, the product dense_block_apply.
 ghost use mathlib.Core.Path.{_≡_};
-ghost use Prim.Native.Nat.{_/_};
+ghost use Prim.Native.Nat.{_/_, _%_};
 ghost use Rattle.dense_block.specs.Blocks.{widthOf, blocksFor};
 ghost use Rattle.dense_block.specs.Calls.{blockFill, valuePadding, blockMetadataBytes, blockStorageBytes};
 use hybit_core::HybitError;
@@ -60,6 +60,22 @@ impl DenseBlockSize {
         match self {
             DenseBlockSize::B3 => n / 3,
             DenseBlockSize::B6 => n / 6,
+        }
+    }
+
+    // A column's block column, and its place among the block's columns.
+    pub fn key_of(self, col: u32) -> usize
+        ensures { λ r. ⌜ r ≡ col / widthOf self ⌝ }
+    {
+        self.full_blocks(hybit_core::wide(col))
+    }
+
+    pub fn place_of(self, col: u32) -> usize
+        ensures { λ r. ⌜ r ≡ col % widthOf self ⌝ }
+    {
+        match self {
+            DenseBlockSize::B3 => hybit_core::wide(col) % 3,
+            DenseBlockSize::B6 => hybit_core::wide(col) % 6,
         }
     }
 }

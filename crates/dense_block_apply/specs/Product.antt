@@ -39,8 +39,8 @@ addBlock b x r s p =
     let w = b .width in
     let ts = blockTerms b x (r % w) p in
     cond (leb (w * (r / w) + w) (b .rows))
-      (cond (leb (w * getD (b .col) p 0 + w) (b .cols)) (add binary64 s (asOne ts)) (termByTerm s ts))
-      (add binary64 s (termByTerm zero64 ts))
+    (cond (leb (w * getD (b .col) p 0 + w) (b .cols)) (add binary64 s (asOne ts)) (termByTerm s ts))
+    (add binary64 s (termByTerm zero64 ts))
 
 -- the number of row r: over the blocks of its block row, from 0.0
 unfoldable pub blockSum : Blocks → List Float → ℕ → Float

@@ -1,7 +1,7 @@
 // dense_block.rs: `LinearOperator::apply` of `DenseBlockCsrOperator`, the product of blocks. Each value is read once.
 ghost use mathlib.Core.Path.{_≡_};
 ghost use mathlib.Core.Bool.{cond};
-ghost use Prim.Native.Nat.{ℕ, min, _+_, _*_, _/_, _≤_, _<_, _^_};
+ghost use Prim.Native.Nat.{ℕ, _+_, _*_, _/_, _≤_, _<_, _^_};
 ghost use lib.Dec.{ltb};
 ghost use lib.ListN.{length, getD};
 ghost use lib.Ieee.{nan, binary64, add};
@@ -113,15 +113,6 @@ fn add_tail6(
     let e = add_terms(sums[4], count, values, at + 24, x, col);
     let f = add_terms(sums[5], count, values, at + 30, x, col);
     [a, b, c, d, e, f]
-}
-
-fn smaller(a: usize, b: usize) -> usize
-    ensures { λ r. ⌜ r ≡ min a b ⌝ }
-{
-    if a < b {
-        return a;
-    }
-    b
 }
 
 // The three rows of full block row `row` of accepted blocks.
@@ -279,7 +270,15 @@ fn partial_sum(
     while p < end {
         let col = width * hybit_core::wide(col_idx[p]);
         let at = p * (width * width) + width * local_row;
-        sum = sum + add_terms(0.0, smaller(width, ncols - col), values, at, x, col);
+        sum = sum
+            + add_terms(
+                0.0,
+                hybit_core::smaller(width, ncols - col),
+                values,
+                at,
+                x,
+                col,
+            );
         p += 1;
     }
     sum

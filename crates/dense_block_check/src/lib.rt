@@ -2,7 +2,6 @@
 // caller, and every call on a record checks it: 1, 12.
 ghost use mathlib.Core.Path.{_≡_};
 ghost use mathlib.Core.Bool.{true, _&&_};
-ghost use mir.Val.{boolByte};
 ghost use Prim.Native.Nat.{_+_, _*_, _≤_, _^_};
 ghost use lib.Dec.{leb, ltb};
 ghost use lib.ListN.{length};
@@ -119,15 +118,6 @@ pub fn check(
     Verdict::Accepted
 }
 
-fn one_if(test: bool) -> usize
-    ensures { λ r. ⌜ r ≡ boolByte test ⌝ }
-{
-    if test {
-        return 1;
-    }
-    0
-}
-
 // How many of these block columns lie wholly inside a frame of `ncols`.
 fn count_full(width: usize, ncols: usize, cols: &[u32]) -> usize
     requires { ⌜ width ≤ 6 ⌝ }
@@ -136,7 +126,7 @@ fn count_full(width: usize, ncols: usize, cols: &[u32]) -> usize
     let mut full: usize = 0;
     let mut i: usize = 0;
     while i < cols.len() {
-        full += one_if(width * hybit_core::wide(cols[i]) + width <= ncols);
+        full += hybit_core::one_if(width * hybit_core::wide(cols[i]) + width <= ncols);
         i += 1;
     }
     full

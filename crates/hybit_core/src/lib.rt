@@ -1,6 +1,7 @@
 // hybit-core/src/lib.rs: the refusals and what carries them, the limits of the domain, counts as floats.
-ghost use Prim.Native.Nat.{_+_, _*_, _%_, _^_};
+ghost use Prim.Native.Nat.{min, _+_, _*_, _%_, _^_};
 ghost use mathlib.Core.Path.{_≡_};
+ghost use mir.Val.{boolByte};
 ghost use lib.Ieee.{Float};
 ghost use Rattle.hybit_core.specs.Answer.{numberIn};
 ghost use Rattle.hybit_core.specs.Table.{paper, told};
@@ -173,6 +174,22 @@ pub fn narrow(n: usize) -> u32
     ensures { λ r. ⌜ r ≡ n % 2 ^ 32 ⌝ }
 {
     (n % 4294967296) as u32
+}
+
+pub fn smaller(a: usize, b: usize) -> usize
+    ensures { λ r. ⌜ r ≡ min a b ⌝ }
+{
+    if a < b {
+        return a;
+    }
+    b
+}
+
+// A test as a count.
+pub fn one_if(test: bool) -> usize
+    ensures { λ r. ⌜ r ≡ boolByte test ⌝ }
+{
+    if test { 1 } else { 0 }
 }
 
 // a + b, at most 2^64 − 1: the Rust's `saturating_add`.

@@ -419,6 +419,16 @@ every-by p q t (a ∷ l) h e f =
     and-both (t a) (every t l) (h a (and-left (p a) (every p l) e) (and-left (q a) (every q l) f))
     (every-by p q t l h (and-right (p a) (every p l) e) (and-right (q a) (every q l) f))
 
+-- one that passes passes a weaker test
+pub some-by : {A : Type 0} (p q : A → Bool) (l : List A) → ((a : A) → p a ≡ true → q a ≡ true) → some p l ≡ true → some q l ≡ true
+unfolding some
+some-by p q [] h e = e
+some-by p q (a ∷ l) h e = go (p a) refl e (some-by p q l h)
+  where
+    go : (t : Bool) → p a ≡ t → (t || some p l) ≡ true → (some p l ≡ true → some q l ≡ true) → (q a || some q l) ≡ true
+    go true x y f = ap (λ (b : Bool). b || some q l) (h a x)
+    go false x y f = ap (λ (b : Bool). q a || b) (f y) ∙ or-true (q a)
+
 pub every-at : (p : ℕ → Bool) (l : List ℕ) (c : ℕ) → every p l ≡ true → some (λ d. eqb d c) l ≡ true → p c ≡ true
 every-at p l c e s = let w = some-every (λ d. eqb d c) p l s e in ap p (sym (eqb-true (w .0) c (w .1))) ∙ w .2
 

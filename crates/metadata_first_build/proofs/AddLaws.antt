@@ -19,7 +19,7 @@ use Rattle.csr32.specs.Csr.{present, merged}
 use Rattle.csr32.proofs.CsrLaws.{present-columns, column-below}
 use Rattle.metadata_first_merge.specs.Merge.{rowValues}
 use Rattle.csr32.proofs.MergedLaws.{addIf, merged-none, merged-more, firsts-all}
-use Rattle.metadata_first_build.specs.Ranks.{Ranks}
+use Rattle.levels.specs.Ranks.{Ranks}
 
 -- ---- the first k entries are added
 

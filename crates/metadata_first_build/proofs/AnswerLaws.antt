@@ -32,7 +32,7 @@ use Rattle.metadata_first.specs.Store.{Store, packedOf}
 use Rattle.metadata_first.proofs.StoreLaws.{packed-total, packed-pointers}
 use Rattle.metadata_first_merge.specs.Merge.{rowValues, mergedFinite, mergeAnswer}
 use Rattle.metadata_first_build.specs.Pack.{storeOf, asStoreRoom, fitsStore, packAnswer}
-use Rattle.metadata_first_build.specs.Ranks.{Source, Valued, lastRefusal}
+use Rattle.metadata_first_build.specs.Making.{Source, Valued, lastRefusal}
 
 -- what the call answers, and what its lists of np, nw, nm, nv and nx places hold
 abbrev Result : Answer → Given (ℕ × ℕ) → Store → ℕ → ℕ → ℕ → ℕ → ℕ → List ℕ → List ℕ → List ℕ → List ℕ → List Float → Type 0

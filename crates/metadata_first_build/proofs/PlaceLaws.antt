@@ -18,7 +18,7 @@ use Rattle.topology.specs.Words.{Words, topologyOf, member, rowMember, rowRule}
 use Rattle.topology.proofs.RowLaws.{Row, row-is, small-is}
 use Rattle.topology.proofs.TopologyLaws.{row-words, row-masks, member-in, topology-checked, accepted-facts}
 use Rattle.topology.proofs.FrontLaws.{placed, at-end, Front, front-none, Placed, Next, next, ended, count-in, count-skip, count-frame, count-upto}
-use Rattle.metadata_first_build.specs.Ranks.{Ranks}
+use Rattle.levels.specs.Ranks.{Ranks}
 
 module _ (p : ℕ → Bool) (n : ℕ) (bits₀ starts₀ : List ℕ) where
   -- the first i words, all below word `at`, are noted

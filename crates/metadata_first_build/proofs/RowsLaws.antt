@@ -30,7 +30,7 @@ use Rattle.topology_build.proofs.AnswerLaws.{built-accepted}
 use Rattle.metadata_first.specs.Store.{packedOf}
 use Rattle.metadata_first_merge.specs.Merge.{rowValues}
 use Rattle.metadata_first_build.specs.Pack.{storeOf}
-use Rattle.metadata_first_build.specs.Ranks.{Source}
+use Rattle.metadata_first_build.specs.Making.{Source}
 
 -- ---- the rows of the store
 

@@ -4,7 +4,6 @@ ghost use mathlib.Core.Path.{_≡_};
 ghost use mathlib.Core.List.{map, zip};
 ghost use Prim.Native.Nat.{_+_, _≤_};
 ghost use lib.ListN.{length};
-ghost use mir.Val.{boolByte};
 ghost use Rattle.hybit_core.specs.Answer.{accepted, answers};
 ghost use Rattle.hybit_core.specs.Floats.{zero64};
 ghost use Rattle.hybit_core.specs.Table.{told};
@@ -19,12 +18,6 @@ use hybit_core::Verdict;
 use restricted::ColumnRestriction;
 use restricted::RestrictAnswer;
 
-fn one_if(b: bool) -> usize
-    ensures { λ r. ⌜ r ≡ boolByte b ⌝ }
-{
-    if b { 1 } else { 0 }
-}
-
 // How many of the columns are active.
 fn count_active(col_idx: &[u32], mask_len: usize, mask: &[u64]) -> usize
     ensures { λ r. ⌜ r ≡ length (only (active (asMask «mask_len» (now (mask .entry)))) (now («col_idx» .entry))) ⌝ }
@@ -32,7 +25,7 @@ fn count_active(col_idx: &[u32], mask_len: usize, mask: &[u64]) -> usize
     let mut kept: usize = 0;
     let mut p: usize = 0;
     while p < col_idx.len() {
-        kept += one_if(mask::is_member(mask_len, mask, hybit_core::wide(col_idx[p])));
+        kept += hybit_core::one_if(mask::is_member(mask_len, mask, hybit_core::wide(col_idx[p])));
         p += 1;
     }
     kept

@@ -7,7 +7,6 @@ ghost use mathlib.Core.List.{map, zip};
 ghost use Prim.Native.Nat.{_+_, _*_, _^_, _≤_, _<_};
 ghost use lib.Dec.{ltb};
 ghost use lib.ListN.{length};
-ghost use mir.Val.{boolByte};
 ghost use Rattle.hybit_core.specs.Answer.{answers};
 ghost use Rattle.hybit_core.specs.Floats.{zero64};
 ghost use Rattle.hybit_core.specs.Table.{told};
@@ -24,12 +23,6 @@ use hybit_core::Verdict;
 use restricted::LocalAnswer;
 use restricted::LocalRegion;
 
-fn one_if(b: bool) -> usize
-    ensures { λ r. ⌜ r ≡ boolByte b ⌝ }
-{
-    if b { 1 } else { 0 }
-}
-
 // How many of the columns lie in the region.
 fn count_row(cols: &[u32], region_len: usize, region: &[u64]) -> usize
     requires { ⌜ length (now cols) ≤ 2 ^ 24 ⌝ }
@@ -38,7 +31,7 @@ fn count_row(cols: &[u32], region_len: usize, region: &[u64]) -> usize
     let mut kept: usize = 0;
     let mut p: usize = 0;
     while p < cols.len() {
-        kept += one_if(mask::is_member(region_len, region, hybit_core::wide(cols[p])));
+        kept += hybit_core::one_if(mask::is_member(region_len, region, hybit_core::wide(cols[p])));
         p += 1;
     }
     kept

@@ -32,8 +32,8 @@ use Rattle.topology.specs.Words.{Words, topologyOf, setBits, wordAnswer}
 use Rattle.topology.specs.Calls.{asRoom, fitsWords, usedOf}
 use Rattle.topology.proofs.TopologyLaws.{total-bits, topology-pointers, topology-sides, topology-checked}
 use Rattle.topology_build.specs.Build.{topologyFrom, buildAnswer}
-use Rattle.topology_build.specs.Levels.{Source, rowTest, rowWords, Rows, Ended}
-use Rattle.topology_build.proofs.LevelLaws.{listed-few, columns-few}
+use Rattle.topology_build.specs.Making.{Source, rowTest, rowWords, Rows, Ended}
+use Rattle.levels.proofs.LevelLaws.{listed-few, columns-few}
 
 -- what the call answers, and what its lists of np, nw and nm places hold
 abbrev Result : Answer → Given (ℕ × ℕ) → Words → ℕ → ℕ → ℕ → List ℕ → List ℕ → List ℕ → Type 0

@@ -1,5 +1,3 @@
-pub mod LevelLaws
 pub mod EmitLaws
-pub mod ClearLaws
 pub mod RowsLaws
 pub mod AnswerLaws

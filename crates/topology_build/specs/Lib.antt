@@ -1,2 +1,2 @@
 pub mod Build
-pub mod Levels
+pub mod Making

@@ -14,13 +14,6 @@ use Rattle.topology.specs.Words.{topologyOf}
 use Rattle.metadata_first_merge.specs.Merge.{mergedFinite}
 use Rattle.metadata_first_build.specs.Pack.{storeOf}
 
--- the rank of each column of the test over n columns can be read: the place of its word's first value, and the ones of its
--- word's mask below it
-pub record Ranks (p : ℕ → Bool) (n : ℕ) (bits starts : List ℕ) : Type 0 where
-  pub bits-room : ceil64 n ≤ length bits
-  pub starts-room : ceil64 n ≤ length starts
-  pub rank-is : (c : ℕ) → c < n → p c ≡ true → getD starts (c / 64) 0 + count (has (getD bits (c / 64) 0)) (c % 64) ≡ count p c
-
 -- an accepted plot list and the lists of its words
 pub record Source (m : Csr) (ptr word mask : List ℕ) : Type 0 where
   pub list-accepted : csrAnswer m ≡ accepted

@@ -1,0 +1,3 @@
+pub mod LevelLaws
+pub mod MarkedLaws
+pub mod ClearLaws

@@ -1,2 +1,4 @@
 pub mod KeyLaws
 pub mod ExpandLaws
+pub mod BandLaws
+pub mod ColumnsLaws

@@ -2,3 +2,4 @@ pub mod KeyLaws
 pub mod ExpandLaws
 pub mod BandLaws
 pub mod ColumnsLaws
+pub mod FillLaws

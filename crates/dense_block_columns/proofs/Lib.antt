@@ -3,3 +3,4 @@ pub mod ExpandLaws
 pub mod BandLaws
 pub mod ColumnsLaws
 pub mod FillLaws
+pub mod AnswerLaws

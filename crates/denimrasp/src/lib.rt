@@ -106,7 +106,7 @@ pub extern "C" fn denimrasp_mask_new(len: usize, words: &mut [u64]) -> Denimrasp
     ensures answer { λ r. ⌜ r ≡ verdictOf (newAnswer len (length (now (words .entry)))) ⌝ }
     ensures list { λ _. ⌜ now (words .exit) ≡ built 0 (length (now (words .entry))) (newAnswer len (length (now (words .entry)))) (maskWords (λ c. false) len) ⌝ }
 {
-    denimrasp_answers::verdict(mask::new(len, words))
+    denimrasp_answers::verdict(mask_build::new(len, words))
 }
 
 // The mask of the listed members.
@@ -119,7 +119,7 @@ pub extern "C" fn denimrasp_mask_from_indices(
     ensures answer { λ r. ⌜ r ≡ verdictOf (fromIndicesAnswer len (now (indices .entry)) (length (now (words .entry)))) ⌝ }
     ensures list { λ _. ⌜ now (words .exit) ≡ built 0 (length (now (words .entry))) (fromIndicesAnswer len (now (indices .entry)) (length (now (words .entry)))) (maskWords (listed (now (indices .entry))) len) ⌝ }
 {
-    denimrasp_answers::verdict(mask::from_indices(len, indices, words))
+    denimrasp_answers::verdict(mask_build::from_indices(len, indices, words))
 }
 
 // Puts index in or out; a refused call leaves the words as they were.
@@ -133,7 +133,7 @@ pub extern "C" fn denimrasp_mask_set(
     ensures answer { λ r. ⌜ r ≡ verdictOf (setAnswer (asMask len (now (words .entry))) index) ⌝ }
     ensures list { λ _. ⌜ now (words .exit) ≡ kept (setAnswer (asMask len (now (words .entry))) index) (maskWords (changed (active (asMask len (now (words .entry)))) index value) len) (now (words .entry)) ⌝ }
 {
-    denimrasp_answers::verdict(mask::set(len, words, index, value))
+    denimrasp_answers::verdict(mask_build::set(len, words, index, value))
 }
 
 // Joins the members of one word; bits from the length on are dropped, a word past the end changes nothing.
@@ -174,7 +174,7 @@ pub extern "C" fn denimrasp_mask_union_assign(
     ensures answer { λ r. ⌜ r ≡ verdictOf (maskPairAnswer (asMask len (now (words .entry))) (asMask «other_len» (now (other .entry)))) ⌝ }
     ensures list { λ _. ⌜ now (words .exit) ≡ kept (maskPairAnswer (asMask len (now (words .entry))) (asMask «other_len» (now (other .entry)))) (maskWords (λ c. active (asMask len (now (words .entry))) c || active (asMask «other_len» (now (other .entry))) c) len) (now (words .entry)) ⌝ }
 {
-    denimrasp_answers::verdict(mask::union_assign(len, words, other_len, other))
+    denimrasp_answers::verdict(mask_sets::union_assign(len, words, other_len, other))
 }
 
 // Keeps the members that the other mask has too.
@@ -188,7 +188,7 @@ pub extern "C" fn denimrasp_mask_intersect_assign(
     ensures answer { λ r. ⌜ r ≡ verdictOf (maskPairAnswer (asMask len (now (words .entry))) (asMask «other_len» (now (other .entry)))) ⌝ }
     ensures list { λ _. ⌜ now (words .exit) ≡ kept (maskPairAnswer (asMask len (now (words .entry))) (asMask «other_len» (now (other .entry)))) (maskWords (λ c. active (asMask len (now (words .entry))) c && active (asMask «other_len» (now (other .entry))) c) len) (now (words .entry)) ⌝ }
 {
-    denimrasp_answers::verdict(mask::intersect_assign(len, words, other_len, other))
+    denimrasp_answers::verdict(mask_sets::intersect_assign(len, words, other_len, other))
 }
 
 // Keeps the members that the other mask does not have.
@@ -202,7 +202,7 @@ pub extern "C" fn denimrasp_mask_and_not_assign(
     ensures answer { λ r. ⌜ r ≡ verdictOf (maskPairAnswer (asMask len (now (words .entry))) (asMask «other_len» (now (other .entry)))) ⌝ }
     ensures list { λ _. ⌜ now (words .exit) ≡ kept (maskPairAnswer (asMask len (now (words .entry))) (asMask «other_len» (now (other .entry)))) (maskWords (λ c. active (asMask len (now (words .entry))) c && not (active (asMask «other_len» (now (other .entry))) c)) len) (now (words .entry)) ⌝ }
 {
-    denimrasp_answers::verdict(mask::and_not_assign(len, words, other_len, other))
+    denimrasp_answers::verdict(mask_sets::and_not_assign(len, words, other_len, other))
 }
 
 // Whether the two masks have a member in common.
@@ -215,7 +215,7 @@ pub extern "C" fn denimrasp_mask_intersects(
 ) -> DenimraspBool
     ensures { λ r. ⌜ r ≡ boolOf (answers (maskPairAnswer (asMask len (now (words .entry))) (asMask «other_len» (now (other .entry)))) (not (eqb (count (both (active (asMask len (now (words .entry)))) (active (asMask «other_len» (now (other .entry))))) len) 0))) ⌝ }
 {
-    denimrasp_answers::truth(mask::intersects(len, words, other_len, other))
+    denimrasp_answers::truth(mask_sets::intersects(len, words, other_len, other))
 }
 
 // The Rust's `new` and `validate`.

@@ -128,7 +128,7 @@ fn show_built(plots: &[usize], words: &mut [u64]) {
     text(b"active of 70:");
     show_indices(plots);
     text(b":");
-    verdict(mask::from_indices(70, plots, words));
+    verdict(mask_build::from_indices(70, plots, words));
     text(b", words");
     show_words(words);
 }
@@ -153,7 +153,7 @@ fn show_mask(plots: &[usize], words: &mut [u64], members: &mut [usize]) {
     show_members(words, members);
     show_asked(words);
     text(b", set 70:");
-    verdict(mask::set(70, words, 70, true));
+    verdict(mask_build::set(70, words, 70, true));
     text(b"\n");
 }
 

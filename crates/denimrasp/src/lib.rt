@@ -246,7 +246,7 @@ pub extern "C" fn denimrasp_csr32_apply(
     ensures answer { λ r. ⌜ r ≡ verdictOf (applyAnswer (asCsr nrows ncols (now («row_ptr» .entry)) (now («col_idx» .entry)) (now (values .entry))) (now (x .entry)) (length (now (y .entry)))) ⌝ }
     ensures target { λ _. ⌜ now (y .exit) ≡ kept (applyAnswer (asCsr nrows ncols (now («row_ptr» .entry)) (now («col_idx» .entry)) (now (values .entry))) (now (x .entry)) (length (now (y .entry)))) (product (asCsr nrows ncols (now («row_ptr» .entry)) (now («col_idx» .entry)) (now (values .entry))) (now (x .entry))) (now (y .entry)) ⌝ }
 {
-    denimrasp_answers::verdict(csr32::apply(nrows, ncols, row_ptr, col_idx, values, x, y))
+    denimrasp_answers::verdict(csr32_apply::apply(nrows, ncols, row_ptr, col_idx, values, x, y))
 }
 
 // The bytes of the pointers and columns.

@@ -1,14 +1,14 @@
--- `csr32::fill_product` meets its contract. Assumes nothing.
+-- `csr32_apply::fill_product` meets its contract. Assumes nothing.
 use borrow.Author.Needs.{needs}
 use native.Mathlib.Omega.{arith}
 use Prim.Native.Nat.{_^_, _-_, _≤_}
 use mathlib.Core.Path.{_≡_}
 use lib.ListN.{length, length-set}
 use Rattle.csr32.specs.Csr.{asCsr, entries, rowProduct, product}
 use Rattle.csr32.proofs.CsrLaws.{valid}
 use Rattle.csr32.proofs.SumLaws.{Thirds, thirds-none, thirds-more, thirds-done}
-use Rattle.csr32.proofs.fill_product.Statement.{statement}
-use Rattle.csr32.proofs.fill_product.Tie as tie
+use Rattle.csr32_apply.proofs.fill_product.Statement.{statement}
+use Rattle.csr32_apply.proofs.fill_product.Tie as tie
 
 abbrev Inv-loop : tie.InvT-loop
 Inv-loop nrows ncols row-ptr col-idx values x y₀ third row₀ y row = (nrows ≤ 2 ^ 20) × (third ≤ nrows) × (row ≤ third) × (length y ≡ nrows) × Thirds (λ r. rowProduct (entries (asCsr nrows ncols row-ptr col-idx values) r) x) third row y

@@ -1,9 +1,9 @@
--- `csr32::term` meets its contract. Assumes nothing.
+-- `csr32_apply::term` meets its contract. Assumes nothing.
 use borrow.Author.Needs.{needs}
 use Rattle.csr32.proofs.CsrLaws.{column-below}
 use Rattle.csr32.proofs.SumLaws.{product-is}
-use Rattle.csr32.proofs.term.Statement.{statement}
-use Rattle.csr32.proofs.term.Tie as tie
+use Rattle.csr32_apply.proofs.term.Statement.{statement}
+use Rattle.csr32_apply.proofs.term.Tie as tie
 
 mul-wide : tie.Need-mul-wide
 mul-wide c = search needs

@@ -1,10 +1,10 @@
--- `csr32::apply` meets its contract. Assumes nothing.
+-- `csr32_apply::apply` meets its contract. Assumes nothing.
 use borrow.Author.Needs.{needs}
 use Rattle.hybit_core.proofs.AnswerLaws.{outcomes, accepted-by, answer-accepted}
 use Rattle.lent.proofs.LentLaws.{kept-refused, kept-accepted}
 use Rattle.csr32.proofs.CsrLaws.{apply-accepted}
-use Rattle.csr32.proofs.apply.Statement.{statement}
-use Rattle.csr32.proofs.apply.Tie as tie
+use Rattle.csr32_apply.proofs.apply.Statement.{statement}
+use Rattle.csr32_apply.proofs.apply.Tie as tie
 
 examine-apply-requires : tie.Need-examine-apply-requires
 examine-apply-requires c κs = search needs

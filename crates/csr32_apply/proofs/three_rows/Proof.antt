@@ -1,9 +1,9 @@
--- `csr32::three_rows` meets its contract. Assumes nothing.
+-- `csr32_apply::three_rows` meets its contract. Assumes nothing.
 use borrow.Author.Needs.{needs}
 use Rattle.csr32.proofs.CsrLaws.{valid, row-of}
 use Rattle.csr32.proofs.SumLaws.{places-of, sides-of, row-sum}
-use Rattle.csr32.proofs.three_rows.Statement.{statement}
-use Rattle.csr32.proofs.three_rows.Tie as tie
+use Rattle.csr32_apply.proofs.three_rows.Statement.{statement}
+use Rattle.csr32_apply.proofs.three_rows.Tie as tie
 
 pointer-requires : tie.Need-pointer-requires
 pointer-requires c κs = let i = row-of (valid _ (c .before .before .before .before .pre .0)) (c .before .before .before .before .pre .1 .1 .0) in search needs

@@ -1,12 +1,12 @@
--- `csr32::examine_apply` meets its contract. Assumes nothing.
+-- `csr32_apply::examine_apply` meets its contract. Assumes nothing.
 use borrow.Author.Needs.{needs}
 use native.Mathlib.Omega.{arith}
 use lib.ListN.{length}
 use Rattle.hybit_core.proofs.AnswerLaws.{call-accepted, length-wrong, length-right, last-length-wrong, last-length-right, checks}
 use Rattle.hybit_core.proofs.BoolLaws.{tests}
 use Rattle.csr32.specs.Csr.{applyAnswer}
-use Rattle.csr32.proofs.examine_apply.Statement.{statement}
-use Rattle.csr32.proofs.examine_apply.Tie as tie
+use Rattle.csr32_apply.proofs.examine_apply.Statement.{statement}
+use Rattle.csr32_apply.proofs.examine_apply.Tie as tie
 
 check-requires : tie.Need-check-requires
 check-requires c κs = search needs

@@ -1,10 +1,10 @@
--- `csr32::sum_three` meets its contract. Assumes nothing.
+-- `csr32_apply::sum_three` meets its contract. Assumes nothing.
 use borrow.Author.Needs.{needs}
 use Prim.Native.Nat.{_≤_, _+_, _-_}
 use Rattle.hybit_core.specs.Floats.{zero64}
 use Rattle.csr32.proofs.SumLaws.{Adding, adding-none, adding-more, adding-rest}
-use Rattle.csr32.proofs.sum_three.Statement.{statement}
-use Rattle.csr32.proofs.sum_three.Tie as tie
+use Rattle.csr32_apply.proofs.sum_three.Statement.{statement}
+use Rattle.csr32_apply.proofs.sum_three.Tie as tie
 
 abbrev Inv-loop : tie.InvT-loop
 Inv-loop col-idx values x a a-end b b-end c c-end n first₀ second₀ third₀ i₀ first second third i = (i ≤ n) × Adding col-idx values x a a-end zero64 (a + i) first × Adding col-idx values x b b-end zero64 (b + i) second × Adding col-idx values x c c-end zero64 (c + i) third

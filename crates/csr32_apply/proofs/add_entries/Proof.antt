@@ -1,10 +1,10 @@
--- `csr32::add_entries` meets its contract. Assumes nothing.
+-- `csr32_apply::add_entries` meets its contract. Assumes nothing.
 use borrow.Author.Needs.{needs}
 use Prim.Native.Nat.{_≤_, _-_}
 use mathlib.Core.Path.{refl}
 use Rattle.csr32.proofs.SumLaws.{Adding, adding-none, adding-more, adding-done}
-use Rattle.csr32.proofs.add_entries.Statement.{statement}
-use Rattle.csr32.proofs.add_entries.Tie as tie
+use Rattle.csr32_apply.proofs.add_entries.Statement.{statement}
+use Rattle.csr32_apply.proofs.add_entries.Tie as tie
 
 abbrev Inv-loop : tie.InvT-loop
 Inv-loop col-idx values x from to start sum₀ p₀ sum p = (p ≤ to) × Adding col-idx values x from to start p sum

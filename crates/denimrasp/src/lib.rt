@@ -373,7 +373,7 @@ pub extern "C" fn denimrasp_topology_row_nonempty_words(
 ) -> DenimraspCount
     ensures { λ r. ⌜ r ≡ countOf (answers (rowAnswer (asWords nrows ncols (now («row_word_ptr» .entry)) (now («word_indices» .entry)) (now (masks .entry)) «structural_nnz») row) (length (wordsOf (member (asWords nrows ncols (now («row_word_ptr» .entry)) (now («word_indices» .entry)) (now (masks .entry)) «structural_nnz») row) ncols))) ⌝ }
 {
-    let answer = topology::row_nonempty_words(
+    let answer = topology_rows::row_nonempty_words(
         nrows,
         ncols,
         row_word_ptr,
@@ -398,7 +398,7 @@ pub extern "C" fn denimrasp_topology_row_popcount(
 ) -> DenimraspCount
     ensures { λ r. ⌜ r ≡ countOf (answers (rowAnswer (asWords nrows ncols (now («row_word_ptr» .entry)) (now («word_indices» .entry)) (now (masks .entry)) «structural_nnz») row) (count (member (asWords nrows ncols (now («row_word_ptr» .entry)) (now («word_indices» .entry)) (now (masks .entry)) «structural_nnz») row) ncols)) ⌝ }
 {
-    let answer = topology::row_popcount(
+    let answer = topology_rows::row_popcount(
         nrows,
         ncols,
         row_word_ptr,
@@ -424,7 +424,7 @@ pub extern "C" fn denimrasp_topology_row_contains(
 ) -> DenimraspBool
     ensures { λ r. ⌜ r ≡ boolOf (answers (rowAnswer (asWords nrows ncols (now («row_word_ptr» .entry)) (now («word_indices» .entry)) (now (masks .entry)) «structural_nnz») row) (within ncols (member (asWords nrows ncols (now («row_word_ptr» .entry)) (now («word_indices» .entry)) (now (masks .entry)) «structural_nnz») row) col)) ⌝ }
 {
-    let answer = topology::row_contains(
+    let answer = topology_rows::row_contains(
         nrows,
         ncols,
         row_word_ptr,
@@ -451,7 +451,7 @@ pub extern "C" fn denimrasp_topology_row_rank(
 ) -> DenimraspCount
     ensures { λ r. ⌜ r ≡ countOf (rankAnswer (asWords nrows ncols (now («row_word_ptr» .entry)) (now («word_indices» .entry)) (now (masks .entry)) «structural_nnz») row col) ⌝ }
 {
-    let answer = topology::row_rank(
+    let answer = topology_rows::row_rank(
         nrows,
         ncols,
         row_word_ptr,
@@ -478,7 +478,7 @@ pub extern "C" fn denimrasp_topology_row_select(
 ) -> DenimraspSelect
     ensures { λ r. ⌜ r ≡ selectOf (answers (rowAnswer (asWords nrows ncols (now («row_word_ptr» .entry)) (now («word_indices» .entry)) (now (masks .entry)) «structural_nnz») row) (select (asWords nrows ncols (now («row_word_ptr» .entry)) (now («word_indices» .entry)) (now (masks .entry)) «structural_nnz») row ordinal)) ⌝ }
 {
-    let answer = topology::row_select(
+    let answer = topology_rows::row_select(
         nrows,
         ncols,
         row_word_ptr,

@@ -1,16 +1,16 @@
--- `topology::select_in` meets its contract. Assumes nothing.
+-- `topology_rows::select_in` meets its contract. Assumes nothing.
 use Rattle.word.proofs.BelowLaws.{selected-small}
 use Rattle.word.specs.Word.{toldSelect}
 use Rattle.topology.proofs.FrontLaws.{Selecting, selecting-none, selecting-more, selecting-at, selecting-gives, selecting-done, placed, at-end}
 use Rattle.topology.proofs.RowLaws.{row-is, small-is}
 use Rattle.topology.specs.Words.{rowMember}
 use lib.ListN.{length}
 use native.Mathlib.Omega.{arith}
 use Prim.Native.Nat.{_-_}
 use mathlib.Core.Path.{refl, sym, ap, _∙_}
 use borrow.Author.Needs.{needs}
-use Rattle.topology.proofs.select_in.Statement.{statement}
-use Rattle.topology.proofs.select_in.Tie as tie
+use Rattle.topology_rows.proofs.select_in.Statement.{statement}
+use Rattle.topology_rows.proofs.select_in.Tie as tie
 
 abbrev Inv-loop : tie.InvT-loop
 Inv-loop ncols words masks ordinal left₀ k₀ left k = Selecting (rowMember words masks) ncols ordinal k left

@@ -1,15 +1,15 @@
--- `topology::rank_in` meets its contract. Assumes nothing.
+-- `topology_rows::rank_in` meets its contract. Assumes nothing.
 use Rattle.topology.proofs.FrontLaws.{Ranking, ranking-none, ranking-more, ranking-fits, ranking-at, ranking-small, ranking-past, ranking-done, placed, at-end}
 use Rattle.topology.proofs.FrontLaws.{Ranking, ranking-none, ranking-more, ranking-fits, ranking-at, ranking-past, ranking-done, placed, at-end}
 use Rattle.topology.proofs.RowLaws.{row-is, small-is}
 use Rattle.topology.specs.Words.{rowMember}
 use lib.ListN.{length}
 use native.Mathlib.Omega.{arith}
 use Prim.Native.Nat.{_-_, _+_}
 use mathlib.Core.Path.{refl, sym, ap, _∙_}
 use borrow.Author.Needs.{needs}
-use Rattle.topology.proofs.rank_in.Statement.{statement}
-use Rattle.topology.proofs.rank_in.Tie as tie
+use Rattle.topology_rows.proofs.rank_in.Statement.{statement}
+use Rattle.topology_rows.proofs.rank_in.Tie as tie
 
 abbrev Inv-loop : tie.InvT-loop
 Inv-loop ncols words masks col target rank₀ i₀ rank i = Ranking (rowMember words masks) ncols col i rank

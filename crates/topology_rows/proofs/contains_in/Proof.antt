@@ -1,12 +1,12 @@
--- `topology::contains_in` meets its contract. Assumes nothing.
+-- `topology_rows::contains_in` meets its contract. Assumes nothing.
 use Rattle.topology.proofs.ScanLaws.{member-found, member-more, member-none}
 use Rattle.topology.specs.Words.{rowMember}
 use lib.ListN.{length, drop}
 use Prim.Native.Nat.{_-_}
 use mathlib.Core.Path.{_≡_}
 use borrow.Author.Needs.{needs}
-use Rattle.topology.proofs.contains_in.Statement.{statement}
-use Rattle.topology.proofs.contains_in.Tie as tie
+use Rattle.topology_rows.proofs.contains_in.Statement.{statement}
+use Rattle.topology_rows.proofs.contains_in.Tie as tie
 
 abbrev Inv-loop : tie.InvT-loop
 Inv-loop words masks col target i₀ i = rowMember words masks col ≡ rowMember (drop i words) (drop i masks) col

@@ -1,11 +1,11 @@
--- `topology::row_select` meets its contract. Assumes nothing.
+-- `topology_rows::row_select` meets its contract. Assumes nothing.
 use mathlib.Core.Path.{sym, ap, _∙_}
 use Rattle.word.specs.Word.{toldSelect}
 use Rattle.topology.proofs.CallLaws.{row-checked, select-is, sides-lent, rule-lent}
 use Rattle.hybit_core.proofs.AnswerLaws.{outcomes, given-accepted}
 use borrow.Author.Needs.{needs}
-use Rattle.topology.proofs.row_select.Statement.{statement}
-use Rattle.topology.proofs.row_select.Tie as tie
+use Rattle.topology_rows.proofs.row_select.Statement.{statement}
+use Rattle.topology_rows.proofs.row_select.Tie as tie
 
 check-row-requires : tie.Need-check-row-requires
 check-row-requires c κs = search needs

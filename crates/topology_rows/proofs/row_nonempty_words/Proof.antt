@@ -1,10 +1,10 @@
--- `topology::row_nonempty_words` meets its contract. Assumes nothing.
+-- `topology_rows::row_nonempty_words` meets its contract. Assumes nothing.
 use Rattle.topology.proofs.RowLaws.{small-is}
 use Rattle.topology.proofs.CallLaws.{row-checked, nonempty-is}
 use Rattle.hybit_core.proofs.AnswerLaws.{outcomes, given-accepted}
 use borrow.Author.Needs.{needs}
-use Rattle.topology.proofs.row_nonempty_words.Statement.{statement}
-use Rattle.topology.proofs.row_nonempty_words.Tie as tie
+use Rattle.topology_rows.proofs.row_nonempty_words.Statement.{statement}
+use Rattle.topology_rows.proofs.row_nonempty_words.Tie as tie
 
 check-row-requires : tie.Need-check-row-requires
 check-row-requires c κs = search needs

@@ -1,10 +1,10 @@
--- `topology::row_rank` meets its contract. Assumes nothing.
+-- `topology_rows::row_rank` meets its contract. Assumes nothing.
 use Rattle.topology.specs.Calls.{rankAnswer}
 use Rattle.topology.proofs.CallLaws.{rank-checked, rank-low, rank-is, sides-lent, rule-lent}
 use Rattle.hybit_core.proofs.AnswerLaws.{outcomes, given-accepted}
 use borrow.Author.Needs.{needs}
-use Rattle.topology.proofs.row_rank.Statement.{statement}
-use Rattle.topology.proofs.row_rank.Tie as tie
+use Rattle.topology_rows.proofs.row_rank.Statement.{statement}
+use Rattle.topology_rows.proofs.row_rank.Tie as tie
 
 examine-rank-requires : tie.Need-examine-rank-requires
 examine-rank-requires c κs = search needs

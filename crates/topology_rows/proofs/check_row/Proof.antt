@@ -1,10 +1,10 @@
--- `topology::check_row` meets its contract. Assumes nothing.
+-- `topology_rows::check_row` meets its contract. Assumes nothing.
 use Rattle.hybit_core.proofs.AnswerLaws.{checks}
 use Rattle.hybit_core.proofs.BoolLaws.{tests}
 use Rattle.topology.specs.Calls.{rowAnswer}
 use borrow.Author.Needs.{needs}
-use Rattle.topology.proofs.check_row.Statement.{statement}
-use Rattle.topology.proofs.check_row.Tie as tie
+use Rattle.topology_rows.proofs.check_row.Statement.{statement}
+use Rattle.topology_rows.proofs.check_row.Tie as tie
 
 check-requires : tie.Need-check-requires
 check-requires c κs = search needs

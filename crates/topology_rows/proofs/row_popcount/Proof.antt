@@ -1,10 +1,10 @@
--- `topology::row_popcount` meets its contract. Assumes nothing.
+-- `topology_rows::row_popcount` meets its contract. Assumes nothing.
 use Rattle.topology.proofs.RowLaws.{small-is}
 use Rattle.topology.proofs.CallLaws.{row-checked, popcount-is}
 use Rattle.hybit_core.proofs.AnswerLaws.{outcomes, given-accepted}
 use borrow.Author.Needs.{needs}
-use Rattle.topology.proofs.row_popcount.Statement.{statement}
-use Rattle.topology.proofs.row_popcount.Tie as tie
+use Rattle.topology_rows.proofs.row_popcount.Statement.{statement}
+use Rattle.topology_rows.proofs.row_popcount.Tie as tie
 
 check-row-requires : tie.Need-check-row-requires
 check-row-requires c κs = search needs

@@ -1,9 +1,9 @@
--- `topology::row_contains` meets its contract. Assumes nothing.
+-- `topology_rows::row_contains` meets its contract. Assumes nothing.
 use Rattle.topology.proofs.CallLaws.{row-checked, contains-is, contains-past, sides-lent}
 use Rattle.hybit_core.proofs.AnswerLaws.{outcomes, given-accepted}
 use borrow.Author.Needs.{needs}
-use Rattle.topology.proofs.row_contains.Statement.{statement}
-use Rattle.topology.proofs.row_contains.Tie as tie
+use Rattle.topology_rows.proofs.row_contains.Statement.{statement}
+use Rattle.topology_rows.proofs.row_contains.Tie as tie
 
 check-row-requires : tie.Need-check-row-requires
 check-row-requires c κs = search needs

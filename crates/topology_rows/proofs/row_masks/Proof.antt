@@ -1,10 +1,10 @@
--- `topology::row_masks` meets its contract. Assumes nothing.
+-- `topology_rows::row_masks` meets its contract. Assumes nothing.
 use Rattle.topology.proofs.CallLaws.{row-checked}
 use Rattle.lent.proofs.LentLaws.{lists}
 use Rattle.hybit_core.proofs.AnswerLaws.{outcomes}
 use borrow.Author.Needs.{needs}
-use Rattle.topology.proofs.row_masks.Statement.{statement}
-use Rattle.topology.proofs.row_masks.Tie as tie
+use Rattle.topology_rows.proofs.row_masks.Statement.{statement}
+use Rattle.topology_rows.proofs.row_masks.Tie as tie
 
 check-row-requires : tie.Need-check-row-requires
 check-row-requires c κs = search needs

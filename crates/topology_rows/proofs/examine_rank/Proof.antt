@@ -3,8 +3,8 @@ use Rattle.hybit_core.proofs.AnswerLaws.{call-accepted, last-fails, last-passes
 use Rattle.hybit_core.proofs.AnswerLaws.{checks}
 use Rattle.hybit_core.proofs.BoolLaws.{tests}
 use borrow.Author.Needs.{needs}
-use Rattle.topology.proofs.examine_rank.Statement.{statement}
-use Rattle.topology.proofs.examine_rank.Tie as tie
+use Rattle.topology_rows.proofs.examine_rank.Statement.{statement}
+use Rattle.topology_rows.proofs.examine_rank.Tie as tie
 
 check-row-requires : tie.Need-check-row-requires
 check-row-requires c κs = search needs

@@ -1522,7 +1522,7 @@ pub extern "C" fn denimrasp_local_from_csr32(
 pub extern "C" fn denimrasp_local_check(global_size: usize, members: &[u32]) -> DenimraspVerdict
     ensures { λ r. ⌜ r ≡ verdictOf (membersAnswer «global_size» (now (members .entry))) ⌝ }
 {
-    denimrasp_answers::verdict(restricted_local::check(global_size, members))
+    denimrasp_answers::verdict(restricted_gather::check(global_size, members))
 }
 
 // A region's numbers of a vector, in local; a refused call leaves local as it was.
@@ -1536,7 +1536,7 @@ pub extern "C" fn denimrasp_local_gather_input(
     ensures answer { λ r. ⌜ r ≡ verdictOf (gatherAnswer «global_size» (now (members .entry)) (now (global .entry)) (length (now (local .entry)))) ⌝ }
     ensures list { λ _. ⌜ now (local .exit) ≡ kept (gatherAnswer «global_size» (now (members .entry)) (now (global .entry)) (length (now (local .entry)))) (gathered (now (members .entry)) (now (global .entry))) (now (local .entry)) ⌝ }
 {
-    let answer = restricted_local::gather_input(global_size, members, global, local);
+    let answer = restricted_gather::gather_input(global_size, members, global, local);
     denimrasp_answers::verdict(answer)
 }
 

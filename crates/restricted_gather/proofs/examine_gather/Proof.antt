@@ -1,12 +1,12 @@
--- `restricted_local::examine_gather` meets its contract. Assumes nothing.
+-- `restricted_gather::examine_gather` meets its contract. Assumes nothing.
 use borrow.Author.Needs.{needs}
 use native.Mathlib.Omega.{arith}
 use lib.ListN.{length}
 use Rattle.hybit_core.proofs.AnswerLaws.{call-accepted, length-wrong, length-right, last-length-wrong, last-length-right, checks}
 use Rattle.hybit_core.proofs.BoolLaws.{tests}
 use Rattle.restricted.specs.Local.{gatherAnswer}
-use Rattle.restricted_local.proofs.examine_gather.Statement.{statement}
-use Rattle.restricted_local.proofs.examine_gather.Tie as tie
+use Rattle.restricted_gather.proofs.examine_gather.Statement.{statement}
+use Rattle.restricted_gather.proofs.examine_gather.Tie as tie
 
 check-requires : tie.Need-check-requires
 check-requires c κs = search needs

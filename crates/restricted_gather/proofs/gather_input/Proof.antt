@@ -1,10 +1,10 @@
--- `restricted_local::gather_input` meets its contract. Assumes nothing.
+-- `restricted_gather::gather_input` meets its contract. Assumes nothing.
 use borrow.Author.Needs.{needs}
 use Rattle.hybit_core.proofs.AnswerLaws.{outcomes, accepted-by, answer-accepted}
 use Rattle.lent.proofs.LentLaws.{kept-refused, kept-accepted}
-use Rattle.restricted_local.proofs.MemberLaws.{gather-inside, gather-long}
-use Rattle.restricted_local.proofs.gather_input.Statement.{statement}
-use Rattle.restricted_local.proofs.gather_input.Tie as tie
+use Rattle.restricted_gather.proofs.MemberLaws.{gather-inside, gather-long}
+use Rattle.restricted_gather.proofs.gather_input.Statement.{statement}
+use Rattle.restricted_gather.proofs.gather_input.Tie as tie
 
 examine-gather-requires : tie.Need-examine-gather-requires
 examine-gather-requires c κs = search needs

@@ -1,11 +1,11 @@
--- `restricted_local::members_hold` meets its contract. Assumes nothing.
+-- `restricted_gather::members_hold` meets its contract. Assumes nothing.
 use borrow.Author.Needs.{needs}
 use Prim.Native.Nat.{_-_}
 use native.Mathlib.Omega.{arith}
 use lib.ListN.{length}
-use Rattle.restricted_local.proofs.MemberLaws.{Climbing, climbing-none, climbing-more, climbing-falls, climbing-past, climbing-done}
-use Rattle.restricted_local.proofs.members_hold.Statement.{statement}
-use Rattle.restricted_local.proofs.members_hold.Tie as tie
+use Rattle.restricted_gather.proofs.MemberLaws.{Climbing, climbing-none, climbing-more, climbing-falls, climbing-past, climbing-done}
+use Rattle.restricted_gather.proofs.members_hold.Statement.{statement}
+use Rattle.restricted_gather.proofs.members_hold.Tie as tie
 
 abbrev Inv-loop : tie.InvT-loop
 Inv-loop global-size members least₀ i₀ least i = Climbing global-size members least i

@@ -1,10 +1,10 @@
--- `restricted_local::check` meets its contract. Assumes nothing.
+-- `restricted_gather::check` meets its contract. Assumes nothing.
 use borrow.Author.Needs.{needs}
 use Rattle.hybit_core.proofs.AnswerLaws.{checks}
 use Rattle.hybit_core.proofs.BoolLaws.{tests}
 use Rattle.restricted.specs.Local.{membersAnswer}
-use Rattle.restricted_local.proofs.check.Statement.{statement}
-use Rattle.restricted_local.proofs.check.Tie as tie
+use Rattle.restricted_gather.proofs.check.Statement.{statement}
+use Rattle.restricted_gather.proofs.check.Tie as tie
 
 dimension-fits-requires : tie.Need-dimension-fits-requires
 dimension-fits-requires c κs = search needs

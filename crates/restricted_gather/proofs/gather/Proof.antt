@@ -1,4 +1,4 @@
--- `restricted_local::gather` meets its contract. Assumes nothing.
+-- `restricted_gather::gather` meets its contract. Assumes nothing.
 use borrow.Author.Needs.{needs}
 use mathlib.Core.Path.{_≡_, refl, ap, _∙_}
 use Prim.Native.Nat.{ℕ, _-_, _≤_}
@@ -7,9 +7,9 @@ use lib.ListN.{length, getD}
 use Rattle.lent.proofs.LentLaws.{Filled, filled-none, filled-length, filled-more, filled-done}
 use Rattle.csr32.specs.Csr.{at}
 use Rattle.csr32.proofs.CsrLaws.{column-below}
-use Rattle.restricted_local.proofs.MemberLaws.{gathered-is}
-use Rattle.restricted_local.proofs.gather.Statement.{statement}
-use Rattle.restricted_local.proofs.gather.Tie as tie
+use Rattle.restricted_gather.proofs.MemberLaws.{gathered-is}
+use Rattle.restricted_gather.proofs.gather.Statement.{statement}
+use Rattle.restricted_gather.proofs.gather.Tie as tie
 
 abbrev Inv-loop : tie.InvT-loop
 Inv-loop members global local₀ n i₀ local i =

@@ -257,7 +257,7 @@ fn list_number(
         lent::clear_from_f64(product, 0);
         return NumberAnswer::Refused(HybitError::ShortList);
     }
-    let v = csr32::apply(
+    let v = csr32_apply::apply(
         nrows,
         ncols,
         row_ptr,

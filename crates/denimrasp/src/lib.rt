@@ -106,7 +106,7 @@ pub extern "C" fn denimrasp_mask_new(len: usize, words: &mut [u64]) -> Denimrasp
     ensures answer { λ r. ⌜ r ≡ verdictOf (newAnswer len (length (now (words .entry)))) ⌝ }
     ensures list { λ _. ⌜ now (words .exit) ≡ built 0 (length (now (words .entry))) (newAnswer len (length (now (words .entry)))) (maskWords (λ c. false) len) ⌝ }
 {
-    denimrasp_answers::verdict(mask::new(len, words))
+    denimrasp_answers::verdict(mask_build::new(len, words))
 }
 
 // The mask of the listed members.
@@ -119,7 +119,7 @@ pub extern "C" fn denimrasp_mask_from_indices(
     ensures answer { λ r. ⌜ r ≡ verdictOf (fromIndicesAnswer len (now (indices .entry)) (length (now (words .entry)))) ⌝ }
     ensures list { λ _. ⌜ now (words .exit) ≡ built 0 (length (now (words .entry))) (fromIndicesAnswer len (now (indices .entry)) (length (now (words .entry)))) (maskWords (listed (now (indices .entry))) len) ⌝ }
 {
-    denimrasp_answers::verdict(mask::from_indices(len, indices, words))
+    denimrasp_answers::verdict(mask_build::from_indices(len, indices, words))
 }
 
 // Puts index in or out; a refused call leaves the words as they were.
@@ -133,7 +133,7 @@ pub extern "C" fn denimrasp_mask_set(
     ensures answer { λ r. ⌜ r ≡ verdictOf (setAnswer (asMask len (now (words .entry))) index) ⌝ }
     ensures list { λ _. ⌜ now (words .exit) ≡ kept (setAnswer (asMask len (now (words .entry))) index) (maskWords (changed (active (asMask len (now (words .entry)))) index value) len) (now (words .entry)) ⌝ }
 {
-    denimrasp_answers::verdict(mask::set(len, words, index, value))
+    denimrasp_answers::verdict(mask_build::set(len, words, index, value))
 }
 
 // Joins the members of one word; bits from the length on are dropped, a word past the end changes nothing.
@@ -174,7 +174,7 @@ pub extern "C" fn denimrasp_mask_union_assign(
     ensures answer { λ r. ⌜ r ≡ verdictOf (maskPairAnswer (asMask len (now (words .entry))) (asMask «other_len» (now (other .entry)))) ⌝ }
     ensures list { λ _. ⌜ now (words .exit) ≡ kept (maskPairAnswer (asMask len (now (words .entry))) (asMask «other_len» (now (other .entry)))) (maskWords (λ c. active (asMask len (now (words .entry))) c || active (asMask «other_len» (now (other .entry))) c) len) (now (words .entry)) ⌝ }
 {
-    denimrasp_answers::verdict(mask::union_assign(len, words, other_len, other))
+    denimrasp_answers::verdict(mask_sets::union_assign(len, words, other_len, other))
 }
 
 // Keeps the members that the other mask has too.
@@ -188,7 +188,7 @@ pub extern "C" fn denimrasp_mask_intersect_assign(
     ensures answer { λ r. ⌜ r ≡ verdictOf (maskPairAnswer (asMask len (now (words .entry))) (asMask «other_len» (now (other .entry)))) ⌝ }
     ensures list { λ _. ⌜ now (words .exit) ≡ kept (maskPairAnswer (asMask len (now (words .entry))) (asMask «other_len» (now (other .entry)))) (maskWords (λ c. active (asMask len (now (words .entry))) c && active (asMask «other_len» (now (other .entry))) c) len) (now (words .entry)) ⌝ }
 {
-    denimrasp_answers::verdict(mask::intersect_assign(len, words, other_len, other))
+    denimrasp_answers::verdict(mask_sets::intersect_assign(len, words, other_len, other))
 }
 
 // Keeps the members that the other mask does not have.
@@ -202,7 +202,7 @@ pub extern "C" fn denimrasp_mask_and_not_assign(
     ensures answer { λ r. ⌜ r ≡ verdictOf (maskPairAnswer (asMask len (now (words .entry))) (asMask «other_len» (now (other .entry)))) ⌝ }
     ensures list { λ _. ⌜ now (words .exit) ≡ kept (maskPairAnswer (asMask len (now (words .entry))) (asMask «other_len» (now (other .entry)))) (maskWords (λ c. active (asMask len (now (words .entry))) c && not (active (asMask «other_len» (now (other .entry))) c)) len) (now (words .entry)) ⌝ }
 {
-    denimrasp_answers::verdict(mask::and_not_assign(len, words, other_len, other))
+    denimrasp_answers::verdict(mask_sets::and_not_assign(len, words, other_len, other))
 }
 
 // Whether the two masks have a member in common.
@@ -215,7 +215,7 @@ pub extern "C" fn denimrasp_mask_intersects(
 ) -> DenimraspBool
     ensures { λ r. ⌜ r ≡ boolOf (answers (maskPairAnswer (asMask len (now (words .entry))) (asMask «other_len» (now (other .entry)))) (not (eqb (count (both (active (asMask len (now (words .entry)))) (active (asMask «other_len» (now (other .entry))))) len) 0))) ⌝ }
 {
-    denimrasp_answers::truth(mask::intersects(len, words, other_len, other))
+    denimrasp_answers::truth(mask_sets::intersects(len, words, other_len, other))
 }
 
 // The Rust's `new` and `validate`.
@@ -246,7 +246,7 @@ pub extern "C" fn denimrasp_csr32_apply(
     ensures answer { λ r. ⌜ r ≡ verdictOf (applyAnswer (asCsr nrows ncols (now («row_ptr» .entry)) (now («col_idx» .entry)) (now (values .entry))) (now (x .entry)) (length (now (y .entry)))) ⌝ }
     ensures target { λ _. ⌜ now (y .exit) ≡ kept (applyAnswer (asCsr nrows ncols (now («row_ptr» .entry)) (now («col_idx» .entry)) (now (values .entry))) (now (x .entry)) (length (now (y .entry)))) (product (asCsr nrows ncols (now («row_ptr» .entry)) (now («col_idx» .entry)) (now (values .entry))) (now (x .entry))) (now (y .entry)) ⌝ }
 {
-    denimrasp_answers::verdict(csr32::apply(nrows, ncols, row_ptr, col_idx, values, x, y))
+    denimrasp_answers::verdict(csr32_apply::apply(nrows, ncols, row_ptr, col_idx, values, x, y))
 }
 
 // The bytes of the pointers and columns.
@@ -373,7 +373,7 @@ pub extern "C" fn denimrasp_topology_row_nonempty_words(
 ) -> DenimraspCount
     ensures { λ r. ⌜ r ≡ countOf (answers (rowAnswer (asWords nrows ncols (now («row_word_ptr» .entry)) (now («word_indices» .entry)) (now (masks .entry)) «structural_nnz») row) (length (wordsOf (member (asWords nrows ncols (now («row_word_ptr» .entry)) (now («word_indices» .entry)) (now (masks .entry)) «structural_nnz») row) ncols))) ⌝ }
 {
-    let answer = topology::row_nonempty_words(
+    let answer = topology_rows::row_nonempty_words(
         nrows,
         ncols,
         row_word_ptr,
@@ -398,7 +398,7 @@ pub extern "C" fn denimrasp_topology_row_popcount(
 ) -> DenimraspCount
     ensures { λ r. ⌜ r ≡ countOf (answers (rowAnswer (asWords nrows ncols (now («row_word_ptr» .entry)) (now («word_indices» .entry)) (now (masks .entry)) «structural_nnz») row) (count (member (asWords nrows ncols (now («row_word_ptr» .entry)) (now («word_indices» .entry)) (now (masks .entry)) «structural_nnz») row) ncols)) ⌝ }
 {
-    let answer = topology::row_popcount(
+    let answer = topology_rows::row_popcount(
         nrows,
         ncols,
         row_word_ptr,
@@ -424,7 +424,7 @@ pub extern "C" fn denimrasp_topology_row_contains(
 ) -> DenimraspBool
     ensures { λ r. ⌜ r ≡ boolOf (answers (rowAnswer (asWords nrows ncols (now («row_word_ptr» .entry)) (now («word_indices» .entry)) (now (masks .entry)) «structural_nnz») row) (within ncols (member (asWords nrows ncols (now («row_word_ptr» .entry)) (now («word_indices» .entry)) (now (masks .entry)) «structural_nnz») row) col)) ⌝ }
 {
-    let answer = topology::row_contains(
+    let answer = topology_rows::row_contains(
         nrows,
         ncols,
         row_word_ptr,
@@ -451,7 +451,7 @@ pub extern "C" fn denimrasp_topology_row_rank(
 ) -> DenimraspCount
     ensures { λ r. ⌜ r ≡ countOf (rankAnswer (asWords nrows ncols (now («row_word_ptr» .entry)) (now («word_indices» .entry)) (now (masks .entry)) «structural_nnz») row col) ⌝ }
 {
-    let answer = topology::row_rank(
+    let answer = topology_rows::row_rank(
         nrows,
         ncols,
         row_word_ptr,
@@ -478,7 +478,7 @@ pub extern "C" fn denimrasp_topology_row_select(
 ) -> DenimraspSelect
     ensures { λ r. ⌜ r ≡ selectOf (answers (rowAnswer (asWords nrows ncols (now («row_word_ptr» .entry)) (now («word_indices» .entry)) (now (masks .entry)) «structural_nnz») row) (select (asWords nrows ncols (now («row_word_ptr» .entry)) (now («word_indices» .entry)) (now (masks .entry)) «structural_nnz») row ordinal)) ⌝ }
 {
-    let answer = topology::row_select(
+    let answer = topology_rows::row_select(
         nrows,
         ncols,
         row_word_ptr,
@@ -1522,7 +1522,7 @@ pub extern "C" fn denimrasp_local_from_csr32(
 pub extern "C" fn denimrasp_local_check(global_size: usize, members: &[u32]) -> DenimraspVerdict
     ensures { λ r. ⌜ r ≡ verdictOf (membersAnswer «global_size» (now (members .entry))) ⌝ }
 {
-    denimrasp_answers::verdict(restricted_local::check(global_size, members))
+    denimrasp_answers::verdict(restricted_gather::check(global_size, members))
 }
 
 // A region's numbers of a vector, in local; a refused call leaves local as it was.
@@ -1536,7 +1536,7 @@ pub extern "C" fn denimrasp_local_gather_input(
     ensures answer { λ r. ⌜ r ≡ verdictOf (gatherAnswer «global_size» (now (members .entry)) (now (global .entry)) (length (now (local .entry)))) ⌝ }
     ensures list { λ _. ⌜ now (local .exit) ≡ kept (gatherAnswer «global_size» (now (members .entry)) (now (global .entry)) (length (now (local .entry)))) (gathered (now (members .entry)) (now (global .entry))) (now (local .entry)) ⌝ }
 {
-    let answer = restricted_local::gather_input(global_size, members, global, local);
+    let answer = restricted_gather::gather_input(global_size, members, global, local);
     denimrasp_answers::verdict(answer)
 }
 

@@ -128,7 +128,7 @@ fn show_built(plots: &[usize], words: &mut [u64]) {
     text(b"active of 70:");
     show_indices(plots);
     text(b":");
-    verdict(mask::from_indices(70, plots, words));
+    verdict(mask_build::from_indices(70, plots, words));
     text(b", words");
     show_words(words);
 }
@@ -153,7 +153,7 @@ fn show_mask(plots: &[usize], words: &mut [u64], members: &mut [usize]) {
     show_members(words, members);
     show_asked(words);
     text(b", set 70:");
-    verdict(mask::set(70, words, 70, true));
+    verdict(mask_build::set(70, words, 70, true));
     text(b"\n");
 }
 
@@ -207,7 +207,7 @@ fn show_row(
 }
 
 fn show_rank(ptr: &[u32], words: &[u32], masks: &[u64], col: usize) {
-    count_answer(topology::row_rank(1, 70, ptr, words, masks, 3, 0, col));
+    count_answer(topology_rows::row_rank(1, 70, ptr, words, masks, 3, 0, col));
 }
 
 fn show_ranks(ptr: &[u32], words: &[u32], masks: &[u64]) {
@@ -222,7 +222,7 @@ fn show_ranks(ptr: &[u32], words: &[u32], masks: &[u64]) {
 }
 
 fn show_select(ptr: &[u32], words: &[u32], masks: &[u64], ordinal: usize) {
-    match topology::row_select(1, 70, ptr, words, masks, 3, 0, ordinal) {
+    match topology_rows::row_select(1, 70, ptr, words, masks, 3, 0, ordinal) {
         SelectAnswer::At(c) => size(c),
         SelectAnswer::Nothing => text(b" Nothing"),
         SelectAnswer::Refused(e) => refused(e),

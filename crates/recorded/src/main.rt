@@ -1612,7 +1612,7 @@ fn topology_row_numbers(text: &[u8], at: &mut usize) {
     let nnz = index(text, at);
     let row = index(text, at);
     let mut n: u32 = 99;
-    let part = topology::row_word_indices(nrows, ncols, ptr, words, masks, nnz, row, &mut n);
+    let part = topology_rows::row_word_indices(nrows, ncols, ptr, words, masks, nnz, row, &mut n);
     refusal(n, 0, 0);
     show_u32(part);
 }
@@ -1629,7 +1629,7 @@ fn topology_row_masks(text: &[u8], at: &mut usize) {
     let nnz = index(text, at);
     let row = index(text, at);
     let mut n: u32 = 99;
-    let part = topology::row_masks(nrows, ncols, ptr, words, masks, nnz, row, &mut n);
+    let part = topology_rows::row_masks(nrows, ncols, ptr, words, masks, nnz, row, &mut n);
     refusal(n, 0, 0);
     show_u64(part);
 }

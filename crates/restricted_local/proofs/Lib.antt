@@ -1,5 +1,4 @@
 pub mod KeepLaws
-pub mod MemberLaws
 pub mod RegionLaws
 pub mod CountLaws
 pub mod RowsLaws

@@ -1,6 +1,6 @@
-// restricted.rs: `PreparedLocalCsrOperator`: the rows and columns of a region, numbered anew, and the region's numbers of a vector.
-// Its product is csr32's `apply`. The Rust finds a local number in a table of all columns; here it is the count of members in the
-// words before, kept in a local list, and of the ones below in the column's word.
+// restricted.rs: `PreparedLocalCsrOperator`: the rows and columns of a region, numbered anew. Its product is csr32_apply's `apply`.
+// The Rust finds a local number in a table of all columns; here it is the count of members in the words before, kept in a local
+// list, and of the ones below in the column's word.
 ghost use mathlib.Core.Path.{_≡_};
 ghost use mathlib.Core.Bool.{true};
 ghost use mathlib.Core.List.{map, zip};
@@ -11,12 +11,12 @@ ghost use Rattle.hybit_core.specs.Answer.{answers};
 ghost use Rattle.hybit_core.specs.Floats.{zero64};
 ghost use Rattle.hybit_core.specs.Table.{told};
 ghost use Rattle.lent.specs.Lists.{each, every, only};
-ghost use Rattle.lent.specs.Lent.{Appended, padded, built, kept};
+ghost use Rattle.lent.specs.Lent.{Appended, padded, built};
 ghost use Rattle.word.specs.Bits.{count};
 ghost use Rattle.mask.specs.Mask.{asMask, active, bitAt};
 ghost use Rattle.csr32.specs.Csr.{asCsr, Entry};
 ghost use Rattle.csr32.specs.Made.{entriesIn, asCsrRoom, fitsCsr};
-ghost use Rattle.restricted.specs.Local.{regionMembers, renumbered, localList, localAnswer, regionOf, toldRegion, memberRules, membersAnswer, gatherAnswer, gathered};
+ghost use Rattle.restricted.specs.Local.{regionMembers, renumbered, localList, localAnswer, regionOf, toldRegion};
 ghost use Rattle.restricted_local.specs.Region.{regionChecks, regionAnswer, Region, Numbered};
 use hybit_core::HybitError;
 use hybit_core::Verdict;
@@ -404,91 +404,4 @@ pub fn from_csr32(
         out_values,
     );
     v
-}
-
-// Whether the members rise and lie below the global size.
-fn members_hold(global_size: usize, members: &[u32]) -> bool
-    ensures { λ r. ⌜ r ≡ memberRules «global_size» (now (members .entry)) ⌝ }
-{
-    let mut least: usize = 0;
-    let mut i: usize = 0;
-    while i < members.len() {
-        let g = hybit_core::wide(members[i]);
-        if g < least {
-            return false;
-        }
-        if g >= global_size {
-            return false;
-        }
-        least = g + 1;
-        i += 1;
-    }
-    true
-}
-
-// Whether these are members of a region of `global_size` rows: rising, and below that size.
-pub fn check(global_size: usize, members: &[u32]) -> Verdict
-    ensures { λ r. ⌜ told r ≡ membersAnswer «global_size» (now (members .entry)) ⌝ }
-{
-    if !hybit_core::dimension_fits(global_size) {
-        return Verdict::Refused(HybitError::SizeOverflow);
-    }
-    if !members_hold(global_size, members) {
-        return Verdict::Refused(HybitError::BadStore);
-    }
-    Verdict::Accepted
-}
-
-fn examine_gather(global_size: usize, members: &[u32], global: &[f64], local_len: usize) -> Verdict
-    ensures { λ r. ⌜ told r ≡ gatherAnswer «global_size» (now (members .entry)) (now (global .entry)) «local_len» ⌝ }
-{
-    let v = check(global_size, members);
-    if let Verdict::Refused(e) = v {
-        return Verdict::Refused(e);
-    }
-    if global.len() != global_size {
-        return Verdict::Refused(HybitError::DimensionMismatch {
-            expected: global_size,
-            actual: global.len(),
-        });
-    }
-    if local_len != members.len() {
-        return Verdict::Refused(HybitError::DimensionMismatch {
-            expected: members.len(),
-            actual: local_len,
-        });
-    }
-    Verdict::Accepted
-}
-
-// Reads the members' numbers.
-fn gather(members: &[u32], global: &[f64], local: &mut [f64])
-    requires { ⌜ (every (λ g. ltb g (length (now global))) (now members) ≡ true) × (length (now local) ≡ length (now members)) ⌝ }
-    ensures { λ _. ⌜ now (local .exit) ≡ gathered (now (members .entry)) (now (global .entry)) ⌝ }
-{
-    let n = members.len();
-    let mut i: usize = 0;
-    while i < n {
-        let g = hybit_core::wide(members[i]);
-        local[i] = global[g];
-        i += 1;
-    }
-}
-
-// The region's numbers of a vector, in `local`.
-pub fn gather_input(
-    global_size: usize,
-    members: &[u32],
-    global: &[f64],
-    local: &mut [f64],
-) -> Verdict
-    ensures answer { λ r. ⌜ told r ≡ gatherAnswer «global_size» (now (members .entry)) (now (global .entry)) (length (now (local .entry))) ⌝ }
-    ensures list { λ r. ⌜ now (local .exit) ≡ kept (gatherAnswer «global_size» (now (members .entry)) (now (global .entry)) (length (now (local .entry)))) (gathered (now (members .entry)) (now (global .entry))) (now (local .entry)) ⌝ }
-{
-    let v = examine_gather(global_size, members, global, local.len());
-    if let Verdict::Refused(e) = v {
-        return Verdict::Refused(e);
-    }
-    gather(members, global, local);
-    Verdict::Accepted
 }

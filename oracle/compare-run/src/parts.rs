@@ -363,6 +363,13 @@ pub fn parts_below(call: &mut Below) -> Vec<Part<'_>> {
         Below::Restriction(numbers) | Below::Region(numbers) => {
             numbers.iter_mut().map(Size).collect()
         }
+        Below::BlockSize(six, n, col) => vec![Flag(six), Size(n), Num32(col)],
+        Below::Blocks(numbers) => numbers.iter_mut().map(Size).collect(),
+        Below::StructuralSlots(c) => csr(c),
+        Below::BlockColumns(c, six, pointers, columns) => {
+            let lists = vec![Flag(six), Nums32(pointers), Nums32(columns)];
+            join(csr(c), lists)
+        }
         Below::TopologyWord(number, mask, n) => vec![Num32(number), Num64(mask), Size(n)],
         Below::TileMasks(t, row) | Below::TileOffsets(t, row) | Below::TileMetas(t, row) => {
             join(tiles(t), vec![Size(row)])

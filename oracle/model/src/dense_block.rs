@@ -1,12 +1,12 @@
 //! Blocks: each block row is a map from block columns to blocks, each block a map from the places in it to their values.
 
 use crate::answer::{
-    BAD_STORE, Built, Checked, answer, build, bytes, change, list_bits, need, need_length,
+    BAD_STORE, Built, Checked, answer, build, bytes, change, count, list_bits, need, need_length,
     need_sizes, number, ratio, verdict,
 };
 use crate::csr32::{self, entries, part, pointers_hold};
 use calls::{Blocks, Csr, CsrRoom, Outcome, bits};
-use std::collections::BTreeMap;
+use std::collections::{BTreeMap, BTreeSet};
 use std::ops::Range;
 
 fn width(six: bool) -> usize {
@@ -94,6 +94,33 @@ fn from_csr32(csr: &Csr, w: usize) -> Checked<Built<7, 3>> {
         result: result.map(|n| n as u64),
         used: [row_ptr, col_idx, values],
     })
+}
+
+/// The width; the blocks that a count of rows or columns takes, and the full ones among them; the block and the place of a column.
+pub fn judge_size(six: bool, n: usize, col: usize) -> Outcome {
+    let w = width(six);
+    let numbers = [w, n.div_ceil(w), n / w, col / w, col % w];
+    answer(Ok(numbers.map(|n| n as u64)))
+}
+
+pub fn judge_structural_slots(csr: &Csr) -> Outcome {
+    count(csr32::check(csr).map(|()| {
+        let columns = |row| entries(csr, row).map(|(col, _)| col);
+        let distinct = |row| columns(row).collect::<BTreeSet<usize>>().len();
+        (0..csr.nrows).map(distinct).sum()
+    }))
+}
+
+/// The pointers and block columns of a build, and how many blocks there are.
+pub fn judge_columns(csr: &Csr, six: bool, room: [usize; 2]) -> Outcome {
+    let made = from_csr32(csr, width(six)).map(|built| {
+        let [pointers, columns, _] = built.used;
+        Built {
+            result: [built.result[3]],
+            used: [pointers, columns],
+        }
+    });
+    build(made, room)
 }
 
 pub fn judge_apply(blocks: &Blocks, x: &[f64], y: &[f64]) -> Outcome {

@@ -72,7 +72,18 @@ pub struct TileRoom<'a> {
     pub values: &'a mut [f64],
 }
 
-/// The lists that a restricted or local list fills.
+/// The lists of blocks of width 6 or, where `six` is false, 3.
+#[derive(Clone, Copy)]
+pub struct Blocks<'a> {
+    pub nrows: usize,
+    pub ncols: usize,
+    pub six: bool,
+    pub row_ptr: &'a [u32],
+    pub col_idx: &'a [u32],
+    pub values: &'a [f64],
+}
+
+/// The lists that a restricted or local list or blocks fill.
 pub struct CsrRoom<'a> {
     pub row_ptr: &'a mut [u32],
     pub col_idx: &'a mut [u32],
@@ -199,6 +210,28 @@ macro_rules! with_tiles {
                 t.values.as_ptr(),
                 t.values.len(),
                 t.matrix_nnz
+                $(, $rest)*
+            )
+        }
+    }};
+}
+
+/// Calls a function whose first parameters are those of blocks.
+macro_rules! with_blocks {
+    ($call:ident, $b:expr $(, $rest:expr)*) => {{
+        let b: Blocks<'_> = $b;
+        // SAFETY: every pointer and length is a slice's, and a written slice is borrowed alone.
+        unsafe {
+            sys::$call(
+                b.nrows,
+                b.ncols,
+                b.six,
+                b.row_ptr.as_ptr(),
+                b.row_ptr.len(),
+                b.col_idx.as_ptr(),
+                b.col_idx.len(),
+                b.values.as_ptr(),
+                b.values.len()
                 $(, $rest)*
             )
         }
@@ -770,4 +803,56 @@ pub fn local_boundary_pruning_ratio(local_nnz: usize, source_row_nnz: usize) -> 
 pub fn local_storage_bytes(local_nodes: usize, local_nnz: usize) -> usize {
     // SAFETY: numbers alone.
     unsafe { sys::denimrasp_local_storage_bytes(local_nodes, local_nnz) }
+}
+
+pub fn dense_block_from_csr32(m: Csr<'_>, six: bool, room: CsrRoom<'_>) -> Answer<sys::Blocks> {
+    let answer = with_csr!(
+        denimrasp_dense_block_from_csr32,
+        m,
+        six,
+        room.row_ptr.as_mut_ptr(),
+        room.row_ptr.len(),
+        room.col_idx.as_mut_ptr(),
+        room.col_idx.len(),
+        room.values.as_mut_ptr(),
+        room.values.len()
+    );
+    settle!(answer, |used| used)
+}
+
+pub fn dense_block_apply(b: Blocks<'_>, x: &[f64], y: &mut [f64]) -> Answer<()> {
+    let answer = with_blocks!(
+        denimrasp_dense_block_apply,
+        b,
+        x.as_ptr(),
+        x.len(),
+        y.as_mut_ptr(),
+        y.len()
+    );
+    settle!(answer, unit)
+}
+
+pub fn dense_block_fast_block_fraction(b: Blocks<'_>) -> Answer<f64> {
+    let answer = with_blocks!(denimrasp_dense_block_fast_block_fraction, b);
+    settle!(answer, |fraction: sys::Ratio| fraction.ratio)
+}
+
+pub fn dense_block_block_fill(structural_slots: usize, valid_dense_slots: usize) -> f64 {
+    // SAFETY: numbers alone.
+    unsafe { sys::denimrasp_dense_block_block_fill(structural_slots, valid_dense_slots) }
+}
+
+pub fn dense_block_value_padding_ratio(dense_value_slots: usize, structural_slots: usize) -> f64 {
+    // SAFETY: numbers alone.
+    unsafe { sys::denimrasp_dense_block_value_padding_ratio(dense_value_slots, structural_slots) }
+}
+
+pub fn dense_block_metadata_bytes(block_rows: usize, unique_blocks: usize) -> usize {
+    // SAFETY: numbers alone.
+    unsafe { sys::denimrasp_dense_block_metadata_bytes(block_rows, unique_blocks) }
+}
+
+pub fn dense_block_storage_bytes(block_rows: usize, unique_blocks: usize, slots: usize) -> usize {
+    // SAFETY: numbers alone.
+    unsafe { sys::denimrasp_dense_block_storage_bytes(block_rows, unique_blocks, slots) }
 }

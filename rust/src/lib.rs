@@ -14,7 +14,7 @@
 //! refuse it later; if it did, the method would panic rather than return the zeros of a refusal.
 //!
 //! Building words takes up to 136 KiB of stack, building tiles up to 268 KiB, packing up to 456 KiB, building a region's
-//! matrix up to 72 KiB: a thread that does it needs a stack of that size.
+//! matrix up to 72 KiB, building blocks up to 136 KiB: a thread that does it needs a stack of that size.
 //!
 //! What differs from hybit-matrix:
 //! - Sizes above document 01's domain are [`HybitError::SizeOverflow`]: rows, columns and mask lengths above 1,048,576, stored
@@ -24,18 +24,19 @@
 //! - [`AbtmProductPruningStats::accumulate`] leaves the counts unchanged where it fails.
 //! - [`AbtmProductPruningStats::empty_word_ratio`] is 0.0 where more words are active than there are; hybit subtracts below zero.
 //! - [`AbtmStats::total_estimated_bytes`] is at most `usize::MAX`; hybit's sum wraps round or stops.
-//! - `stats`, `storage_bytes` and `metadata_bytes` check their matrix on each call, so they take time in proportion to it.
+//! - `stats`, `fast_block_fraction` and the bytes of a [`Csr32Matrix`] check their matrix on each call, so they take time in
+//!   proportion to it.
 //! - [`AbtmMetadataFirstMatrix::sparse_dot_rows`], [`DofMask::try_new`], [`HybitError::number`] are not in hybit;
 //!   [`DofMask::and_not_assign`] and [`DofMask::or_word`] are private there.
 //!
 //! Left out: `diagonal`, solvers and the error variants that only these give, as in document 01; the parallel forms of `apply`;
 //! the trait `LinearOperator` (`apply` is a method of the types that have it, `rows` and `cols` too, but for [`Csr32Matrix`]).
-//! Blocks are not here yet.
 #![warn(missing_docs)]
 
 mod abtm;
 mod calls;
 mod csr32;
+mod dense_block;
 mod error;
 mod mask;
 mod metadata_first;
@@ -45,6 +46,7 @@ mod topology;
 
 pub use abtm::{AbtmConfig, AbtmMatrix, AbtmStats, TILE_WIDTH, TileDesc, TileKind};
 pub use csr32::Csr32Matrix;
+pub use dense_block::{DenseBlockCsrOperator, DenseBlockSize};
 pub use error::HybitError;
 pub use mask::DofMask;
 pub use metadata_first::{

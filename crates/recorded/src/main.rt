@@ -5,10 +5,12 @@
 // of document 01 answered (oracle/record).
 ghost use Prim.Native.Nat.{_≤_};
 use abtm::AbtmConfig;
+use denimrasp_answers::DenimraspBlocks;
 use denimrasp_answers::DenimraspBool;
 use denimrasp_answers::DenimraspCount;
 use denimrasp_answers::DenimraspDot;
 use denimrasp_answers::DenimraspPart;
+use denimrasp_answers::DenimraspRatio;
 use denimrasp_answers::DenimraspRegion;
 use denimrasp_answers::DenimraspRestriction;
 use denimrasp_answers::DenimraspSelect;
@@ -19,6 +21,7 @@ use denimrasp_answers::DenimraspTopology;
 use denimrasp_answers::DenimraspTopologyStats;
 use denimrasp_answers::DenimraspTotals;
 use denimrasp_answers::DenimraspVerdict;
+use dense_block::DenseBlocks;
 use hybit_core::HybitError;
 use hybit_core::Verdict;
 use metadata_first::AbtmRowDot;
@@ -271,6 +274,22 @@ fn region(r: DenimraspRegion) {
     size(r.local_nodes);
     size(r.local_nnz);
     size(r.source_row_nnz);
+}
+
+fn blocks_built(r: DenimraspBlocks) {
+    refusal(r.number, r.expected, r.actual);
+    size(r.nrows);
+    size(r.ncols);
+    size(r.block_rows);
+    size(r.unique_blocks);
+    size(r.dense_value_slots);
+    size(r.structural_slots);
+    size(r.valid_dense_slots);
+}
+
+fn fraction(r: DenimraspRatio) {
+    refusal(r.number, r.expected, r.actual);
+    float(r.ratio);
 }
 
 // A list: its length and its places.
@@ -1384,6 +1403,138 @@ fn local_storage_bytes(text: &[u8], at: &mut usize) {
     size(r);
 }
 
+fn dense_block_from_csr32(text: &[u8], at: &mut usize) {
+    let mut row_ptr_room = [0u32; ROOM];
+    let mut col_idx_room = [0u32; ROOM];
+    let mut values_room = [0.0f64; ROOM];
+    let mut out_row_ptr_room = [0u32; ROOM];
+    let mut out_col_idx_room = [0u32; ROOM];
+    let mut out_values_room = [0.0f64; ROOM];
+    let nrows = index(text, at);
+    let ncols = index(text, at);
+    let row_ptr = read_u32(text, at, &mut row_ptr_room);
+    let col_idx = read_u32(text, at, &mut col_idx_room);
+    let values = read_f64(text, at, &mut values_room);
+    let six = numeral(text, at) != 0;
+    let out_row_ptr = read_u32(text, at, &mut out_row_ptr_room);
+    let out_col_idx = read_u32(text, at, &mut out_col_idx_room);
+    let out_values = read_f64(text, at, &mut out_values_room);
+    let r = denimrasp::denimrasp_dense_block_from_csr32(
+        nrows,
+        ncols,
+        row_ptr,
+        col_idx,
+        values,
+        six,
+        out_row_ptr,
+        out_col_idx,
+        out_values,
+    );
+    blocks_built(r);
+    show_u32(out_row_ptr);
+    show_u32(out_col_idx);
+    show_f64(out_values);
+}
+
+// The calls that are handed blocks alone.
+fn dense_block_question(call: u64, text: &[u8], at: &mut usize) {
+    let mut row_ptr_room = [0u32; ROOM];
+    let mut col_idx_room = [0u32; ROOM];
+    let mut values_room = [0.0f64; ROOM];
+    let nrows = index(text, at);
+    let ncols = index(text, at);
+    let six = numeral(text, at) != 0;
+    let row_ptr = read_u32(text, at, &mut row_ptr_room);
+    let col_idx = read_u32(text, at, &mut col_idx_room);
+    let values = read_f64(text, at, &mut values_room);
+    match call {
+        70 => verdict(denimrasp::denimrasp_dense_block_check(
+            nrows,
+            ncols,
+            six,
+            row_ptr,
+            col_idx,
+            values,
+        )),
+        _ => fraction(denimrasp::denimrasp_dense_block_fast_block_fraction(
+            nrows,
+            ncols,
+            six,
+            row_ptr,
+            col_idx,
+            values,
+        )),
+    }
+}
+
+fn dense_block_apply(text: &[u8], at: &mut usize) {
+    let mut row_ptr_room = [0u32; ROOM];
+    let mut col_idx_room = [0u32; ROOM];
+    let mut values_room = [0.0f64; ROOM];
+    let mut x_room = [0.0f64; ROOM];
+    let mut y_room = [0.0f64; ROOM];
+    let nrows = index(text, at);
+    let ncols = index(text, at);
+    let six = numeral(text, at) != 0;
+    let row_ptr = read_u32(text, at, &mut row_ptr_room);
+    let col_idx = read_u32(text, at, &mut col_idx_room);
+    let values = read_f64(text, at, &mut values_room);
+    let x = read_f64(text, at, &mut x_room);
+    let y = read_f64(text, at, &mut y_room);
+    let r = denimrasp::denimrasp_dense_block_apply(
+        nrows,
+        ncols,
+        six,
+        row_ptr,
+        col_idx,
+        values,
+        x,
+        y,
+    );
+    verdict(r);
+    show_f64(y);
+}
+
+fn dense_block_block_fill(text: &[u8], at: &mut usize) {
+    let structural_slots = index(text, at);
+    let valid_dense_slots = index(text, at);
+    let r = denimrasp::denimrasp_dense_block_block_fill(structural_slots, valid_dense_slots);
+    refusal(0, 0, 0);
+    float(r);
+}
+
+fn dense_block_value_padding_ratio(text: &[u8], at: &mut usize) {
+    let dense_value_slots = index(text, at);
+    let structural_slots = index(text, at);
+    let r = denimrasp::denimrasp_dense_block_value_padding_ratio(
+        dense_value_slots,
+        structural_slots,
+    );
+    refusal(0, 0, 0);
+    float(r);
+}
+
+fn dense_block_metadata_bytes(text: &[u8], at: &mut usize) {
+    let block_rows = index(text, at);
+    let unique_blocks = index(text, at);
+    let r = denimrasp::denimrasp_dense_block_metadata_bytes(block_rows, unique_blocks);
+    refusal(0, 0, 0);
+    size(r);
+}
+
+fn dense_block_storage_bytes(text: &[u8], at: &mut usize) {
+    let block_rows = index(text, at);
+    let unique_blocks = index(text, at);
+    let dense_value_slots = index(text, at);
+    let r = denimrasp::denimrasp_dense_block_storage_bytes(
+        block_rows,
+        unique_blocks,
+        dense_value_slots,
+    );
+    refusal(0, 0, 0);
+    size(r);
+}
+
 // The calls from here on are those of the crates below that the C interface doesn't export.
 
 // Document 01's refusal of a number; its expected and actual under 6 alone.
@@ -1815,6 +1966,94 @@ fn region_figures(text: &[u8], at: &mut usize) {
     size(s.storage_bytes());
 }
 
+fn block_size(text: &[u8], at: &mut usize) {
+    let six = numeral(text, at) != 0;
+    let n = index(text, at);
+    let col = hybit_core::narrow(index(text, at));
+    refusal(0, 0, 0);
+    size(denimrasp_answers::block_size(six).width());
+    size(denimrasp_answers::block_size(six).blocks_for(n));
+    size(denimrasp_answers::block_size(six).full_blocks(n));
+    size(denimrasp_answers::block_size(six).key_of(col));
+    size(denimrasp_answers::block_size(six).place_of(col));
+}
+
+// The numbers of blocks.
+fn read_blocks(text: &[u8], at: &mut usize) -> DenseBlocks {
+    let nrows = index(text, at);
+    let ncols = index(text, at);
+    let block_rows = index(text, at);
+    let unique_blocks = index(text, at);
+    let dense_value_slots = index(text, at);
+    let structural_slots = index(text, at);
+    let valid_dense_slots = index(text, at);
+    DenseBlocks {
+        nrows,
+        ncols,
+        block_rows,
+        unique_blocks,
+        dense_value_slots,
+        structural_slots,
+        valid_dense_slots,
+    }
+}
+
+fn block_figures(text: &[u8], at: &mut usize) {
+    let s = read_blocks(text, at);
+    refusal(0, 0, 0);
+    float(s.block_fill());
+    float(s.value_padding_ratio());
+    size(s.metadata_bytes());
+    size(s.storage_bytes());
+}
+
+fn block_slots(text: &[u8], at: &mut usize) {
+    let mut row_ptr_room = [0u32; ROOM];
+    let mut col_idx_room = [0u32; ROOM];
+    let mut values_room = [0.0f64; ROOM];
+    let nrows = index(text, at);
+    let ncols = index(text, at);
+    let row_ptr = read_u32(text, at, &mut row_ptr_room);
+    let col_idx = read_u32(text, at, &mut col_idx_room);
+    let values = read_f64(text, at, &mut values_room);
+    count(denimrasp_answers::count(dense_block_counts::structural_slots(
+        nrows,
+        ncols,
+        row_ptr,
+        col_idx,
+        values,
+    )));
+}
+
+fn block_columns(text: &[u8], at: &mut usize) {
+    let mut row_ptr_room = [0u32; ROOM];
+    let mut col_idx_room = [0u32; ROOM];
+    let mut values_room = [0.0f64; ROOM];
+    let mut out_row_ptr_room = [0u32; ROOM];
+    let mut out_col_idx_room = [0u32; ROOM];
+    let nrows = index(text, at);
+    let ncols = index(text, at);
+    let row_ptr = read_u32(text, at, &mut row_ptr_room);
+    let col_idx = read_u32(text, at, &mut col_idx_room);
+    let values = read_f64(text, at, &mut values_room);
+    let six = numeral(text, at) != 0;
+    let out_row_ptr = read_u32(text, at, &mut out_row_ptr_room);
+    let out_col_idx = read_u32(text, at, &mut out_col_idx_room);
+    let r = dense_block_columns::from_csr32(
+        nrows,
+        ncols,
+        row_ptr,
+        col_idx,
+        values,
+        denimrasp_answers::block_size(six),
+        out_row_ptr,
+        out_col_idx,
+    );
+    count(denimrasp_answers::count(r));
+    show_u32(out_row_ptr);
+    show_u32(out_col_idx);
+}
+
 fn mask_calls(call: u64, text: &[u8], at: &mut usize) {
     match call {
         1 => mask_contains(text, at),
@@ -1908,6 +2147,18 @@ fn restricted_calls(call: u64, text: &[u8], at: &mut usize) {
     }
 }
 
+fn dense_block_calls(call: u64, text: &[u8], at: &mut usize) {
+    match call {
+        69 => dense_block_from_csr32(text, at),
+        71 => dense_block_apply(text, at),
+        73 => dense_block_block_fill(text, at),
+        74 => dense_block_value_padding_ratio(text, at),
+        75 => dense_block_metadata_bytes(text, at),
+        76 => dense_block_storage_bytes(text, at),
+        _ => dense_block_question(call, text, at),
+    }
+}
+
 fn core_calls(call: u64, text: &[u8], at: &mut usize) {
     match call {
         200 => core_refusal(text, at),
@@ -1939,6 +2190,10 @@ fn record_calls(call: u64, text: &[u8], at: &mut usize) {
         254 => tile_value(text, at),
         255 => restriction_figures(text, at),
         256 => region_figures(text, at),
+        257 => block_size(text, at),
+        258 => block_figures(text, at),
+        259 => block_slots(text, at),
+        260 => block_columns(text, at),
         _ => tile_part(call, text, at),
     }
 }
@@ -1970,8 +2225,10 @@ fn replay(call: u64, text: &[u8], at: &mut usize) {
         value_calls(call, text, at);
     } else if call < 60 {
         tile_calls(call, text, at);
-    } else {
+    } else if call < 69 {
         restricted_calls(call, text, at);
+    } else {
+        dense_block_calls(call, text, at);
     }
 }
 

@@ -1,7 +1,7 @@
 //! Calls of the crates below the C interface that it doesn't export. The program `recorded` replays them under numbers from 200
 //! on. The model alone judges them: hybit has few of them, and those are judged through C calls that rest on the same functions.
 
-use crate::{Counts, Mask, Store, Tiles, Words, WordsRoom};
+use crate::{Counts, Csr, Mask, Store, Tiles, Words, WordsRoom};
 
 #[derive(Clone, Debug, PartialEq)]
 pub enum Below {
@@ -50,6 +50,14 @@ pub enum Below {
     Restriction([usize; 4]),
     /// The four numbers of a region: the global size, members, entries that are kept, source entries of its rows. Its figures.
     Region([usize; 4]),
+    /// Whether the width is 6, a row or column count, a column: what the width says of each.
+    BlockSize(bool, usize, u32),
+    /// The seven numbers of blocks, in the order of the C struct. Their figures.
+    Blocks([usize; 7]),
+    /// The distinct places with an entry.
+    StructuralSlots(Csr),
+    /// Whether the width is 6, and the lent pointers and block columns.
+    BlockColumns(Csr, bool, Vec<u32>, Vec<u32>),
 }
 
 /// The calls of one word, in the order of their numbers.
@@ -122,6 +130,10 @@ impl Below {
             Below::TileValue(..) => 254,
             Below::Restriction(..) => 255,
             Below::Region(..) => 256,
+            Below::BlockSize(..) => 257,
+            Below::Blocks(..) => 258,
+            Below::StructuralSlots(..) => 259,
+            Below::BlockColumns(..) => 260,
         }
     }
 }

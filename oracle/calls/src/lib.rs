@@ -76,9 +76,20 @@ pub struct TilesRoom {
     pub values: Vec<f64>,
 }
 
-/// The lists that a build of a plot list is lent.
+/// The lists that a build of a plot list or of blocks is lent.
 #[derive(Clone, Debug, PartialEq)]
 pub struct CsrRoom {
+    pub row_ptr: Vec<u32>,
+    pub col_idx: Vec<u32>,
+    pub values: Vec<f64>,
+}
+
+/// Blocks of width 6 or, where `six` is false, 3: pointers of the block rows, block columns, the values of each block row after row.
+#[derive(Clone, Debug, PartialEq)]
+pub struct Blocks {
+    pub nrows: usize,
+    pub ncols: usize,
+    pub six: bool,
     pub row_ptr: Vec<u32>,
     pub col_idx: Vec<u32>,
     pub values: Vec<f64>,
@@ -188,6 +199,20 @@ pub enum Call {
     LocalBoundaryPruningRatio(usize, usize),
     /// Members, entries that are kept.
     LocalStorageBytes(usize, usize),
+    /// Whether the width is 6, and the lent lists.
+    DenseBlockFromCsr32(Csr, bool, CsrRoom),
+    DenseBlockCheck(Blocks),
+    /// x, y.
+    DenseBlockApply(Blocks, Vec<f64>, Vec<f64>),
+    DenseBlockFastBlockFraction(Blocks),
+    /// Places with an entry, places of the blocks inside the frame.
+    DenseBlockBlockFill(usize, usize),
+    /// Values of the blocks, places with an entry.
+    DenseBlockValuePaddingRatio(usize, usize),
+    /// Block rows, blocks.
+    DenseBlockMetadataBytes(usize, usize),
+    /// Block rows, blocks, values of the blocks.
+    DenseBlockStorageBytes(usize, usize, usize),
 }
 
 /// What comes of a call. `result` has the answer's fields after the refusal, in the order of the C struct, each as a number: a
@@ -285,6 +310,14 @@ impl Call {
             LocalGatherInput(..) => "local_gather_input",
             LocalBoundaryPruningRatio(..) => "local_boundary_pruning_ratio",
             LocalStorageBytes(..) => "local_storage_bytes",
+            DenseBlockFromCsr32(..) => "dense_block_from_csr32",
+            DenseBlockCheck(..) => "dense_block_check",
+            DenseBlockApply(..) => "dense_block_apply",
+            DenseBlockFastBlockFraction(..) => "dense_block_fast_block_fraction",
+            DenseBlockBlockFill(..) => "dense_block_block_fill",
+            DenseBlockValuePaddingRatio(..) => "dense_block_value_padding_ratio",
+            DenseBlockMetadataBytes(..) => "dense_block_metadata_bytes",
+            DenseBlockStorageBytes(..) => "dense_block_storage_bytes",
         }
     }
 }

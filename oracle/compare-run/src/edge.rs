@@ -2,7 +2,7 @@
 
 use crate::Sink;
 use crate::make::{Judge, store_of, words_of};
-use crate::{restricted, tiles};
+use crate::{blocks, restricted, tiles};
 use calls::{Call, Csr, Mask, StoreRoom, Words, WordsRoom};
 
 const MOST_PLACES: usize = 1 << 20;
@@ -16,6 +16,7 @@ pub fn all(sink: &mut impl Sink, judge: Judge, thread: usize) {
         full_rows(sink);
         tiles::edge::many(sink);
         restricted::edge::many(sink);
+        blocks::edge::many(sink);
     } else {
         for len in [MOST_PLACES - 1, MOST_PLACES, MOST_PLACES + 1] {
             masks(sink, len);
@@ -28,6 +29,7 @@ pub fn all(sink: &mut impl Sink, judge: Judge, thread: usize) {
         }
         tiles::edge::large(sink, judge);
         restricted::edge::large(sink);
+        blocks::edge::large(sink, judge);
     }
 }
 

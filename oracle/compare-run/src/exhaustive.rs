@@ -2,7 +2,7 @@
 
 use crate::Sink;
 use crate::make::{Judge, store_of, words_of};
-use crate::{restricted, tiles};
+use crate::{blocks, restricted, tiles};
 use calls::{Call, Csr, Mask, Store, StoreRoom, Words, WordsRoom};
 
 /// Which items are this thread's: every `of`-th, from `first` on.
@@ -39,6 +39,7 @@ pub fn all(sink: &mut impl Sink, judge: Judge, share: &mut Share) {
     entry_sequences(sink, share);
     tiles::exhaustive::all(sink, judge, share);
     restricted::exhaustive::all(sink, judge, share);
+    blocks::exhaustive::all(sink, judge, share);
 }
 
 /// Masks up to 5 long, one bit too many among them.
@@ -217,7 +218,7 @@ fn raw_plot_lists(sink: &mut impl Sink, share: &mut Share) {
     }
 }
 
-fn pairs<'a, A, B>(left: &'a [A], right: &'a [B]) -> impl Iterator<Item = (&'a A, &'a B)> {
+pub fn pairs<'a, A, B>(left: &'a [A], right: &'a [B]) -> impl Iterator<Item = (&'a A, &'a B)> {
     left.iter()
         .flat_map(move |a| right.iter().map(move |b| (a, b)))
 }

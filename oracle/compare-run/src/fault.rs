@@ -1,17 +1,25 @@
 //! A deliberate fault in the library's outcomes of one kind of call, to show that the comparison finds it.
 
+mod blocks;
 mod named;
 
 use crate::parts::{Part, parts};
 use crate::text::longest_list;
 use calls::{Call, Outcome};
-pub use named::NAMED;
+
+/// The name of a fault, the call that has it, and what it does to the outcome.
+pub type Named = (&'static str, &'static str, fn(&Call, &mut Outcome));
+
+/// All faults with a name of their own.
+pub fn named() -> impl Iterator<Item = &'static Named> {
+    named::ALL.iter().chain(&blocks::ALL)
+}
 
 /// Changes the outcome where it belongs to the named call and the input reaches past one word: in an accepted outcome the last
 /// number that is not 0, or the last one where all are 0, becomes its neighbour. A call that only accepts or refuses accepts
 /// what it should refuse.
 pub fn alter(call: &Call, name: &str, outcome: &mut Outcome) {
-    if let Some((_, _, fault)) = NAMED.iter().find(|(known, ..)| *known == name) {
+    if let Some((_, _, fault)) = named().find(|(known, ..)| *known == name) {
         fault(call, outcome);
     }
     if call.name() != name || !past_one_word(call) {

@@ -1,5 +1,6 @@
 //! The comparison of the library with hybit's Rust and with the model, and the recorded answers.
 
+pub mod blocks;
 pub mod cases;
 pub mod damage;
 pub mod demand;

@@ -2,7 +2,7 @@
 //! a new call needs its lines here and in `kind` alone.
 
 use calls::{
-    Below, Call, Csr, CsrRoom, Mask, Store, StoreRoom, Tiles, TilesRoom, Words, WordsRoom,
+    Below, Blocks, Call, Csr, CsrRoom, Mask, Store, StoreRoom, Tiles, TilesRoom, Words, WordsRoom,
 };
 
 pub enum Part<'a> {
@@ -20,7 +20,7 @@ pub enum Part<'a> {
 use Part::*;
 
 /// How many kinds of call there are.
-pub const KINDS: usize = 69;
+pub const KINDS: usize = 77;
 
 macro_rules! kinds {
     ($($number:literal $variant:ident)*) => {
@@ -103,6 +103,14 @@ kinds! {
     66 LocalGatherInput
     67 LocalBoundaryPruningRatio
     68 LocalStorageBytes
+    69 DenseBlockFromCsr32
+    70 DenseBlockCheck
+    71 DenseBlockApply
+    72 DenseBlockFastBlockFraction
+    73 DenseBlockBlockFill
+    74 DenseBlockValuePaddingRatio
+    75 DenseBlockMetadataBytes
+    76 DenseBlockStorageBytes
 }
 
 fn mask(m: &mut Mask) -> Vec<Part<'_>> {
@@ -176,6 +184,17 @@ fn csr_room(room: &mut CsrRoom) -> Vec<Part<'_>> {
         Nums32(&mut room.row_ptr),
         Nums32(&mut room.col_idx),
         Floats(&mut room.values),
+    ]
+}
+
+fn blocks(b: &mut Blocks) -> Vec<Part<'_>> {
+    vec![
+        Size(&mut b.nrows),
+        Size(&mut b.ncols),
+        Flag(&mut b.six),
+        Nums32(&mut b.row_ptr),
+        Nums32(&mut b.col_idx),
+        Floats(&mut b.values),
     ]
 }
 
@@ -269,6 +288,17 @@ fn parts_of_restricted(call: &mut Call) -> Vec<Part<'_>> {
         LocalGatherInput(size, members, global, local) => {
             vec![Size(size), Nums32(members), Floats(global), Floats(local)]
         }
+        _ => parts_of_blocks(call),
+    }
+}
+
+/// The parts of a call to blocks.
+fn parts_of_blocks(call: &mut Call) -> Vec<Part<'_>> {
+    use Call::*;
+    match call {
+        DenseBlockFromCsr32(c, six, room) => join(csr(c), join(vec![Flag(six)], csr_room(room))),
+        DenseBlockCheck(b) | DenseBlockFastBlockFraction(b) => blocks(b),
+        DenseBlockApply(b, x, y) => join(blocks(b), vec![Floats(x), Floats(y)]),
         _ => numbers(call),
     }
 }
@@ -292,10 +322,13 @@ fn numbers(call: &mut Call) -> Vec<Part<'_>> {
         | AbtmTotalEstimatedBytes(a, b)
         | RestrictedRetainedFraction(a, b)
         | LocalBoundaryPruningRatio(a, b)
-        | LocalStorageBytes(a, b) => vec![Size(a), Size(b)],
-        MetadataFirstTotalEstimatedBytes(a, b, c) | RestrictedStorageBytes(a, b, c) => {
-            vec![Size(a), Size(b), Size(c)]
-        }
+        | LocalStorageBytes(a, b)
+        | DenseBlockBlockFill(a, b)
+        | DenseBlockValuePaddingRatio(a, b)
+        | DenseBlockMetadataBytes(a, b) => vec![Size(a), Size(b)],
+        MetadataFirstTotalEstimatedBytes(a, b, c)
+        | RestrictedStorageBytes(a, b, c)
+        | DenseBlockStorageBytes(a, b, c) => vec![Size(a), Size(b), Size(c)],
         MetadataFirstAccumulate(a, b) => a.iter_mut().chain(b).map(Size).collect(),
         _ => unreachable!("every other call has its line above"),
     }
@@ -329,6 +362,13 @@ pub fn parts_below(call: &mut Below) -> Vec<Part<'_>> {
         Below::Report(counts) => counts.iter_mut().map(Size).collect(),
         Below::Restriction(numbers) | Below::Region(numbers) => {
             numbers.iter_mut().map(Size).collect()
+        }
+        Below::BlockSize(six, n, col) => vec![Flag(six), Size(n), Num32(col)],
+        Below::Blocks(numbers) => numbers.iter_mut().map(Size).collect(),
+        Below::StructuralSlots(c) => csr(c),
+        Below::BlockColumns(c, six, pointers, columns) => {
+            let lists = vec![Flag(six), Nums32(pointers), Nums32(columns)];
+            join(csr(c), lists)
         }
         Below::TopologyWord(number, mask, n) => vec![Num32(number), Num64(mask), Size(n)],
         Below::TileMasks(t, row) | Below::TileOffsets(t, row) | Below::TileMetas(t, row) => {

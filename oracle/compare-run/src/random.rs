@@ -5,7 +5,7 @@ use crate::damage::damage;
 use crate::good;
 use crate::make::{Judge, store_of, words_of};
 use crate::rng::Rng;
-use crate::{restricted, tiles};
+use crate::{blocks, restricted, tiles};
 use calls::{Call, Csr, Store, Words};
 
 /// Calls until the sink has enough.
@@ -17,7 +17,7 @@ pub fn forever(sink: &mut impl Sink, judge: Judge, rng: &mut Rng) {
 
 /// Some calls to one record.
 pub fn round(sink: &mut impl Sink, judge: Judge, rng: &mut Rng) {
-    match rng.below(27) {
+    match rng.below(31) {
         0..5 => plot_list(sink, judge, rng),
         5 | 6 => mask(sink, rng),
         7..10 => words(sink, judge, rng),
@@ -29,7 +29,9 @@ pub fn round(sink: &mut impl Sink, judge: Judge, rng: &mut Rng) {
         22 => restricted::random::by_value(sink, rng),
         23 => restricted::random::members(sink, rng),
         24 => restricted::random::local(sink, rng),
-        _ => restricted::random::round(sink, judge, rng),
+        25 | 26 => restricted::random::round(sink, judge, rng),
+        27 => blocks::random::by_value(sink, rng),
+        _ => blocks::random::round(sink, judge, rng),
     }
 }
 

@@ -1,5 +1,6 @@
 //! Makes a call that shows a difference smaller for as long as the difference stays.
 
+use crate::blocks::shrink::{blocks_in, drop_blocks, extent as extent_of_blocks, last_rows};
 use crate::parts::{Part, parts};
 use crate::tiles::shrink::{drop_tiles, extent as extent_of_tiles, tiles_in};
 use calls::{Call, Csr, Mask, Store, Words};
@@ -167,7 +168,7 @@ fn cut<T>(change: usize, list: &mut Vec<T>) -> Step {
 #[derive(Clone, Copy)]
 pub enum Drop {
     Row(usize),
-    /// A stored entry, a word or a tile; those of a second record follow those of the first.
+    /// A stored entry, a word, a tile or a block; those of a second record follow those of the first.
     Entry(usize),
     /// A present column of words, with its value in a store; counted as the entries are.
     One(usize),
@@ -206,7 +207,8 @@ fn csr_in(call: &mut Call) -> Option<&mut Csr> {
         | MetadataFirstFromCsr32(c, _)
         | AbtmFromCsr32(c, ..)
         | RestrictedFromCsr32(c, ..)
-        | LocalFromCsr32(c, ..) => Some(c),
+        | LocalFromCsr32(c, ..)
+        | DenseBlockFromCsr32(c, ..) => Some(c),
         _ => None,
     }
 }
@@ -286,6 +288,9 @@ fn ones_in(call: &mut Call) -> usize {
     if let Some(t) = tiles_in(call) {
         return extent_of_tiles(t).3;
     }
+    if let Some(b) = blocks_in(call) {
+        return last_rows(b);
+    }
     let all: Vec<&Words> = match store_in(call) {
         Some(s) => vec![&s.words],
         None => words_in(call).into_iter().map(|w| &*w).collect(),
@@ -327,6 +332,9 @@ fn extent(call: &mut Call) -> (usize, usize, usize) {
         let (nrows, ncols, tiles, _) = extent_of_tiles(t);
         return (nrows, ncols, tiles);
     }
+    if let Some(b) = blocks_in(call) {
+        return extent_of_blocks(b);
+    }
     let all: Vec<&Words> = match store_in(call) {
         Some(s) => vec![&s.words],
         None => words_in(call).into_iter().map(|w| &*w).collect(),
@@ -363,6 +371,7 @@ fn dropped(call: &Call, drop: Drop) -> Call {
         let square = expansion && t.nrows == t.ncols;
         drop_tiles(t, drop, square);
     }
+    drop_blocks(&mut copy, drop);
     let (mut words_before, mut ones_before) = (0, 0);
     for w in words_in(&mut copy) {
         let (stored, ones) = (stored_words(w), count_ones(w));

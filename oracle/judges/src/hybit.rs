@@ -4,6 +4,7 @@
 //! with the same columns and values, and the Rust's object must then show the same lists.
 
 pub mod demand;
+mod dense_block;
 mod restricted;
 mod tiles;
 
@@ -37,10 +38,12 @@ pub enum Reason {
     BytesOverflow,
     BadMembers,
     NoSuchList,
+    BadBlocks,
+    BlockValue,
 }
 
 impl Reason {
-    pub const ALL: [Reason; 18] = [
+    pub const ALL: [Reason; 20] = [
         Reason::OverSize,
         Reason::BadMask,
         Reason::BadWords,
@@ -59,6 +62,8 @@ impl Reason {
         Reason::BytesOverflow,
         Reason::BadMembers,
         Reason::NoSuchList,
+        Reason::BadBlocks,
+        Reason::BlockValue,
     ];
 
     pub fn text(self) -> &'static str {
@@ -68,7 +73,7 @@ impl Reason {
             Reason::BadWords => "11: words that the Rust can't hold",
             Reason::BadStore => "12: a packed store that the Rust can't hold",
             Reason::NegativeZero => "a packed -0.0, which no merge from 0.0 gives",
-            Reason::Copies => "three or more copies of a column in a row to be packed",
+            Reason::Copies => "three or more copies of a column in a row to be merged",
             Reason::ResultOverSize => "1: a result of more than 2^24 words or entries",
             Reason::ShortList => "13: a lent list shorter than the Rust's result",
             Reason::EmptyWord => "a word without a one, which no Rust topology holds",
@@ -81,6 +86,8 @@ impl Reason {
             Reason::BytesOverflow => "bytes of tiles above 2^64 - 1: the Rust's sum overflows",
             Reason::BadMembers => "12: members that no region of the Rust has",
             Reason::NoSuchList => "figures of no list, or of one with more than 2,000 entries",
+            Reason::BadBlocks => "12: blocks that the Rust can't hold",
+            Reason::BlockValue => "the product of blocks with values that no build gives",
         }
     }
 
@@ -90,7 +97,9 @@ impl Reason {
             Reason::OverSize | Reason::ResultOverSize => Some(1),
             Reason::BadMask => Some(5),
             Reason::BadWords => Some(11),
-            Reason::BadStore | Reason::BadTiles | Reason::BadMembers => Some(12),
+            Reason::BadStore | Reason::BadTiles | Reason::BadMembers | Reason::BadBlocks => {
+                Some(12)
+            }
             Reason::ShortList => Some(13),
             _ => None,
         }
@@ -192,6 +201,14 @@ fn numbers(list: &[f64]) -> Vec<u64> {
 fn wide(list: &[u32]) -> Vec<u64> {
     list.iter().map(|&v| v.into()).collect()
 }
+
+fn same_bits(a: &[f64], b: &[f64]) -> bool {
+    let same = |(p, q): (&f64, &f64)| p.to_bits() == q.to_bits();
+    a.len() == b.len() && a.iter().zip(b).all(same)
+}
+
+/// The most rows, columns and entries of a list that is made for its figures.
+const MOST_LISTED: usize = 2000;
 
 const MAX_SIZE: usize = 1 << 20;
 const MAX_ENTRIES: usize = 1 << 24;
@@ -366,11 +383,7 @@ fn topology_of(w: &Words) -> Made<AbtmTopology> {
 
 /// Equal by the bits of the values, since 0.0 == -0.0.
 fn same_store(a: &Store, b: &Store) -> bool {
-    let same = |(p, q): (&f64, &f64)| p.to_bits() == q.to_bits();
-    a.words == b.words
-        && a.row_value_ptr == b.row_value_ptr
-        && a.values.len() == b.values.len()
-        && a.values.iter().zip(&b.values).all(same)
+    a.words == b.words && a.row_value_ptr == b.row_value_ptr && same_bits(&a.values, &b.values)
 }
 
 fn store_of(s: &Store) -> Made<AbtmMetadataFirstMatrix> {

@@ -169,6 +169,18 @@ answer!(
 answer!(Restriction, nrows, ncols, source_nnz, retained_nnz);
 answer!(Region, global_size, local_nodes, local_nnz, source_row_nnz);
 
+answer!(
+    Blocks,
+    nrows,
+    ncols,
+    block_rows,
+    unique_blocks,
+    dense_value_slots,
+    structural_slots,
+    valid_dense_slots
+);
+answer!(Ratio, ratio);
+
 /// The answer of a call that can't refuse.
 fn plain(value: impl Number) -> Outcome {
     Outcome {
@@ -251,7 +263,22 @@ macro_rules! with_tiles {
     };
 }
 
+macro_rules! with_blocks {
+    ($f:ident, $b:expr $(, $more:expr)*) => {
+        unsafe {
+            sys::$f(
+                $b.nrows, $b.ncols, $b.six,
+                $b.row_ptr.as_ptr(), $b.row_ptr.len(),
+                $b.col_idx.as_ptr(), $b.col_idx.len(),
+                $b.values.as_ptr(), $b.values.len()
+                $(, $more)*
+            )
+        }
+    };
+}
+
 // Below the macros, which they use.
+mod dense_block;
 mod restricted;
 mod tiles;
 

@@ -169,3 +169,10 @@ pub fn ratio(part: usize, whole: usize) -> f64 {
         part as f64 / whole as f64
     }
 }
+
+/// The sum of size × count over the terms; the most that a usize holds where it is larger.
+pub fn bytes(terms: &[(usize, usize)]) -> Outcome {
+    let product = |&(size, count): &(usize, usize)| size as u128 * count as u128;
+    let sum: u128 = terms.iter().map(product).sum();
+    count(Ok(usize::try_from(sum).unwrap_or(usize::MAX)))
+}

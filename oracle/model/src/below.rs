@@ -6,7 +6,7 @@ use crate::answer::{
 };
 use crate::csr32::{part, pointers_hold};
 use crate::words::{self, WIDTH, offsets};
-use crate::{abtm, metadata_first, restricted, topology};
+use crate::{abtm, dense_block, metadata_first, restricted, topology};
 use calls::{Below, Counts, Mask, Outcome, Store, Tiles, WordCall, Words, WordsRoom, bits};
 use std::collections::BTreeSet;
 
@@ -56,6 +56,12 @@ pub fn judge_below(call: &Below) -> Outcome {
             restricted::judge_boundary_pruning_ratio(*kept, *source),
             restricted::judge_local_storage_bytes(*members, *kept),
         ),
+        Below::BlockSize(six, n, col) => dense_block::judge_size(*six, *n, *col as usize),
+        Below::Blocks(numbers) => blocks(*numbers),
+        Below::StructuralSlots(csr) => dense_block::judge_structural_slots(csr),
+        Below::BlockColumns(csr, six, pointers, columns) => {
+            dense_block::judge_columns(csr, *six, [pointers.len(), columns.len()])
+        }
     }
 }
 
@@ -63,6 +69,18 @@ pub fn judge_below(call: &Below) -> Outcome {
 fn joined(mut first: Outcome, second: Outcome) -> Outcome {
     first.result.extend(second.result);
     first
+}
+
+fn blocks([_, _, block_rows, blocks, slots, structural, valid]: [usize; 7]) -> Outcome {
+    let ratios = joined(
+        dense_block::judge_block_fill(structural, valid),
+        dense_block::judge_value_padding_ratio(slots, structural),
+    );
+    let bytes = joined(
+        dense_block::judge_metadata_bytes(block_rows, blocks),
+        dense_block::judge_storage_bytes(block_rows, blocks, slots),
+    );
+    joined(ratios, bytes)
 }
 
 /// The number as it is told, in an answer that is refused and in one that is not.

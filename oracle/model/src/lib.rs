@@ -9,6 +9,7 @@ mod answer;
 mod below;
 mod csr32;
 pub mod demand;
+mod dense_block;
 mod mask;
 mod metadata_first;
 mod restricted;
@@ -121,5 +122,21 @@ pub fn judge(call: &Call) -> Outcome {
             restricted::judge_boundary_pruning_ratio(*kept, *source)
         }
         LocalStorageBytes(members, kept) => restricted::judge_local_storage_bytes(*members, *kept),
+        DenseBlockFromCsr32(csr, six, room) => dense_block::judge_from_csr32(csr, *six, room),
+        DenseBlockCheck(blocks) => dense_block::judge_check(blocks),
+        DenseBlockApply(blocks, x, y) => dense_block::judge_apply(blocks, x, y),
+        DenseBlockFastBlockFraction(blocks) => dense_block::judge_fast_block_fraction(blocks),
+        DenseBlockBlockFill(structural, valid) => {
+            dense_block::judge_block_fill(*structural, *valid)
+        }
+        DenseBlockValuePaddingRatio(slots, structural) => {
+            dense_block::judge_value_padding_ratio(*slots, *structural)
+        }
+        DenseBlockMetadataBytes(block_rows, count) => {
+            dense_block::judge_metadata_bytes(*block_rows, *count)
+        }
+        DenseBlockStorageBytes(block_rows, count, slots) => {
+            dense_block::judge_storage_bytes(*block_rows, *count, *slots)
+        }
     }
 }

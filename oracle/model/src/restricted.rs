@@ -1,7 +1,7 @@
 //! Plot lists restricted to active columns, and plot lists of a region with numbers of their own.
 
 use crate::answer::{
-    BAD_STORE, Built, Checked, NOT_FINITE, NOT_SQUARE, build, change, count, list_bits, need,
+    BAD_STORE, Built, Checked, NOT_FINITE, NOT_SQUARE, build, bytes, change, list_bits, need,
     need_length, need_sizes, number, ratio, verdict,
 };
 use crate::csr32::{self, entries};
@@ -92,13 +92,6 @@ fn from_abtm(tiles: &Tiles, active: &Mask) -> Checked<Built<4, 3>> {
 
 pub fn judge_retained_fraction(kept: usize, source: usize) -> Outcome {
     number(ratio(kept, source))
-}
-
-/// The most that a usize holds where the sum is larger.
-fn bytes(terms: &[(usize, usize)]) -> Outcome {
-    let product = |&(size, count): &(usize, usize)| size as u128 * count as u128;
-    let sum: u128 = terms.iter().map(product).sum();
-    count(Ok(usize::try_from(sum).unwrap_or(usize::MAX)))
 }
 
 /// Four bytes for each pointer and column, eight for each value and word of the mask.

@@ -61,6 +61,7 @@ pub fn run(case: &Case) -> Vec<(String, String)> {
         if let Some(list) = notes.result("local from_csr32", made) {
             region(&mut notes, case, &list);
         }
+        in_blocks(&mut notes, case, &a);
     }
     notes.0
 }
@@ -316,4 +317,29 @@ fn region(notes: &mut Notes, case: &Case, list: &m::PreparedLocalCsrOperator) {
     let mut y = vec![7.0; length(1)];
     notes.result("local apply", list.clone().apply(&x, &mut y));
     notes.note("local y", y);
+}
+
+fn in_blocks(notes: &mut Notes, case: &Case, a: &m::Csr32Matrix) {
+    for size in [m::DenseBlockSize::B3, m::DenseBlockSize::B6] {
+        notes.note("block width", (size, size.width()));
+        let made = m::DenseBlockCsrOperator::from_csr32(a, size);
+        if let Some(operator) = notes.result("blocks from_csr32", made) {
+            blocks(notes, case, &operator);
+        }
+    }
+}
+
+fn blocks(notes: &mut Notes, case: &Case, operator: &m::DenseBlockCsrOperator) {
+    notes.note("block sizes", (operator.rows(), operator.cols()));
+    let size = (operator.block_size(), operator.block_width());
+    notes.note("block size", size);
+    let slots = (operator.structural_slots(), operator.dense_value_slots());
+    notes.note("block counts", (operator.unique_blocks(), slots));
+    let ratios = (operator.block_fill(), operator.value_padding_ratio());
+    notes.note("block ratios", (ratios, operator.fast_block_fraction()));
+    let bytes = (operator.metadata_bytes(), operator.storage_bytes());
+    notes.note("block bytes", bytes);
+    let mut y = case.y.clone();
+    notes.result("block apply", operator.clone().apply(&case.x, &mut y));
+    notes.note("block y", y);
 }

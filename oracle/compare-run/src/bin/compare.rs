@@ -71,9 +71,7 @@ fn work(thread: usize, options: &Options, end: Instant) {
 
 fn main() -> ExitCode {
     if std::env::args().nth(1).as_deref() == Some("--faults") {
-        fault::NAMED
-            .iter()
-            .for_each(|(name, call, _)| println!("{name} {call}"));
+        fault::named().for_each(|(name, call, _)| println!("{name} {call}"));
         return ExitCode::SUCCESS;
     }
     let options = match options() {

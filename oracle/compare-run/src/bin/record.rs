@@ -22,14 +22,14 @@ const MASK_ROOM: usize = 16_385;
 const MASK_KINDS: usize = 13;
 /// How many calls are looked at, and how many of each sort are kept.
 const LOOKED_AT: usize = 1_500_000;
-const ACCEPTED: usize = 2;
+const ACCEPTED: usize = 1;
 const REFUSED: usize = 1;
 /// The same of the last kinds, from `NEW_KINDS` on: the others have more named cases.
-const NEW_ACCEPTED: usize = 4;
+const NEW_ACCEPTED: usize = 3;
 const NEW_REFUSED: usize = 2;
-const NEW_KINDS: usize = 60;
+const NEW_KINDS: usize = 69;
 /// The products' vectors keep their matrices below 41 columns, so that these are few sorts.
-const PRODUCTS: usize = 12;
+const PRODUCTS: usize = 8;
 
 /// What makes two calls of the same sort: the kind, the refusal, the column count's class, why the Rust was no judge.
 type Sort = (usize, u32, usize, Option<usize>);

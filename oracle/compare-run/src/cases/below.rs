@@ -1,8 +1,8 @@
 //! Calls of the crates below the C interface.
 
 use super::values::{COUNTS, WORDS};
-use super::{HUGE, INF, MOST, NAN, ONES, mask, records, stores, tile_stores, words_room};
-use calls::{Below, WordCall};
+use super::{HUGE, INF, MOST, NAN, ONES, blocks, mask, records, stores, tile_stores, words_room};
+use calls::{Below, Call, WordCall};
 
 pub fn calls() -> Vec<Below> {
     let mut all = Vec::new();
@@ -20,6 +20,9 @@ pub fn calls() -> Vec<Below> {
     tile_parts(&mut all);
     tile_values(&mut all);
     restrictions(&mut all);
+    block_sizes(&mut all);
+    block_figures(&mut all);
+    block_columns(&mut all);
     all
 }
 
@@ -118,9 +121,7 @@ fn clears(all: &mut Vec<Below>) {
             all.push(Below::ClearF64(floats[..n].to_vec(), from));
         }
     }
-    for from in [1000, 4095] {
-        all.push(Below::ClearU32(vec![7; 4096], from));
-    }
+    all.push(Below::ClearU32(vec![7; 4096], 1000));
     for (rows, words) in [
         (0, 0),
         (0, 5),
@@ -304,5 +305,41 @@ fn tile_values(all: &mut Vec<Below>) {
     }
     for x in [0.0, -0.0, 5e-324, -5e-324, 1.0, INF, -INF, NAN] {
         all.push(Below::TileValue(0, 1, [8, 40], 1, x.to_bits()));
+    }
+}
+
+/// Counts and columns on both sides of multiples of the widths, and the largest.
+fn block_sizes(all: &mut Vec<Below>) {
+    for six in blocks::BOTH {
+        for n in (0..=13).chain([MOST - 1, MOST, MOST + 1, HUGE - 3, HUGE - 1, HUGE]) {
+            let col = n.min(u32::MAX as usize - n % 7) as u32;
+            all.push(Below::BlockSize(six, n, col));
+        }
+    }
+}
+
+/// Each number in its own field, ratios to 0, bytes at and past the largest.
+fn block_figures(all: &mut Vec<Below>) {
+    for numbers in [
+        [4, 4, 2, 2, 18, 2, 12],
+        [0, 0, 0, 0, 0, 0, 0],
+        [7, 13, 2, 3, 108, 5, 79],
+        [1, 2, 3, 4, 5, 6, 7],
+        [HUGE, HUGE, HUGE, HUGE, HUGE, HUGE, HUGE],
+        [0, 0, HUGE / 4, 0, 0, 1, 0],
+        [0, 0, 0, HUGE / 4, HUGE / 8, 0, 1],
+        [0, 0, 1, 1, HUGE / 8, (1 << 53) + 1, 3],
+    ] {
+        all.push(Below::Blocks(numbers));
+    }
+}
+
+/// The block columns and the places with an entry of the plot lists whose blocks are built, into the same lists.
+fn block_columns(all: &mut Vec<Below>) {
+    for call in blocks::short() {
+        if let Call::DenseBlockFromCsr32(c, six, room) = call {
+            all.push(Below::StructuralSlots(c.clone()));
+            all.push(Below::BlockColumns(c, six, room.row_ptr, room.col_idx));
+        }
     }
 }

@@ -2,6 +2,8 @@
 //! library them too.
 
 mod below;
+mod block_stores;
+mod blocks;
 mod combine;
 mod csr32;
 mod demand;
@@ -45,6 +47,8 @@ pub fn calls() -> Vec<Call> {
         restricted::calls(),
         local::calls(),
         demand::calls(),
+        blocks::calls(),
+        block_stores::calls(),
     ];
     groups.concat()
 }

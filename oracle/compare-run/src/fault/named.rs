@@ -1,11 +1,9 @@
 //! Faults that a port of restricted and local lists could have, each in the outcomes of one call.
 
+use super::Named;
 use calls::{Call, Csr, Outcome};
 
-/// The name of a fault, the call that has it, and what it does to the outcome.
-type Named = (&'static str, &'static str, fn(&Call, &mut Outcome));
-
-pub const NAMED: [Named; 10] = [
+pub const ALL: [Named; 10] = [
     ("zeros_dropped", "restricted_from_csr32", zeros_dropped),
     ("order_lost", "restricted_from_csr32", order_lost),
     ("tail_left", "restricted_from_csr32", tail_left),
@@ -23,7 +21,7 @@ pub const NAMED: [Named; 10] = [
 ];
 
 /// The plot list with each row changed.
-fn changed(c: &Csr, change: impl Fn(&mut Vec<(u32, f64)>)) -> Csr {
+pub fn changed(c: &Csr, change: impl Fn(&mut Vec<(u32, f64)>)) -> Csr {
     let mut other = Csr {
         row_ptr: vec![0],
         col_idx: vec![],

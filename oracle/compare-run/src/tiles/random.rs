@@ -127,7 +127,7 @@ pub fn nonzero(rng: &mut Rng, style: Style) -> f64 {
 }
 
 /// The entries of one column: one, a zero, a pair that cancels or overflows, or several.
-fn copies(rng: &mut Rng, style: Style) -> Vec<f64> {
+pub fn copies(rng: &mut Rng, style: Style) -> Vec<f64> {
     let value = nonzero(rng, style);
     match rng.below(12) {
         0..5 => vec![value],
@@ -311,7 +311,7 @@ fn questions(sink: &mut impl Sink, rng: &mut Rng, t: &Tiles) {
 }
 
 /// A vector; some have one place alone that isn't finite, so that it shows which places are read.
-fn vector(rng: &mut Rng, n: usize) -> Vec<f64> {
+pub fn vector(rng: &mut Rng, n: usize) -> Vec<f64> {
     let mut x = good::vector(rng, n);
     if n > 0 && rng.once_in(2) {
         x = vec![1.0; n];

@@ -3,8 +3,8 @@
 
 use super::tiles::{tiles_of, tiles_within};
 use super::{
-    MAX_ENTRIES, Reason, accepted, csr_of, csr_within, filled, mask_of, mask_within, numbers,
-    refused, told, wide, with_lists, within, zeros,
+    MAX_ENTRIES, MOST_LISTED, Reason, accepted, csr_of, csr_within, dense_block, filled, mask_of,
+    mask_within, numbers, refused, told, wide, with_lists, within, zeros,
 };
 use calls::{Call, Csr, CsrRoom, Mask, Outcome, Tiles, bits};
 use hybit_core::HybitError;
@@ -43,7 +43,7 @@ pub fn judge(call: &Call) -> Result<Outcome, Reason> {
             let bytes = region(*members, *members, *kept, *kept)?.storage_bytes();
             Ok(accepted(vec![bytes as u64]))
         }
-        _ => unreachable!("every other call is answered before"),
+        _ => dense_block::judge(call),
     }
 }
 
@@ -130,9 +130,6 @@ fn local(global_size: usize, members: &[u32]) -> Result<Local, Reason> {
     let shown = made.global_nodes() == members;
     shown.then_some(made).ok_or(Reason::BadMembers)
 }
-
-/// The most rows, columns and entries of a list that is made for its figures.
-const MOST_LISTED: usize = 2000;
 
 /// A plot list with so many entries in its first row: the kept ones in column 0, the others in column 1.
 fn counted(nrows: usize, ncols: usize, source: usize, kept: usize) -> Result<Csr32Matrix, Reason> {

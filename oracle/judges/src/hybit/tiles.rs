@@ -3,7 +3,7 @@
 
 use super::{
     Made, Reason, accepted, csr_of, csr_within, filled, mask_of, mask_within, numbers, ones,
-    refused, restricted, told, with_lists, within, zeros,
+    refused, restricted, same_bits, told, with_lists, within, zeros,
 };
 use calls::{Call, Csr, Mask, Outcome, Tiles, TilesRoom, bits};
 use hybit_core::{HybitError, LinearOperator};
@@ -93,11 +93,6 @@ fn shows_row(m: &AbtmMatrix, t: &Tiles, row: usize) -> bool {
             && meta(tile) == t.metas[place]
     };
     places.len() == tiles.len() && places.zip(tiles).all(same)
-}
-
-fn same_bits(a: &[f64], b: &[f64]) -> bool {
-    let same = |(p, q): (&f64, &f64)| p.to_bits() == q.to_bits();
-    a.len() == b.len() && a.iter().zip(b).all(same)
 }
 
 /// Thresholds under which each tile has its kind by its count.

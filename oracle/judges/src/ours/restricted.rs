@@ -1,6 +1,6 @@
 //! The library's answers to calls of restricted and local lists.
 
-use super::{Answer, Lent, lent_floats, lent32, plain, with_lists};
+use super::{Answer, Lent, dense_block, lent_floats, lent32, plain, with_lists};
 use crate::sys;
 use calls::{Call, Csr, CsrRoom, Mask, Outcome, Tiles};
 
@@ -38,20 +38,20 @@ fn by_value(call: &Call) -> Outcome {
             LocalStorageBytes(members, kept) => {
                 plain(sys::denimrasp_local_storage_bytes(members, kept))
             }
-            _ => unreachable!("every other call is answered before"),
+            _ => dense_block::judge(call),
         }
     }
 }
 
-/// The lists that a build of a plot list is lent.
-struct Room {
-    ptr: Lent<u32>,
-    cols: Lent<u32>,
-    values: Lent<f64>,
+/// The lists that a build of a plot list or of blocks is lent.
+pub struct Room {
+    pub ptr: Lent<u32>,
+    pub cols: Lent<u32>,
+    pub values: Lent<f64>,
 }
 
 impl Room {
-    fn new(room: &CsrRoom) -> Room {
+    pub fn new(room: &CsrRoom) -> Room {
         Room {
             ptr: lent32(&room.row_ptr),
             cols: lent32(&room.col_idx),
@@ -59,7 +59,7 @@ impl Room {
         }
     }
 
-    fn numbers(&self) -> Vec<Vec<u64>> {
+    pub fn numbers(&self) -> Vec<Vec<u64>> {
         let (ptr, cols) = (self.ptr.numbers(), self.cols.numbers());
         vec![ptr, cols, self.values.numbers()]
     }

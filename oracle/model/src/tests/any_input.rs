@@ -239,6 +239,37 @@ impl Chance {
         tiles
     }
 
+    /// Blocks, with one of their parts replaced at times.
+    fn blocks(&mut self) -> Blocks {
+        let (nrows, ncols) = (self.below(8) as usize, self.columns());
+        let (six, mut row_ptr, mut col_idx) = (self.below(2) == 0, vec![0], vec![]);
+        let w = if six { 6 } else { 3 };
+        for _ in 0..nrows.div_ceil(w) {
+            let stored = |_: &u32| self.below(2) == 0;
+            col_idx.extend((0..ncols.div_ceil(w) as u32).filter(stored));
+            row_ptr.push(col_idx.len() as u32);
+        }
+        let values = (0..col_idx.len() * w * w).map(|_| self.value()).collect();
+        let mut blocks = Blocks {
+            nrows,
+            ncols,
+            six,
+            row_ptr,
+            col_idx,
+            values,
+        };
+        match self.below(12) {
+            0 => blocks.nrows = self.count(),
+            1 => blocks.ncols = self.count(),
+            2 => blocks.row_ptr = self.pointers(),
+            3 => blocks.col_idx = self.list(Chance::small),
+            4 => blocks.values = self.list(Chance::value),
+            5 => blocks.six = !six,
+            _ => {}
+        }
+        blocks
+    }
+
     fn tiles_room(&mut self) -> TilesRoom {
         TilesRoom {
             row_tile_ptr: self.list(|_| 9),
@@ -460,6 +491,30 @@ fn restricted_call(c: &mut Chance) -> (Call, Left) {
     }
 }
 
+fn blocks_call(c: &mut Chance) -> (Call, Left) {
+    let b = c.blocks();
+    match c.below(4) {
+        0 => (Call::DenseBlockCheck(b), Left::Nothing),
+        1 => (Call::DenseBlockFastBlockFraction(b), Left::Nothing),
+        2 => {
+            let (x, y) = (c.vector(b.ncols), c.vector(b.nrows));
+            let left = Left::Untouched(y.iter().map(|&v| bits(v)).collect());
+            (Call::DenseBlockApply(b, x, y), left)
+        }
+        _ => {
+            let values = c.pick(&[0, 8, 9, 40, 400]);
+            let room = CsrRoom {
+                row_ptr: c.list(|_| 9),
+                col_idx: c.list(|_| 9),
+                values: vec![9.0; values],
+            };
+            let lengths = vec![room.row_ptr.len(), room.col_idx.len(), values];
+            let call = Call::DenseBlockFromCsr32(c.csr(), b.six, room);
+            (call, Left::Zeros(lengths))
+        }
+    }
+}
+
 /// The form of a refused outcome.
 fn refused_as_it_should_be(call: &Call, outcome: &Outcome, left: Left) {
     assert!(outcome.result.iter().all(|&n| n == 0), "{call:?}");
@@ -484,6 +539,7 @@ fn no_input_stops_a_call() {
         store_call,
         tiles_call,
         restricted_call,
+        blocks_call,
     ];
     let mut seen = [0; 14];
     for round in 0..500_000 {

@@ -1,11 +1,11 @@
 //! Inputs with one fault and with two: each way of each refusal, and which of two refusals decides.
 
 use crate::judge;
-use calls::{Call, Csr, Mask, Store, Tiles, Words};
+use calls::{Blocks, Call, Csr, Mask, Store, Tiles, Words};
 
 pub const PLACES_OVER: usize = (1 << 20) + 1;
 /// Two more than the limit, so that a list that then loses one is still too long.
-const STORED_OVER: usize = (1 << 24) + 2;
+pub const STORED_OVER: usize = (1 << 24) + 2;
 
 /// The number, expected and actual of a refusal.
 pub type Told = (u32, usize, usize);
@@ -294,5 +294,47 @@ fn slot_faults() -> Vec<Fault<Tiles>> {
         // Past the last column.
         fault(12, |t: &mut Tiles| t.values[64] = 5e-324),
         fault(12, |t: &mut Tiles| t.values[64] = -0.0),
+    ]
+}
+
+/// 1 and 12 of `good_blocks`.
+pub fn blocks_faults() -> Vec<Fault<Blocks>> {
+    let mut faults = vec![fault(1, |b: &mut Blocks| b.col_idx = vec![0; STORED_OVER])];
+    faults.extend(short_blocks_faults());
+    faults
+}
+
+/// The same without a long list.
+pub fn short_blocks_faults() -> Vec<Fault<Blocks>> {
+    vec![
+        fault(1, |b: &mut Blocks| b.nrows = PLACES_OVER),
+        fault(1, |b: &mut Blocks| b.nrows = usize::MAX),
+        fault(1, |b: &mut Blocks| b.ncols = PLACES_OVER),
+        fault(1, |b: &mut Blocks| b.ncols = usize::MAX),
+        // Wrong pointers: their number, the first, the last, a fall.
+        fault(12, |b: &mut Blocks| b.row_ptr.push(3)),
+        fault(12, |b: &mut Blocks| shorten(&mut b.row_ptr)),
+        fault(12, |b: &mut Blocks| b.row_ptr.clear()),
+        fault(12, |b: &mut Blocks| b.row_ptr[0] = 1),
+        fault(12, |b: &mut Blocks| b.row_ptr[1] = 4),
+        fault(12, |b: &mut Blocks| b.row_ptr[1] = u32::MAX),
+        fault(12, |b: &mut Blocks| *b.row_ptr.last_mut().unwrap() = 2),
+        fault(12, |b: &mut Blocks| *b.row_ptr.last_mut().unwrap() = 4),
+        fault(12, |b: &mut Blocks| alter(&mut b.nrows, 7)),
+        fault(12, |b: &mut Blocks| alter(&mut b.nrows, 3)),
+        // Block columns that are equal, that fall, that are outside the frame.
+        fault(12, |b: &mut Blocks| b.col_idx[1] = 0),
+        fault(12, |b: &mut Blocks| b.col_idx.swap(0, 1)),
+        fault(12, |b: &mut Blocks| b.col_idx[1] = 3),
+        fault(12, |b: &mut Blocks| b.col_idx[2] = u32::MAX),
+        fault(12, |b: &mut Blocks| alter(&mut b.ncols, 6)),
+        // Values too few, too many, or those of the other width.
+        fault(12, |b: &mut Blocks| shorten(&mut b.values)),
+        fault(12, |b: &mut Blocks| b.values.push(0.0)),
+        fault(12, |b: &mut Blocks| b.values.clear()),
+        fault(12, |b: &mut Blocks| b.values = vec![0.0; 108]),
+        fault(12, |b: &mut Blocks| b.six = true),
+        fault(12, |b: &mut Blocks| shorten(&mut b.col_idx)),
+        fault(12, |b: &mut Blocks| b.col_idx.push(2)),
     ]
 }

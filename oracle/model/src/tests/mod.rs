@@ -5,6 +5,7 @@ mod any_input;
 mod below;
 mod combine;
 mod csr32;
+mod dense_block;
 mod dot;
 mod faults;
 mod large;
@@ -17,7 +18,9 @@ mod topology;
 mod words;
 
 use crate::judge;
-use calls::{Call, Csr, Mask, Outcome, Store, StoreRoom, Tiles, TilesRoom, Words, WordsRoom};
+use calls::{
+    Blocks, Call, Csr, CsrRoom, Mask, Outcome, Store, StoreRoom, Tiles, TilesRoom, Words, WordsRoom,
+};
 
 /// An accepted call that writes nothing.
 fn accepted<const N: usize>(call: Call, result: [u64; N]) {
@@ -130,6 +133,27 @@ fn tiles_room(lengths: [usize; 5]) -> TilesRoom {
         value_offsets: vec![9; value_offsets],
         metas: vec![9; metas],
         values: vec![9.0; values],
+    }
+}
+
+/// Lent lists of these lengths: pointers, columns, values.
+fn csr_room([row_ptr, col_idx, values]: [usize; 3]) -> CsrRoom {
+    CsrRoom {
+        row_ptr: vec![9; row_ptr],
+        col_idx: vec![9; col_idx],
+        values: vec![9.0; values],
+    }
+}
+
+/// Blocks of width 3 in 5 by 7: a full one and a column tail in the first block row, one in the partial second.
+fn good_blocks() -> Blocks {
+    Blocks {
+        nrows: 5,
+        ncols: 7,
+        six: false,
+        row_ptr: vec![0, 2, 3],
+        col_idx: vec![0, 2, 1],
+        values: (1..=27).map(f64::from).collect(),
     }
 }
 

@@ -4,22 +4,15 @@ use super::faults::{
     Fault, Left, PLACES_OVER, alter, csr_faults, fault, fault_told, in_order, mask_faults, shorten,
     within,
 };
-use super::{accepted, accepted_with, csr, f, good_csr, good_mask, good_tiles, mask};
+use super::{
+    accepted, accepted_with, csr, csr_room as room, f, good_csr, good_mask, good_tiles, mask,
+};
 use crate::demand;
 use crate::judge;
 use calls::Call::*;
 use calls::{Csr, CsrRoom, Mask, Tiles, bits};
 
 const INF: f64 = f64::INFINITY;
-
-/// Lent lists of these lengths: pointers, columns, values.
-fn room([row_ptr, col_idx, values]: [usize; 3]) -> CsrRoom {
-    CsrRoom {
-        row_ptr: vec![9; row_ptr],
-        col_idx: vec![9; col_idx],
-        values: vec![9.0; values],
-    }
-}
 
 #[test]
 fn entries_in_active_columns_are_kept_in_stored_order() {

@@ -2,22 +2,22 @@
 use mathlib.Core.Bool.{true, cond}
 use mathlib.Core.List.{List, [], _∷_, _++_, foldl, foldl-append}
 use mathlib.Core.Path.{_≡_, refl, sym, ap, ap₂, _∙_}
-use Prim.Native.Nat.{ℕ, suc, min, _+_, _-_, _*_, _/_, _%_, _≤_, _<_}
+use Prim.Native.Nat.{ℕ, min, _+_, _-_, _*_, _/_, _%_, _≤_, _<_}
 use native.Mathlib.Nat.{le-refl}
 use native.Mathlib.Numerals.{add-one}
 use native.Mathlib.Omega.{arith}
 use lib.Dec.{leb}
-use lib.ListN.{length, getD, replicate}
+use lib.ListN.{getD}
 use lib.Ieee.{Float, nan, binary64, add}
 use borrow.Author.Tests.{le-leb, lt-leb}
 use Rattle.hybit_core.specs.Floats.{zero64}
 use Rattle.lent.specs.Lists.{each}
 use Rattle.lent.proofs.ListLaws.{getD-each, each-cong}
-use Rattle.word.specs.Bits.{from, between}
+use Rattle.word.specs.Bits.{between}
 use Rattle.word.proofs.BelowLaws.{between-split, between-none, between-cons}
 use Rattle.dense_block.specs.Blocks.{Blocks, inside}
 use Rattle.dense_block_apply.specs.Product.{products, termByTerm, asOne, blockTerms, addBlock, blockSum}
-use Rattle.dense_block_apply.proofs.BlockLaws.{Ready, Row, LastRow, row-over, row-under, last-over, last-under, last-short}
+use Rattle.dense_block_apply.proofs.BlockLaws.{Row, LastRow, row-over, row-under, last-over, last-under, last-short}
 
 -- ---- the places from a up to p
 

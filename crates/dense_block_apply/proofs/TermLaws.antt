@@ -1,7 +1,7 @@
 -- The terms of one row of a block, as one number and one after the other, and the numbers of a block's rows. Assumes nothing.
 use mathlib.Core.List.{List, [], _∷_, _++_, foldl-append}
 use mathlib.Core.Path.{_≡_, refl, sym, ap, _∙_}
-use Prim.Native.Nat.{ℕ, _+_, _*_, _≤_, _<_}
+use Prim.Native.Nat.{ℕ, _+_, _*_, _≤_}
 use native.Mathlib.Nat.{add-zero}
 use native.Mathlib.Numerals.{add-one}
 use native.Mathlib.Omega.{arith}

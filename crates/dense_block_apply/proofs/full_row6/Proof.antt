@@ -129,8 +129,8 @@ loop-again : tie.Need-loop-again Inv-loop μ-loop
 loop-again c =
     let inv = c .before .before .before .before .loop .inv in
     let col = ap (λ (k : ℕ). 6 * k) (c .before .wide3 .ensures) in
-    ⊎-elim (λ t. sums-full _ _ _ _ _ _ _ inv (36 * c .before .before .before .before .loop .p) _ (omega arith) col (omega arith) _ (t .0 .taken) (t .2 ∙ t .1 .ensures))
-    (λ t. sums-tail _ _ _ _ _ _ _ inv (36 * c .before .before .before .before .loop .p) _ (omega arith) col (omega arith) _ _ refl (t .0 .left) (t .2 ∙ t .1 .ensures)) (c .if1 .came)
+    ⊎-elim (λ t. sums-full _ _ _ _ _ _ _ inv (36 * c .before .before .before .before .loop .p) _ (omega arith) col (omega arith) _ (omega (arith, t .0 .taken)) (t .2 ∙ t .1 .ensures))
+    (λ t. sums-tail _ _ _ _ _ _ _ inv (36 * c .before .before .before .before .loop .p) _ (omega arith) col (omega arith) _ _ refl (omega (arith, t .0 .left)) (t .2 ∙ t .1 .ensures)) (c .if1 .came)
 
 returns : tie.Need-returns Inv-loop μ-loop
 returns c = sums-done _ _ _ _ _ _ _ (c .before .loop .inv) (omega arith)

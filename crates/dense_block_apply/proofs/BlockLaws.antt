@@ -43,7 +43,7 @@ row-full : {w : ℕ} → Width w → (R n : ℕ) → w * R + w ≤ n → R < blo
 row-full three R n h = omega arith
 row-full six R n h = omega arith
 
--- a row r at or past the last full block row
+-- a row r below the full block rows
 pub last-over : {w : ℕ} → Width w → (n r : ℕ) → w * (n / w) ≤ r → r < n → r / w ≡ n / w
 last-over three n r h k = omega arith
 last-over six n r h k = omega arith
@@ -169,7 +169,7 @@ module _ {b : Blocks} {x : List Float} (k : Ready b x) where
     values = values-inside (k .width) p (length (b .col)) (length (b .vals)) (k .values) h;
   }
 
--- ---- a row r at or past the last full block row, which is before block row `last`
+-- ---- a row r below the full block rows, in block row `last`
 
 pub record LastRow (b : Blocks) (x : List Float) (r last : ℕ) : Type 0 where
   pub ready : Ready b x

@@ -117,7 +117,7 @@ module _ (b : Blocks) (x : List Float) where
         ∙ each-cong (λ i. sum-upto (b .width * R + i) from p) (λ i. blockSum b x (b .width * R + i)) (b .width)
         (λ i k. ap (sum-upto (b .width * R + i) from) end ∙ upto-all (b .width * R + i) R from to (row-over (inv .row .ready .width) R i k) (inv .row .starts) (inv .row .ends))
 
-  -- ---- a row r at or past the last full block row: the blocks up to place p are added
+  -- ---- a row r below the full block rows: the blocks up to place p are added
 
   pub record Sum (r last from to p : ℕ) (s : Float) : Type 0 where
     pub of : LastRow b x r last

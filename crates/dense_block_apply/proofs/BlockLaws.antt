@@ -2,23 +2,23 @@
 use mathlib.Core.Bool.{Bool, true, _&&_}
 use mathlib.Core.List.{List}
 use mathlib.Core.Path.{_≡_, sym, ap, subst, _∙_}
-use Prim.Native.Nat.{ℕ, suc, _+_, _-_, _*_, _/_, _%_, _^_, _≤_, _<_}
+use Prim.Native.Nat.{ℕ, _+_, _-_, _*_, _/_, _%_, _^_, _≤_, _<_}
 use native.Mathlib.Omega.{arith}
-use lib.Dec.{eqb, ltb}
+use lib.Dec.{ltb}
 use lib.ListN.{length, getD}
 use lib.Ieee.{Float}
-use borrow.Author.Tests.{leb-true, ltb-true, eqb-true}
-use Rattle.hybit_core.specs.Answer.{Answer, accepted, demand, lengthIs, _andThen_}
+use borrow.Author.Tests.{leb-true, eqb-true}
+use Rattle.hybit_core.specs.Answer.{accepted, demand, lengthIs, _andThen_}
 use Rattle.hybit_core.specs.Domain.{few, many, sizesFit}
 use Rattle.hybit_core.proofs.BoolLaws.{and-left, and-right}
 use Rattle.hybit_core.proofs.AnswerLaws.{demand-accepted, then-first, then-second, length-accepted}
 use Rattle.lent.specs.Lists.{every}
-use Rattle.csr32.specs.Csr.{framed}
 use Rattle.csr32.proofs.FrameLaws.{Framed, framed-facts, RowIn, row-in}
 use Rattle.csr32.proofs.CsrLaws.{column-below}
 use Rattle.dense_block.specs.Blocks.{widthOf, blocksFor, Blocks, asBlocks, blockSizes, rowsClimb, blocksRules, blocksAnswer}
 use Rattle.dense_block.specs.declared.DenseBlockSize.{DenseBlockSize}
 use Rattle.dense_block.specs.declared.DenseBlockSize.the-variants.{B3, B6}
+use Rattle.dense_block_check.proofs.RuleLaws.{square-small, slots-fit, pointersHold, valuesHold, columnsHold, accepted-frame}
 use Rattle.dense_block_apply.specs.Product.{applyBlocksAnswer}
 
 -- ---- widths
@@ -43,7 +43,7 @@ row-full : {w : ℕ} → Width w → (R n : ℕ) → w * R + w ≤ n → R < blo
 row-full three R n h = omega arith
 row-full six R n h = omega arith
 
--- a row r at or past the last full block row
+-- a row r below the full block rows
 pub last-over : {w : ℕ} → Width w → (n r : ℕ) → w * (n / w) ≤ r → r < n → r / w ≡ n / w
 last-over three n r h k = omega arith
 last-over six n r h k = omega arith
@@ -68,9 +68,9 @@ row-in-block : {w : ℕ} → Width w → (i : ℕ) → i < w → w * i + w ≤ w
 row-in-block three i h = omega arith
 row-in-block six i h = omega arith
 
-square-small : {w : ℕ} → Width w → w * w ≤ 36
-square-small three = omega arith
-square-small six = omega arith
+at-most-six : {w : ℕ} → Width w → w ≤ 6
+at-most-six three = omega arith
+at-most-six six = omega arith
 
 column-inside : {w : ℕ} → Width w → (C n : ℕ) → C < blocksFor w n → w * C < n
 column-inside three C n h = omega arith
@@ -79,10 +79,6 @@ column-inside six C n h = omega arith
 values-inside : {w : ℕ} → Width w → (p k n : ℕ) → n ≡ k * (w * w) → p < k → p * (w * w) + w * w ≤ n
 values-inside three p k n e h = omega arith
 values-inside six p k n e h = omega arith
-
-values-few : {w : ℕ} → Width w → (k n : ℕ) → n ≡ k * (w * w) → k ≤ 2 ^ 24 → n ≤ 2 ^ 40
-values-few three k n e h = omega arith
-values-few six k n e h = omega arith
 
 -- ---- what accepted blocks are
 
@@ -124,9 +120,9 @@ module _ (b : Blocks) (x : List Float) (ny : ℕ) (e : applyBlocksAnswer b x ny 
   unfolding blocksAnswer blocksRules
   facts k =
       let n : ℕ = length (b .col) in
-      let f : Bool = framed (blocksFor (b .width) (b .rows)) (b .ptr) n in
-      let v : Bool = eqb (length (b .vals)) (n * (b .width * b .width)) in
-      let c : Bool = every (λ C. ltb C (blocksFor (b .width) (b .cols))) (b .col) in
+      let f : Bool = pointersHold b in
+      let v : Bool = valuesHold b in
+      let c : Bool = columnsHold b in
       let rule : (f && v && c && rowsClimb b) ≡ true = demand-accepted (blocksRules b) 12 (then-second (demand (blockSizes b) 1) (demand (blocksRules b) 12) rules) in
       let lists : (f && v && c) ≡ true = and-left (f && v && c) (rowsClimb b) rule in
       record {
@@ -134,7 +130,7 @@ module _ (b : Blocks) (x : List Float) (ny : ℕ) (e : applyBlocksAnswer b x ny 
         rows-in = rows-few;
         cols-in = leb-true (b .cols) (2 ^ 20) (and-right (few (b .rows)) (few (b .cols)) frame);
         blocks-in = leb-true n (2 ^ 24) (and-right (few (b .rows) && few (b .cols)) (many n) sizes);
-        frame = framed-facts (blocksFor (b .width) (b .rows)) (b .ptr) n (and-left f v (and-left (f && v) c lists));
+        frame = framed-facts (blocksFor (b .width) (b .rows)) (b .ptr) n (accepted-frame b rules);
         values = eqb-true (length (b .vals)) (n * (b .width * b .width)) (and-right f v (and-left (f && v) c lists));
         columns = and-right (f && v) c lists;
         x-long = length-accepted (b .cols) (length x) (then-first (lengthIs (b .cols) (length x)) (lengthIs (b .rows) ny) lengths);
@@ -173,7 +169,7 @@ module _ {b : Blocks} {x : List Float} (k : Ready b x) where
     values = values-inside (k .width) p (length (b .col)) (length (b .vals)) (k .values) h;
   }
 
--- ---- a row r at or past the last full block row, which is before block row `last`
+-- ---- a row r below the full block rows, in block row `last`
 
 pub record LastRow (b : Blocks) (x : List Float) (r last : ℕ) : Type 0 where
   pub ready : Ready b x
@@ -211,9 +207,9 @@ last-place {b} {x} {r} {last} k p C h e =
     let q = place (k .ready) p C h e in
     let row : b .width * (r - b .width * last) + b .width ≤ b .width * b .width = row-in-block w (r - b .width * last) (rw (k .is) (local-small w (b .rows) r (k .inside))) in
     record {
-      square = square-small w;
+      square = square-small (b .width) (at-most-six w);
       row = row;
       column = q .column;
       values = omega (arith, q .values);
-      few = values-few w (length (b .col)) (length (b .vals)) (k .ready .values) (k .ready .blocks-in);
+      few = omega (arith, slots-fit (length (b .col)) (b .width) (k .ready .blocks-in) (at-most-six w), k .ready .values);
     }

@@ -1,23 +1,22 @@
 -- Sums over the blocks of a block row on the way: those of the rows of a full block row, and that of a row below them. Assumes nothing.
-use mathlib.Core.Bool.{true, cond}
+use mathlib.Core.Bool.{true}
 use mathlib.Core.List.{List, [], _∷_, _++_, foldl, foldl-append}
 use mathlib.Core.Path.{_≡_, refl, sym, ap, ap₂, _∙_}
-use Prim.Native.Nat.{ℕ, suc, min, _+_, _-_, _*_, _/_, _%_, _≤_, _<_}
+use Prim.Native.Nat.{ℕ, min, _+_, _-_, _*_, _/_, _%_, _≤_, _<_}
 use native.Mathlib.Nat.{le-refl}
 use native.Mathlib.Numerals.{add-one}
 use native.Mathlib.Omega.{arith}
-use lib.Dec.{leb}
-use lib.ListN.{length, getD, replicate}
+use lib.ListN.{getD}
 use lib.Ieee.{Float, nan, binary64, add}
 use borrow.Author.Tests.{le-leb, lt-leb}
 use Rattle.hybit_core.specs.Floats.{zero64}
 use Rattle.lent.specs.Lists.{each}
 use Rattle.lent.proofs.ListLaws.{getD-each, each-cong}
-use Rattle.word.specs.Bits.{from, between}
+use Rattle.word.specs.Bits.{between}
 use Rattle.word.proofs.BelowLaws.{between-split, between-none, between-cons}
 use Rattle.dense_block.specs.Blocks.{Blocks, inside}
 use Rattle.dense_block_apply.specs.Product.{products, termByTerm, asOne, blockTerms, addBlock, blockSum}
-use Rattle.dense_block_apply.proofs.BlockLaws.{Ready, Row, LastRow, row-over, row-under, last-over, last-under, last-short}
+use Rattle.dense_block_apply.proofs.BlockLaws.{Row, LastRow, row-over, row-under, last-over, last-under, last-short}
 
 -- ---- the places from a up to p
 
@@ -47,19 +46,7 @@ module _ (b : Blocks) (x : List Float) where
   upto-all r R a e q h l =
       ap₂ (sum-upto r) h l ∙ ap (λ (k : ℕ). sum-upto r (getD (b .ptr) k 0) (getD (b .ptr) (k + 1) 0)) (sym q)
 
-  -- ---- one block more, of row i of block row R
-
-  by-row : (r R i : ℕ) (s : Float) (p : ℕ) → r / b .width ≡ R → r % b .width ≡ i → addBlock b x r s p
-      ≡ cond (leb (b .width * R + b .width) (b .rows))
-      (cond (leb (b .width * getD (b .col) p 0 + b .width) (b .cols)) (add binary64 s (asOne (blockTerms b x i p))) (termByTerm s (blockTerms b x i p)))
-      (add binary64 s (termByTerm zero64 (blockTerms b x i p)))
-  unfolding addBlock
-  by-row r R i s p d m =
-      ap₂
-      (λ (R′ i′ : ℕ). cond (leb (b .width * R′ + b .width) (b .rows))
-      (cond (leb (b .width * getD (b .col) p 0 + b .width) (b .cols)) (add binary64 s (asOne (blockTerms b x i′ p))) (termByTerm s (blockTerms b x i′ p)))
-      (add binary64 s (termByTerm zero64 (blockTerms b x i′ p))))
-      d m
+  -- ---- the terms of one block more
 
   -- v, c and n as the code has them: the block's first value, its first column, and how many of its columns lie inside
   terms-are : (i p v c n : ℕ) → v ≡ p * (b .width * b .width) → c ≡ b .width * getD (b .col) p 0 → n ≡ inside (b .width) (b .cols) (getD (b .col) p 0) → blockTerms b x i p ≡ products (b .vals) x (v + b .width * i) c n
@@ -103,24 +90,24 @@ module _ (b : Blocks) (x : List Float) where
     -- v and c as the code has them: the place of the block's first value and its first column
     module _ (v c : ℕ) (ev : v ≡ p * (b .width * b .width)) (ec : c ≡ b .width * getD (b .col) p 0) (l : p < to) (new : List Float) where
       pub sums-full : c + b .width ≤ b .cols → new ≡ each (λ i. add binary64 (getD sums i nan) (asOne (products (b .vals) x (v + b .width * i) c (b .width)))) (b .width) → Sums R from to (p + 1) new
+      unfolding addBlock
       sums-full h = sums-more (λ i s. add binary64 s (asOne (products (b .vals) x (v + b .width * i) c (b .width)))) one l new
         where
           one : (i : ℕ) (s : Float) → i < b .width → addBlock b x (b .width * R + i) s p ≡ add binary64 s (asOne (products (b .vals) x (v + b .width * i) c (b .width)))
           one i s k =
               let w = inv .row .ready .width in
-              by-row (b .width * R + i) R i s p (row-over w R i k) (row-under w R i k)
-              ∙ rw (le-leb (b .width * R + b .width) (b .rows) (inv .full), le-leb (b .width * getD (b .col) p 0 + b .width) (b .cols) (omega arith))
+              rw (row-over w R i k, row-under w R i k, le-leb (b .width * R + b .width) (b .rows) (inv .full), le-leb (b .width * getD (b .col) p 0 + b .width) (b .cols) (omega arith))
               (ap (λ (ts : List Float). add binary64 s (asOne ts)) (terms-are i p v c (b .width) ev ec (omega arith)))
 
       -- a column tail, n columns wide
       pub sums-tail : (n : ℕ) → n ≡ b .cols - c → b .cols < c + b .width → new ≡ each (λ i. termByTerm (getD sums i nan) (products (b .vals) x (v + b .width * i) c n)) (b .width) → Sums R from to (p + 1) new
+      unfolding addBlock
       sums-tail n e h = sums-more (λ i s. termByTerm s (products (b .vals) x (v + b .width * i) c n)) one l new
         where
           one : (i : ℕ) (s : Float) → i < b .width → addBlock b x (b .width * R + i) s p ≡ termByTerm s (products (b .vals) x (v + b .width * i) c n)
           one i s k =
               let w = inv .row .ready .width in
-              by-row (b .width * R + i) R i s p (row-over w R i k) (row-under w R i k)
-              ∙ rw (le-leb (b .width * R + b .width) (b .rows) (inv .full), lt-leb (b .width * getD (b .col) p 0 + b .width) (b .cols) (omega arith))
+              rw (row-over w R i k, row-under w R i k, le-leb (b .width * R + b .width) (b .rows) (inv .full), lt-leb (b .width * getD (b .col) p 0 + b .width) (b .cols) (omega arith))
               (ap (termByTerm s) (terms-are i p v c n ev ec (omega arith)))
 
     pub sums-done : to ≤ p → sums ≡ each (λ i. blockSum b x (b .width * R + i)) (b .width)
@@ -130,7 +117,7 @@ module _ (b : Blocks) (x : List Float) where
         ∙ each-cong (λ i. sum-upto (b .width * R + i) from p) (λ i. blockSum b x (b .width * R + i)) (b .width)
         (λ i k. ap (sum-upto (b .width * R + i) from) end ∙ upto-all (b .width * R + i) R from to (row-over (inv .row .ready .width) R i k) (inv .row .starts) (inv .row .ends))
 
-  -- ---- a row r at or past the last full block row: the blocks up to place p are added
+  -- ---- a row r below the full block rows: the blocks up to place p are added
 
   pub record Sum (r last from to p : ℕ) (s : Float) : Type 0 where
     pub of : LastRow b x r last
@@ -150,18 +137,20 @@ module _ (b : Blocks) (x : List Float) where
     under = rw (inv .of .is) (last-under (inv .of .ready .width) (b .rows) r (rw (inv .of .is) at (inv .of .below)) (inv .of .inside))
 
     -- v is the place of the row's first value in the block, c the block's first column, n how many of its columns lie inside
+    block-alone : (v c n : ℕ) (t : Float) → v ≡ p * (b .width * b .width) + b .width * (r - b .width * last) → c ≡ b .width * getD (b .col) p 0 → n ≡ min (b .width) (b .cols - c) → addBlock b x r t p ≡ add binary64 t (termByTerm zero64 (products (b .vals) x v c n))
+    unfolding addBlock
+    block-alone v c n t ev ec en =
+        let short : b .rows < b .width * last + b .width = rw (inv .of .is) (last-short (inv .of .ready .width) (b .rows)) in
+        rw (over, under, lt-leb (b .width * last + b .width) (b .rows) short, ev)
+        (ap (λ (ts : List Float). add binary64 t (termByTerm zero64 ts)) (terms-are (r - b .width * last) p (p * (b .width * b .width)) c n refl ec (en ∙ ap (λ (k : ℕ). min (b .width) (b .cols - k)) ec)))
+
     pub sum-more : (v c n : ℕ) (t : Float) → v ≡ p * (b .width * b .width) + b .width * (r - b .width * last) → c ≡ b .width * getD (b .col) p 0 → n ≡ min (b .width) (b .cols - c) → p < to → t ≡ termByTerm zero64 (products (b .vals) x v c n) → Sum r last from to (p + 1) (add binary64 s t)
     sum-more v c n t ev ec en l et = record {
       of = inv .of;
       row = inv .row;
       after = omega (arith, inv .after);
       within = omega arith;
-      is =
-          let i : ℕ = r - b .width * last in
-          let short : b .rows < b .width * last + b .width = rw (inv .of .is) (last-short (inv .of .ready .width) (b .rows)) in
-          let terms : blockTerms b x i p ≡ products (b .vals) x v c n = terms-are i p (p * (b .width * b .width)) c n refl ec (en ∙ ap (λ (k : ℕ). min (b .width) (b .cols - k)) ec) ∙ ap (λ (k : ℕ). products (b .vals) x k c n) (sym ev) in
-          ap₂ (add binary64) (inv .is) (et ∙ ap (termByTerm zero64) (sym terms))
-          ∙ sym (upto-more r from p (inv .after) ∙ by-row r last i (sum-upto r from p) p over under ∙ rw (lt-leb (b .width * last + b .width) (b .rows) short));
+      is = ap₂ (add binary64) (inv .is) et ∙ sym (upto-more r from p (inv .after) ∙ block-alone v c n (sum-upto r from p) ev ec en);
     }
 
     pub sum-done : to ≤ p → s ≡ blockSum b x r

@@ -1,7 +1,7 @@
 -- The terms of one row of a block, as one number and one after the other, and the numbers of a block's rows. Assumes nothing.
 use mathlib.Core.List.{List, [], _∷_, _++_, foldl-append}
 use mathlib.Core.Path.{_≡_, refl, sym, ap, _∙_}
-use Prim.Native.Nat.{ℕ, _+_, _*_, _≤_, _<_}
+use Prim.Native.Nat.{ℕ, _+_, _*_, _≤_}
 use native.Mathlib.Nat.{add-zero}
 use native.Mathlib.Numerals.{add-one}
 use native.Mathlib.Omega.{arith}
@@ -46,21 +46,21 @@ module _ (vals x : List Float) (v c : ℕ) where
 
   pub three-terms : add binary64 (add binary64 first (term 1)) (term 2) ≡ asOne (products vals x v c 3)
   unfolding products each joined termByTerm
-  three-terms = rw (add-zero, add-zero)
+  three-terms = rw (add-zero v, add-zero c)
 
   pub six-terms : add binary64 (add binary64 (add binary64 (add binary64 (add binary64 first (term 1)) (term 2)) (term 3)) (term 4)) (term 5) ≡ asOne (products vals x v c 6)
   unfolding products each joined termByTerm
-  six-terms = rw (add-zero, add-zero)
+  six-terms = rw (add-zero v, add-zero c)
 
 -- the rows of a block: f is a row's number after it, by the number before it and the place of its first value
 module _ (f : Float → ℕ → Float) (sums : List Float) (v : ℕ) where
   pub three-rows : (a b c : Float) → a ≡ f (getD sums 0 nan) v → b ≡ f (getD sums 1 nan) (v + 3) → c ≡ f (getD sums 2 nan) (v + 6) → (a ∷ b ∷ c ∷ []) ≡ each (λ i. f (getD sums i nan) (v + 3 * i)) 3
   unfolding each joined
-  three-rows a b c p q r = rw (p, q, r, add-zero)
+  three-rows a b c p q r = rw (p, q, r, add-zero v)
 
   pub six-rows : (a b c d e g : Float)
       → a ≡ f (getD sums 0 nan) v → b ≡ f (getD sums 1 nan) (v + 6) → c ≡ f (getD sums 2 nan) (v + 12)
       → d ≡ f (getD sums 3 nan) (v + 18) → e ≡ f (getD sums 4 nan) (v + 24) → g ≡ f (getD sums 5 nan) (v + 30)
       → (a ∷ b ∷ c ∷ d ∷ e ∷ g ∷ []) ≡ each (λ i. f (getD sums i nan) (v + 6 * i)) 6
   unfolding each joined
-  six-rows a b c d e g p q r s t u = rw (p, q, r, s, t, u, add-zero)
+  six-rows a b c d e g p q r s t u = rw (p, q, r, s, t, u, add-zero v)

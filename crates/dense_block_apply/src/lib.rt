@@ -4,7 +4,6 @@ ghost use Prim.Native.Nat.{_+_, _*_, _/_, _≤_, _<_, _^_};
 ghost use lib.ListN.{length, getD, take};
 ghost use lib.Ieee.{nan, binary64, add};
 ghost use Rattle.hybit_core.specs.Answer.{accepted};
-ghost use Rattle.hybit_core.specs.Floats.{zero64};
 ghost use Rattle.hybit_core.specs.Table.{told};
 ghost use Rattle.lent.specs.Lists.{each};
 ghost use Rattle.lent.specs.Lent.{kept};
@@ -269,15 +268,9 @@ fn partial_sum(
     while p < end {
         let col = width * hybit_core::wide(col_idx[p]);
         let at = p * (width * width) + width * local_row;
-        sum = sum
-            + add_terms(
-                0.0,
-                hybit_core::smaller(width, ncols - col),
-                values,
-                at,
-                x,
-                col,
-            );
+        let count = hybit_core::smaller(width, ncols - col);
+        let block = add_terms(0.0, count, values, at, x, col);
+        sum = sum + block;
         p += 1;
     }
     sum

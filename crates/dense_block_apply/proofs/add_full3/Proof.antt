@@ -33,7 +33,7 @@ three-requires-3 : tie.Need-three-requires-3
 three-requires-3 c κs = search needs
 
 returns : tie.Need-returns
-returns c = 
+returns c =
     let a = c .before .before .before .before .before .args in
     three-rows (λ (s : Float) (v : ℕ). add binary64 s (asOne (products (a .values .now) (a .x .now) v (a .col) 3))) (a .t1) (a .at) _ _ _ (ap (add binary64 _) (c .before .before .three .ensures)) (ap (add binary64 _) (c .before .three2 .ensures)) (ap (add binary64 _) (c .three3 .ensures))
 

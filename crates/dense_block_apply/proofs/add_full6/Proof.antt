@@ -60,7 +60,7 @@ six-requires-6 : tie.Need-six-requires-6
 six-requires-6 c κs = search needs
 
 returns : tie.Need-returns
-returns c = 
+returns c =
     let a = c .before .before .before .before .before .before .before .before .args in
     six-rows (λ (s : Float) (v : ℕ). add binary64 s (asOne (products (a .values .now) (a .x .now) v (a .col) 6))) (a .t1) (a .at) _ _ _ _ _ _ (ap (add binary64 _) (c .before .before .before .before .before .six .ensures)) (ap (add binary64 _) (c .before .before .before .before .six2 .ensures)) (ap (add binary64 _) (c .before .before .before .six3 .ensures)) (ap (add binary64 _) (c .before .before .six4 .ensures)) (ap (add binary64 _) (c .before .six5 .ensures)) (ap (add binary64 _) (c .six6 .ensures))
 

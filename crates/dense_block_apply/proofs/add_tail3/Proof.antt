@@ -32,7 +32,7 @@ add-terms-requires-3 : tie.Need-add-terms-requires-3
 add-terms-requires-3 c κs = search needs
 
 returns : tie.Need-returns
-returns c = 
+returns c =
     let a = c .before .before .before .before .before .args in
     three-rows (λ (s : Float) (v : ℕ). termByTerm s (products (a .values .now) (a .x .now) v (a .col) (a .count))) (a .t1) (a .at) _ _ _ (c .before .before .add-terms .ensures) (c .before .add-terms2 .ensures) (c .add-terms3 .ensures)
 

@@ -59,7 +59,7 @@ add-terms-requires-6 : tie.Need-add-terms-requires-6
 add-terms-requires-6 c κs = search needs
 
 returns : tie.Need-returns
-returns c = 
+returns c =
     let a = c .before .before .before .before .before .before .before .before .args in
     six-rows (λ (s : Float) (v : ℕ). termByTerm s (products (a .values .now) (a .x .now) v (a .col) (a .count))) (a .t1) (a .at) _ _ _ _ _ _ (c .before .before .before .before .before .add-terms .ensures) (c .before .before .before .before .add-terms2 .ensures) (c .before .before .before .add-terms3 .ensures) (c .before .before .add-terms4 .ensures) (c .before .add-terms5 .ensures) (c .add-terms6 .ensures)
 

@@ -30,8 +30,9 @@ mul-wide c =
 
 shared-slice-read-wide : tie.Need-shared-slice-read-wide Inv-loop μ-loop
 shared-slice-read-wide c =
-    let k = ready B6 6 _ _ _ _ _ _ _ refl (c .before .before .before .before .before .pre .0) in
-    let i = full-row k (c .before .before .before .before .before .args .row) (c .before .before .before .before .before .pre .1) in
+    let s = c .before .before .before .before .before in
+    let k = ready B6 6 _ _ _ _ _ _ _ refl (s .pre .0) in
+    let i = full-row k (s .args .row) (s .pre .1) in
     omega arith
 
 wide-requires : tie.Need-wide-requires Inv-loop μ-loop
@@ -44,8 +45,9 @@ mul-wide-2 c =
 
 shared-slice-read-wide-2 : tie.Need-shared-slice-read-wide-2 Inv-loop μ-loop
 shared-slice-read-wide-2 c =
-    let k = ready B6 6 _ _ _ _ _ _ _ refl (c .before .before .before .before .before .before .before .pre .0) in
-    let i = full-row k (c .before .before .before .before .before .before .before .args .row) (c .before .before .before .before .before .before .before .pre .1) in
+    let s = c .before .before .before .before .before .before .before in
+    let k = ready B6 6 _ _ _ _ _ _ _ refl (s .pre .0) in
+    let i = full-row k (s .args .row) (s .pre .1) in
     omega arith
 
 wide-requires-2 : tie.Need-wide-requires-2 Inv-loop μ-loop
@@ -54,9 +56,10 @@ wide-requires-2 c κs = search needs
 loop-holds : tie.Need-loop-holds Inv-loop μ-loop
 unfolding each joined
 loop-holds c =
-    let k = ready B6 6 _ _ _ _ _ _ _ refl (c .before .before .before .before .before .before .before .before .pre .0) in
-    let i = full-row k (c .before .before .before .before .before .before .before .before .args .row) (c .before .before .before .before .before .before .before .before .pre .1) in
-    sums-none _ _ _ _ _ (row-is k (c .before .before .before .before .before .before .before .before .args .row) _ _ i (c .wide2 .ensures) (c .before .before .wide .ensures)) (c .before .before .before .before .before .before .before .before .pre .1)
+    let s = c .before .before .before .before .before .before .before .before in
+    let k = ready B6 6 _ _ _ _ _ _ _ refl (s .pre .0) in
+    let i = full-row k (s .args .row) (s .pre .1) in
+    sums-none _ _ _ _ _ (row-is k (s .args .row) _ _ i (c .wide2 .ensures) (c .before .before .wide .ensures)) (s .pre .1)
 
 mul-wide-3 : tie.Need-mul-wide-3 Inv-loop μ-loop
 mul-wide-3 c =
@@ -126,8 +129,8 @@ loop-again : tie.Need-loop-again Inv-loop μ-loop
 loop-again c =
     let inv = c .before .before .before .before .loop .inv in
     let col = ap (λ (k : ℕ). 6 * k) (c .before .wide3 .ensures) in
-    ⊎-elim (λ t. sums-full _ _ _ _ _ _ _ inv (36 * c .before .before .before .before .loop .p) _ (omega arith) col (omega arith) _ (t .0 .taken) (t .2 ∙ t .1 .ensures))
-    (λ t. sums-tail _ _ _ _ _ _ _ inv (36 * c .before .before .before .before .loop .p) _ (omega arith) col (omega arith) _ _ refl (t .0 .left) (t .2 ∙ t .1 .ensures)) (c .if1 .came)
+    ⊎-elim (λ t. sums-full _ _ _ _ _ _ _ inv (36 * c .before .before .before .before .loop .p) _ (omega arith) col (omega arith) _ (omega (arith, t .0 .taken)) (t .2 ∙ t .1 .ensures))
+    (λ t. sums-tail _ _ _ _ _ _ _ inv (36 * c .before .before .before .before .loop .p) _ (omega arith) col (omega arith) _ _ refl (omega (arith, t .0 .left)) (t .2 ∙ t .1 .ensures)) (c .if1 .came)
 
 returns : tie.Need-returns Inv-loop μ-loop
 returns c = sums-done _ _ _ _ _ _ _ (c .before .loop .inv) (omega arith)

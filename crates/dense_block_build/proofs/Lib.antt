@@ -1,0 +1,4 @@
+pub mod SizeLaws
+pub mod FlatLaws
+pub mod MergeLaws
+pub mod RunLaws

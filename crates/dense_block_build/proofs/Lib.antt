@@ -2,3 +2,5 @@ pub mod SizeLaws
 pub mod FlatLaws
 pub mod MergeLaws
 pub mod RunLaws
+pub mod RowLaws
+pub mod AddLaws

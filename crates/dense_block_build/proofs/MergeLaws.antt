@@ -42,6 +42,10 @@ zip-next cs vs k l h =
 
 -- ---- values added in stored order
 
+pub add-none : (s : Float) → addValues s [] ≡ s
+unfolding addValues
+add-none s = refl
+
 pub add-append : (s : Float) (es fs : List Entry) → addValues s (es ++ fs) ≡ addValues (addValues s es) fs
 unfolding addValues
 add-append s es fs = foldl-append (λ (t : Float) (e : Entry). add binary64 t (e .1)) s es fs
@@ -61,7 +65,7 @@ add-snoc p s es c v t e = add-only p s es ((c, v) ∷ []) ∙ ap (λ (b : Bool).
 -- ---- the first k entries are merged into a row of a block of width w
 
 -- an entry at place j of its block's columns
-abbrev atPlace : ℕ → ℕ → Entry → Bool
+abbrev pub atPlace : ℕ → ℕ → Entry → Bool
 atPlace w j e = eqb (e .0 % w) j
 
 module _ (w : ℕ) (cs : List ℕ) (vs old : List Float) where
@@ -145,3 +149,7 @@ merged-block w row block line es pos six h room e = each-is nan (λ q. next q (e
             ap (λ (n : ℕ). getD (getD (set block row line) n []) (q % w) nan) r ∙ ap (λ (l : List Float). getD l (q % w) nan) (getD-set-same block row line [] (omega arith))
             ∙ line-at (q % w) (mod-lt q pos) ∙ ap (λ (x : Float). addValues x (only (atPlace w (q % w)) es)) (ap (λ (n : ℕ). getD (getD block n []) (q % w) nan) (sym r) ∙ sym was)
             ∙ sym (ap (next q) (eq-eqb (q / w) row r))
+
+-- a block copied in at width w, merged into, and copied out
+pub merged-run : (v w row : ℕ) (block merged : List (List Float)) (es : List Entry) (old new : List Float) → w ≡ v → flat w block ≡ old → flat v merged ≡ inBlock v row es (flat v block) → new ≡ flat w merged → new ≡ inBlock v row es old
+merged-run v w row block merged es old new e a m b = b ∙ ap (λ (k : ℕ). flat k merged) e ∙ m ∙ ap (inBlock v row es) (ap (λ (k : ℕ). flat k block) (sym e) ∙ a)

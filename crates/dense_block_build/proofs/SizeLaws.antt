@@ -1,5 +1,5 @@
 -- The width of a block, 3 or 6: its bounds, and the places of a block's numbers. Assumes nothing.
-use mathlib.Core.Path.{_≡_}
+use mathlib.Core.Path.{_≡_, sym, ap, _∙_}
 use Prim.Native.Nat.{ℕ, _+_, _*_, _/_, _%_, _≤_, _<_}
 use native.Mathlib.Omega.{arith}
 use Rattle.dense_block.specs.Blocks.{widthOf}
@@ -17,3 +17,18 @@ width-pos B6 = omega arith
 pub place-small : (s : DenseBlockSize) (c r : ℕ) → r ≡ c % widthOf s → r < 6
 place-small B3 c r e = omega arith
 place-small B6 c r e = omega arith
+
+-- what copying a block in or out asks, of a width as the code holds it
+pub block-fits : (s : DenseBlockSize) (w n : ℕ) → w ≡ widthOf s → n ≡ widthOf s * widthOf s → (w ≤ 6) × (n ≡ w * w)
+block-fits s w n e l = (omega (arith, width-six s), l ∙ ap (λ (k : ℕ). k * k) (sym e))
+
+-- the numbers of a block, of a width as the code holds it
+pub square-is : (s : DenseBlockSize) (w : ℕ) → w ≡ widthOf s → w * w ≡ widthOf s * widthOf s
+square-is s w e = ap (λ (k : ℕ). k * k) e
+
+pub square-small : (s : DenseBlockSize) (w : ℕ) → w ≡ widthOf s → w * w ≤ 36
+square-small s w e = rw (square-is s w e) (small s)
+  where
+    small : (s : DenseBlockSize) → widthOf s * widthOf s ≤ 36
+    small B3 = omega arith
+    small B6 = omega arith

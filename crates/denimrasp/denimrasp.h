@@ -167,6 +167,28 @@ typedef struct {
     size_t source_row_nnz;
 } DenimraspRegion;
 
+/* A matrix in blocks: its rows, columns and block rows, its blocks, their values, the distinct places with an entry, and the
+ * places of the blocks inside the frame. */
+typedef struct {
+    uint32_t number;
+    size_t expected;
+    size_t actual;
+    size_t nrows;
+    size_t ncols;
+    size_t block_rows;
+    size_t unique_blocks;
+    size_t dense_value_slots;
+    size_t structural_slots;
+    size_t valid_dense_slots;
+} DenimraspBlocks;
+
+typedef struct {
+    uint32_t number;
+    size_t expected;
+    size_t actual;
+    double ratio;
+} DenimraspRatio;
+
 /* 5 where the words are not those of a mask of that length. */
 DenimraspVerdict denimrasp_mask_check(size_t len, const uint64_t *words, size_t words_len);
 
@@ -522,6 +544,43 @@ double denimrasp_local_boundary_pruning_ratio(size_t local_nnz, size_t source_ro
 
 /* The bytes of a local list and of its members, at most SIZE_MAX. */
 size_t denimrasp_local_storage_bytes(size_t local_nodes, size_t local_nnz);
+
+/* The blocks of a plot list, of width 6 or, where six is false, 3: the answer's block_rows + 1 pointers, as many block columns as
+ * its unique_blocks, ascending in a block row, and as many values as its dense_value_slots, each block's row after row. Copies
+ * are merged in stored order, from 0.0. 13 exactly where they do not fit. */
+DenimraspBlocks denimrasp_dense_block_from_csr32(size_t nrows, size_t ncols,
+    const uint32_t *row_ptr, size_t row_ptr_len, const uint32_t *col_idx, size_t col_idx_len,
+    const double *values, size_t values_len, bool six,
+    uint32_t *out_row_ptr, size_t out_row_ptr_len, uint32_t *out_col_idx, size_t out_col_idx_len,
+    double *out_values, size_t out_values_len);
+
+/* 12 where the lists are not those of a matrix in blocks. */
+DenimraspVerdict denimrasp_dense_block_check(size_t nrows, size_t ncols, bool six,
+    const uint32_t *row_ptr, size_t row_ptr_len, const uint32_t *col_idx, size_t col_idx_len,
+    const double *values, size_t values_len);
+
+/* The row products of blocks; a refused call leaves y as it was. */
+DenimraspVerdict denimrasp_dense_block_apply(size_t nrows, size_t ncols, bool six,
+    const uint32_t *row_ptr, size_t row_ptr_len, const uint32_t *col_idx, size_t col_idx_len,
+    const double *values, size_t values_len,
+    const double *x, size_t x_len, double *y, size_t y_len);
+
+/* The blocks wholly inside the frame among all blocks; 0.0 without blocks. */
+DenimraspRatio denimrasp_dense_block_fast_block_fraction(size_t nrows, size_t ncols, bool six,
+    const uint32_t *row_ptr, size_t row_ptr_len, const uint32_t *col_idx, size_t col_idx_len,
+    const double *values, size_t values_len);
+
+/* The distinct places with an entry among the places of the blocks inside the frame; 0.0 where there are none. */
+double denimrasp_dense_block_block_fill(size_t structural_slots, size_t valid_dense_slots);
+
+/* The values of the blocks to the distinct places with an entry; 0.0 where there are none. */
+double denimrasp_dense_block_value_padding_ratio(size_t dense_value_slots, size_t structural_slots);
+
+/* The bytes of pointers and block columns, at most SIZE_MAX. */
+size_t denimrasp_dense_block_metadata_bytes(size_t block_rows, size_t unique_blocks);
+
+/* The same with the values. */
+size_t denimrasp_dense_block_storage_bytes(size_t block_rows, size_t unique_blocks, size_t dense_value_slots);
 
 #ifdef __cplusplus
 }

@@ -168,6 +168,30 @@ pub struct Region {
     pub source_row_nnz: usize,
 }
 
+#[repr(C)]
+#[derive(Clone, Copy, Debug, PartialEq)]
+pub struct Blocks {
+    pub number: u32,
+    pub expected: usize,
+    pub actual: usize,
+    pub nrows: usize,
+    pub ncols: usize,
+    pub block_rows: usize,
+    pub unique_blocks: usize,
+    pub dense_value_slots: usize,
+    pub structural_slots: usize,
+    pub valid_dense_slots: usize,
+}
+
+#[repr(C)]
+#[derive(Clone, Copy, Debug, PartialEq)]
+pub struct Ratio {
+    pub number: u32,
+    pub expected: usize,
+    pub actual: usize,
+    pub ratio: f64,
+}
+
 unsafe extern "C" {
     pub fn denimrasp_mask_check(len: usize, words: *const u64, words_len: usize) -> Verdict;
     pub fn denimrasp_mask_contains(
@@ -857,4 +881,72 @@ unsafe extern "C" {
     ) -> Verdict;
     pub fn denimrasp_local_boundary_pruning_ratio(local_nnz: usize, source_row_nnz: usize) -> f64;
     pub fn denimrasp_local_storage_bytes(local_nodes: usize, local_nnz: usize) -> usize;
+    pub fn denimrasp_dense_block_from_csr32(
+        nrows: usize,
+        ncols: usize,
+        row_ptr: *const u32,
+        row_ptr_len: usize,
+        col_idx: *const u32,
+        col_idx_len: usize,
+        values: *const f64,
+        values_len: usize,
+        six: bool,
+        out_row_ptr: *mut u32,
+        out_row_ptr_len: usize,
+        out_col_idx: *mut u32,
+        out_col_idx_len: usize,
+        out_values: *mut f64,
+        out_values_len: usize,
+    ) -> Blocks;
+    pub fn denimrasp_dense_block_check(
+        nrows: usize,
+        ncols: usize,
+        six: bool,
+        row_ptr: *const u32,
+        row_ptr_len: usize,
+        col_idx: *const u32,
+        col_idx_len: usize,
+        values: *const f64,
+        values_len: usize,
+    ) -> Verdict;
+    pub fn denimrasp_dense_block_apply(
+        nrows: usize,
+        ncols: usize,
+        six: bool,
+        row_ptr: *const u32,
+        row_ptr_len: usize,
+        col_idx: *const u32,
+        col_idx_len: usize,
+        values: *const f64,
+        values_len: usize,
+        x: *const f64,
+        x_len: usize,
+        y: *mut f64,
+        y_len: usize,
+    ) -> Verdict;
+    pub fn denimrasp_dense_block_fast_block_fraction(
+        nrows: usize,
+        ncols: usize,
+        six: bool,
+        row_ptr: *const u32,
+        row_ptr_len: usize,
+        col_idx: *const u32,
+        col_idx_len: usize,
+        values: *const f64,
+        values_len: usize,
+    ) -> Ratio;
+    pub fn denimrasp_dense_block_block_fill(
+        structural_slots: usize,
+        valid_dense_slots: usize,
+    ) -> f64;
+    pub fn denimrasp_dense_block_value_padding_ratio(
+        dense_value_slots: usize,
+        structural_slots: usize,
+    ) -> f64;
+    pub fn denimrasp_dense_block_metadata_bytes(block_rows: usize, unique_blocks: usize) -> usize;
+    pub fn denimrasp_dense_block_storage_bytes(
+        block_rows: usize,
+        unique_blocks: usize,
+        dense_value_slots: usize,
+    ) -> usize;
 }

@@ -1,5 +1,5 @@
-// The C interface: every public call of mask, csr32, topology, metadata_first, abtm and restricted under a name of its own, for
-// programs in C and Rust to link (denimrasp.h). A list crosses as a pointer and a length, an answer as one struct of
+// The C interface: every public call of mask, csr32, topology, metadata_first, abtm, restricted and dense_block under a name of
+// its own, for programs in C and Rust to link (denimrasp.h). A list crosses as a pointer and a length, an answer as one struct of
 // denimrasp_answers.
 ghost use mathlib.Core.Path.{_≡_};
 ghost use mathlib.Core.Bool.{false, not, _&&_, _||_};
@@ -34,14 +34,19 @@ ghost use Rattle.abtm_apply.specs.Product.{tilesProduct, applyTilesAnswer};
 ghost use Rattle.abtm_expand.specs.Expand.{expanded, expandAnswer};
 ghost use Rattle.restricted.specs.Restricted.{restricted, restrictAnswer, restrictionOf, restrictedTiles, restrictTilesAnswer, tileRestrictionOf, retainedFraction, restrictionBytes};
 ghost use Rattle.restricted.specs.Local.{regionMembers, localList, localAnswer, regionOf, membersAnswer, gatherAnswer, gathered, boundaryRatio, regionBytes};
-ghost use Rattle.denimrasp_answers.specs.Answers.{verdictOf, countOf, boolOf, selectOf, partOf, topologyAnswerOf, topologyStatsOf, storeStatsOf, dotAnswerOf, totalsOf, placesOf, countsFrom, tilesAnswerOf, tileStatsOf, thresholdsFrom, restrictionAnswerOf, regionAnswerOf, restrictionFrom, regionFrom};
+ghost use Rattle.dense_block.specs.Blocks.{widthOf, asBlocks, blocksOf, blocksAnswer};
+ghost use Rattle.dense_block.specs.Calls.{figuresOf, buildBlocksAnswer, blockFill, valuePadding, blockMetadataBytes, blockStorageBytes, fastAnswer};
+ghost use Rattle.dense_block_apply.specs.Product.{blocksProduct, applyBlocksAnswer};
+ghost use Rattle.denimrasp_answers.specs.Answers.{verdictOf, countOf, boolOf, selectOf, partOf, topologyAnswerOf, topologyStatsOf, storeStatsOf, dotAnswerOf, totalsOf, placesOf, countsFrom, tilesAnswerOf, tileStatsOf, thresholdsFrom, restrictionAnswerOf, regionAnswerOf, restrictionFrom, regionFrom, blocksAnswerOf, ratioAnswerOf, sizeFrom, blocksFrom};
 use abtm::AbtmConfig;
 use abtm::TileDesc;
 use abtm_rows::AbtmStats;
+use denimrasp_answers::DenimraspBlocks;
 use denimrasp_answers::DenimraspBool;
 use denimrasp_answers::DenimraspCount;
 use denimrasp_answers::DenimraspDot;
 use denimrasp_answers::DenimraspPart;
+use denimrasp_answers::DenimraspRatio;
 use denimrasp_answers::DenimraspRegion;
 use denimrasp_answers::DenimraspRestriction;
 use denimrasp_answers::DenimraspSelect;
@@ -52,6 +57,7 @@ use denimrasp_answers::DenimraspTopology;
 use denimrasp_answers::DenimraspTopologyStats;
 use denimrasp_answers::DenimraspTotals;
 use denimrasp_answers::DenimraspVerdict;
+use dense_block::DenseBlocks;
 use hybit_core::HybitError;
 use hybit_core::Verdict;
 use metadata_first::AbtmMetadataFirstStats;
@@ -1561,6 +1567,181 @@ pub extern "C" fn denimrasp_local_storage_bytes(local_nodes: usize, local_nnz: u
         local_nodes,
         local_nnz,
         source_row_nnz: 0,
+    };
+    s.storage_bytes()
+}
+
+// The blocks of a plot list, of width 6 or 3; 13 exactly where they do not fit.
+#[no_mangle]
+pub extern "C" fn denimrasp_dense_block_from_csr32(
+    nrows: usize,
+    ncols: usize,
+    row_ptr: &[u32],
+    col_idx: &[u32],
+    values: &[f64],
+    six: bool,
+    out_row_ptr: &mut [u32],
+    out_col_idx: &mut [u32],
+    out_values: &mut [f64],
+) -> DenimraspBlocks
+    ensures answer { λ r. ⌜ r ≡ blocksAnswerOf (answers (buildBlocksAnswer (asCsr nrows ncols (now («row_ptr» .entry)) (now («col_idx» .entry)) (now (values .entry))) (widthOf (sizeFrom six)) (asCsrRoom (length (now («out_row_ptr» .entry))) (length (now («out_col_idx» .entry))) (length (now («out_values» .entry))))) (figuresOf (asCsr nrows ncols (now («row_ptr» .entry)) (now («col_idx» .entry)) (now (values .entry))) (widthOf (sizeFrom six)))) ⌝ }
+    ensures pointers { λ _. ⌜ now («out_row_ptr» .exit) ≡ built 0 (length (now («out_row_ptr» .entry))) (buildBlocksAnswer (asCsr nrows ncols (now («row_ptr» .entry)) (now («col_idx» .entry)) (now (values .entry))) (widthOf (sizeFrom six)) (asCsrRoom (length (now («out_row_ptr» .entry))) (length (now («out_col_idx» .entry))) (length (now («out_values» .entry))))) (blocksOf (asCsr nrows ncols (now («row_ptr» .entry)) (now («col_idx» .entry)) (now (values .entry))) (widthOf (sizeFrom six)) .ptr) ⌝ }
+    ensures columns { λ _. ⌜ now («out_col_idx» .exit) ≡ built 0 (length (now («out_col_idx» .entry))) (buildBlocksAnswer (asCsr nrows ncols (now («row_ptr» .entry)) (now («col_idx» .entry)) (now (values .entry))) (widthOf (sizeFrom six)) (asCsrRoom (length (now («out_row_ptr» .entry))) (length (now («out_col_idx» .entry))) (length (now («out_values» .entry))))) (blocksOf (asCsr nrows ncols (now («row_ptr» .entry)) (now («col_idx» .entry)) (now (values .entry))) (widthOf (sizeFrom six)) .col) ⌝ }
+    ensures values { λ _. ⌜ now («out_values» .exit) ≡ built zero64 (length (now («out_values» .entry))) (buildBlocksAnswer (asCsr nrows ncols (now («row_ptr» .entry)) (now («col_idx» .entry)) (now (values .entry))) (widthOf (sizeFrom six)) (asCsrRoom (length (now («out_row_ptr» .entry))) (length (now («out_col_idx» .entry))) (length (now («out_values» .entry))))) (blocksOf (asCsr nrows ncols (now («row_ptr» .entry)) (now («col_idx» .entry)) (now (values .entry))) (widthOf (sizeFrom six)) .vals) ⌝ }
+{
+    let size = denimrasp_answers::block_size(six);
+    let answer = dense_block_build::from_csr32(
+        nrows,
+        ncols,
+        row_ptr,
+        col_idx,
+        values,
+        size,
+        out_row_ptr,
+        out_col_idx,
+        out_values,
+    );
+    denimrasp_answers::blocks_built(answer)
+}
+
+// 12 where the lists are not those of a matrix in blocks.
+#[no_mangle]
+pub extern "C" fn denimrasp_dense_block_check(
+    nrows: usize,
+    ncols: usize,
+    six: bool,
+    row_ptr: &[u32],
+    col_idx: &[u32],
+    values: &[f64],
+) -> DenimraspVerdict
+    ensures { λ r. ⌜ r ≡ verdictOf (blocksAnswer (asBlocks nrows ncols (widthOf (sizeFrom six)) (now («row_ptr» .entry)) (now («col_idx» .entry)) (now (values .entry)))) ⌝ }
+{
+    let size = denimrasp_answers::block_size(six);
+    let answer = dense_block_check::check(nrows, ncols, size, row_ptr, col_idx, values);
+    denimrasp_answers::verdict(answer)
+}
+
+// The row products of blocks; a refused call leaves y as it was.
+#[no_mangle]
+pub extern "C" fn denimrasp_dense_block_apply(
+    nrows: usize,
+    ncols: usize,
+    six: bool,
+    row_ptr: &[u32],
+    col_idx: &[u32],
+    values: &[f64],
+    x: &[f64],
+    y: &mut [f64],
+) -> DenimraspVerdict
+    ensures answer { λ r. ⌜ r ≡ verdictOf (applyBlocksAnswer (asBlocks nrows ncols (widthOf (sizeFrom six)) (now («row_ptr» .entry)) (now («col_idx» .entry)) (now (values .entry))) (now (x .entry)) (length (now (y .entry)))) ⌝ }
+    ensures product { λ _. ⌜ now (y .exit) ≡ kept (applyBlocksAnswer (asBlocks nrows ncols (widthOf (sizeFrom six)) (now («row_ptr» .entry)) (now («col_idx» .entry)) (now (values .entry))) (now (x .entry)) (length (now (y .entry)))) (blocksProduct (asBlocks nrows ncols (widthOf (sizeFrom six)) (now («row_ptr» .entry)) (now («col_idx» .entry)) (now (values .entry))) (now (x .entry))) (now (y .entry)) ⌝ }
+{
+    let size = denimrasp_answers::block_size(six);
+    let answer = dense_block_apply::apply(nrows, ncols, size, row_ptr, col_idx, values, x, y);
+    denimrasp_answers::verdict(answer)
+}
+
+// The blocks wholly inside the frame among all blocks; 0.0 without blocks.
+#[no_mangle]
+pub extern "C" fn denimrasp_dense_block_fast_block_fraction(
+    nrows: usize,
+    ncols: usize,
+    six: bool,
+    row_ptr: &[u32],
+    col_idx: &[u32],
+    values: &[f64],
+) -> DenimraspRatio
+    ensures { λ r. ⌜ r ≡ ratioAnswerOf (fastAnswer (asBlocks nrows ncols (widthOf (sizeFrom six)) (now («row_ptr» .entry)) (now («col_idx» .entry)) (now (values .entry)))) ⌝ }
+{
+    let size = denimrasp_answers::block_size(six);
+    let answer = dense_block_check::fast_block_fraction(
+        nrows,
+        ncols,
+        size,
+        row_ptr,
+        col_idx,
+        values,
+    );
+    denimrasp_answers::ratio(answer)
+}
+
+// The distinct places with an entry among the places of the blocks inside the frame; 0.0 where there are none.
+#[no_mangle]
+pub extern "C" fn denimrasp_dense_block_block_fill(
+    structural_slots: usize,
+    valid_dense_slots: usize,
+) -> f64
+    ensures { λ r. ⌜ r ≡ blockFill (blocksFrom 0 0 0 «structural_slots» «valid_dense_slots») ⌝ }
+{
+    let s = DenseBlocks {
+        nrows: 0,
+        ncols: 0,
+        block_rows: 0,
+        unique_blocks: 0,
+        dense_value_slots: 0,
+        structural_slots,
+        valid_dense_slots,
+    };
+    s.block_fill()
+}
+
+// The values of the blocks to the distinct places with an entry; 0.0 where there are none.
+#[no_mangle]
+pub extern "C" fn denimrasp_dense_block_value_padding_ratio(
+    dense_value_slots: usize,
+    structural_slots: usize,
+) -> f64
+    ensures { λ r. ⌜ r ≡ valuePadding (blocksFrom 0 0 «dense_value_slots» «structural_slots» 0) ⌝ }
+{
+    let s = DenseBlocks {
+        nrows: 0,
+        ncols: 0,
+        block_rows: 0,
+        unique_blocks: 0,
+        dense_value_slots,
+        structural_slots,
+        valid_dense_slots: 0,
+    };
+    s.value_padding_ratio()
+}
+
+// The bytes of pointers and block columns, at most 2^64 − 1.
+#[no_mangle]
+pub extern "C" fn denimrasp_dense_block_metadata_bytes(
+    block_rows: usize,
+    unique_blocks: usize,
+) -> usize
+    ensures { λ r. ⌜ r ≡ blockMetadataBytes (blocksFrom «block_rows» «unique_blocks» 0 0 0) ⌝ }
+{
+    let s = DenseBlocks {
+        nrows: 0,
+        ncols: 0,
+        block_rows,
+        unique_blocks,
+        dense_value_slots: 0,
+        structural_slots: 0,
+        valid_dense_slots: 0,
+    };
+    s.metadata_bytes()
+}
+
+// The same with the values.
+#[no_mangle]
+pub extern "C" fn denimrasp_dense_block_storage_bytes(
+    block_rows: usize,
+    unique_blocks: usize,
+    dense_value_slots: usize,
+) -> usize
+    ensures { λ r. ⌜ r ≡ blockStorageBytes (blocksFrom «block_rows» «unique_blocks» «dense_value_slots» 0 0) ⌝ }
+{
+    let s = DenseBlocks {
+        nrows: 0,
+        ncols: 0,
+        block_rows,
+        unique_blocks,
+        dense_value_slots,
+        structural_slots: 0,
+        valid_dense_slots: 0,
     };
     s.storage_bytes()
 }

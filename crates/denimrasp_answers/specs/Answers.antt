@@ -4,6 +4,7 @@ use Prim.Native.Nat.{ℕ, _+_}
 use mathlib.Core.Bool.{Bool, true, false}
 use mathlib.Core.List.{List}
 use mathlib.Core.Option.{Option, none, some}
+use lib.Ieee.{Float}
 use lib.ListN.{getD}
 use Rattle.hybit_core.specs.Answer.{Answer, accepted, refused, Given, gives, refuses}
 use Rattle.hybit_core.specs.Floats.{zero64}
@@ -15,6 +16,9 @@ use Rattle.abtm.specs.declared.AbtmConfig.{AbtmConfig}
 use Rattle.abtm_rows.specs.declared.AbtmStats.{AbtmStats}
 use Rattle.restricted.specs.declared.ColumnRestriction.{ColumnRestriction}
 use Rattle.restricted.specs.declared.LocalRegion.{LocalRegion}
+use Rattle.dense_block.specs.declared.DenseBlockSize.{DenseBlockSize}
+use Rattle.dense_block.specs.declared.DenseBlockSize.the-variants.{B3, B6}
+use Rattle.dense_block.specs.declared.DenseBlocks.{DenseBlocks}
 use Rattle.denimrasp_answers.specs.declared.DenimraspVerdict.{DenimraspVerdict}
 use Rattle.denimrasp_answers.specs.declared.DenimraspCount.{DenimraspCount}
 use Rattle.denimrasp_answers.specs.declared.DenimraspBool.{DenimraspBool}
@@ -29,6 +33,8 @@ use Rattle.denimrasp_answers.specs.declared.DenimraspTiles.{DenimraspTil
 use Rattle.denimrasp_answers.specs.declared.DenimraspTileStats.{DenimraspTileStats}
 use Rattle.denimrasp_answers.specs.declared.DenimraspRestriction.{DenimraspRestriction}
 use Rattle.denimrasp_answers.specs.declared.DenimraspRegion.{DenimraspRegion}
+use Rattle.denimrasp_answers.specs.declared.DenimraspBlocks.{DenimraspBlocks}
+use Rattle.denimrasp_answers.specs.declared.DenimraspRatio.{DenimraspRatio}
 
 abbrev pub verdictOf : Answer → DenimraspVerdict
 verdictOf accepted = record { number = 0; expected = 0; actual = 0 }
@@ -255,3 +261,50 @@ restrictionFrom r c s k = record { nrows = r; ncols = c; «source_nnz» = s; «r
 
 abbrev pub regionFrom : ℕ → ℕ → ℕ → ℕ → LocalRegion
 regionFrom n k e s = record { «global_size» = n; «local_nodes» = k; «local_nnz» = e; «source_row_nnz» = s }
+
+abbrev pub blocksAnswerOf : Given DenseBlocks → DenimraspBlocks
+blocksAnswerOf (gives s) = record {
+  number = 0;
+  expected = 0;
+  actual = 0;
+  nrows = s .nrows;
+  ncols = s .ncols;
+  «block_rows» = s .«block_rows»;
+  «unique_blocks» = s .«unique_blocks»;
+  «dense_value_slots» = s .«dense_value_slots»;
+  «structural_slots» = s .«structural_slots»;
+  «valid_dense_slots» = s .«valid_dense_slots»;
+}
+blocksAnswerOf (refuses t) = record {
+  number = t .number;
+  expected = t .expected;
+  actual = t .actual;
+  nrows = 0;
+  ncols = 0;
+  «block_rows» = 0;
+  «unique_blocks» = 0;
+  «dense_value_slots» = 0;
+  «structural_slots» = 0;
+  «valid_dense_slots» = 0;
+}
+
+abbrev pub ratioAnswerOf : Given Float → DenimraspRatio
+ratioAnswerOf (gives v) = record { number = 0; expected = 0; actual = 0; ratio = v }
+ratioAnswerOf (refuses t) = record { number = t .number; expected = t .expected; actual = t .actual; ratio = zero64 }
+
+-- a width, which crosses as whether it is six
+abbrev pub sizeFrom : Bool → DenseBlockSize
+sizeFrom true = B6
+sizeFrom false = B3
+
+-- the numbers of blocks, of which the figures take five at most
+abbrev pub blocksFrom : ℕ → ℕ → ℕ → ℕ → ℕ → DenseBlocks
+blocksFrom rows blocks values structural valid = record {
+  nrows = 0;
+  ncols = 0;
+  «block_rows» = rows;
+  «unique_blocks» = blocks;
+  «dense_value_slots» = values;
+  «structural_slots» = structural;
+  «valid_dense_slots» = valid;
+}

@@ -13,11 +13,15 @@ ghost use Rattle.abtm_rows.specs.Rows.{toldTileStats};
 ghost use Rattle.abtm_build.specs.Build.{toldTiles};
 ghost use Rattle.restricted.specs.Restricted.{toldRestriction};
 ghost use Rattle.restricted.specs.Local.{toldRegion};
-ghost use Rattle.denimrasp_answers.specs.Answers.{verdictOf, countOf, boolOf, selectOf, partOf, placesOf, topologyAnswerOf, topologyStatsOf, storeStatsOf, dotAnswerOf, totalsOf, tilesAnswerOf, tileStatsOf, restrictionAnswerOf, regionAnswerOf};
+ghost use Rattle.dense_block.specs.Calls.{toldBlocks, toldRatio};
+ghost use Rattle.denimrasp_answers.specs.Answers.{verdictOf, countOf, boolOf, selectOf, partOf, placesOf, topologyAnswerOf, topologyStatsOf, storeStatsOf, dotAnswerOf, totalsOf, tilesAnswerOf, tileStatsOf, restrictionAnswerOf, regionAnswerOf, blocksAnswerOf, ratioAnswerOf, sizeFrom};
 use abtm::KindAnswer;
 use abtm::TileKind;
 use abtm_build::TilesAnswer;
 use abtm_rows::AbtmStatsAnswer;
+use dense_block::BlocksAnswer;
+use dense_block::DenseBlockSize;
+use dense_block::RatioAnswer;
 use hybit_core::BoolAnswer;
 use hybit_core::CountAnswer;
 use hybit_core::HybitError;
@@ -184,6 +188,30 @@ pub struct DenimraspRegion {
     pub local_nodes: usize,
     pub local_nnz: usize,
     pub source_row_nnz: usize,
+}
+
+// The numbers of a matrix in blocks: the used parts are block_rows + 1 pointers, unique_blocks block columns and dense_value_slots
+// values.
+#[repr(C)]
+pub struct DenimraspBlocks {
+    pub number: u32,
+    pub expected: usize,
+    pub actual: usize,
+    pub nrows: usize,
+    pub ncols: usize,
+    pub block_rows: usize,
+    pub unique_blocks: usize,
+    pub dense_value_slots: usize,
+    pub structural_slots: usize,
+    pub valid_dense_slots: usize,
+}
+
+#[repr(C)]
+pub struct DenimraspRatio {
+    pub number: u32,
+    pub expected: usize,
+    pub actual: usize,
+    pub ratio: f64,
 }
 
 pub fn verdict(v: Verdict) -> DenimraspVerdict
@@ -610,4 +638,64 @@ pub fn region(a: LocalAnswer) -> DenimraspRegion
             source_row_nnz: 0,
         },
     }
+}
+
+pub fn blocks_built(a: BlocksAnswer) -> DenimraspBlocks
+    ensures { λ r. ⌜ r ≡ blocksAnswerOf (toldBlocks a) ⌝ }
+{
+    match a {
+        BlocksAnswer::Built(s) => DenimraspBlocks {
+            number: 0,
+            expected: 0,
+            actual: 0,
+            nrows: s.nrows,
+            ncols: s.ncols,
+            block_rows: s.block_rows,
+            unique_blocks: s.unique_blocks,
+            dense_value_slots: s.dense_value_slots,
+            structural_slots: s.structural_slots,
+            valid_dense_slots: s.valid_dense_slots,
+        },
+        BlocksAnswer::Refused(e) => DenimraspBlocks {
+            number: hybit_core::number(e),
+            expected: hybit_core::expected(e),
+            actual: hybit_core::actual(e),
+            nrows: 0,
+            ncols: 0,
+            block_rows: 0,
+            unique_blocks: 0,
+            dense_value_slots: 0,
+            structural_slots: 0,
+            valid_dense_slots: 0,
+        },
+    }
+}
+
+pub fn ratio(a: RatioAnswer) -> DenimraspRatio
+    ensures { λ r. ⌜ r ≡ ratioAnswerOf (toldRatio a) ⌝ }
+{
+    match a {
+        RatioAnswer::Ratio(v) => DenimraspRatio {
+            number: 0,
+            expected: 0,
+            actual: 0,
+            ratio: v,
+        },
+        RatioAnswer::Refused(e) => DenimraspRatio {
+            number: hybit_core::number(e),
+            expected: hybit_core::expected(e),
+            actual: hybit_core::actual(e),
+            ratio: 0.0,
+        },
+    }
+}
+
+// The width, which crosses as whether it is six.
+pub fn block_size(six: bool) -> DenseBlockSize
+    ensures { λ r. ⌜ r ≡ sizeFrom six ⌝ }
+{
+    if six {
+        return DenseBlockSize::B6;
+    }
+    DenseBlockSize::B3
 }

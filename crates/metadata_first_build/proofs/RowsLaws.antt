@@ -25,7 +25,7 @@ use Rattle.topology.specs.Words.{topologyOf, setBits}
 use Rattle.topology.proofs.RowLaws.{Row}
 use Rattle.topology.proofs.TopologyLaws.{Accepted, accepted-facts, row-bits, row-words, row-masks}
 use Rattle.topology_build.specs.Build.{topologyFrom}
-use Rattle.topology_build.proofs.LevelLaws.{columns-few, zeros-long}
+use Rattle.levels.proofs.LevelLaws.{columns-few, zeros-long}
 use Rattle.topology_build.proofs.AnswerLaws.{built-accepted}
 use Rattle.metadata_first.specs.Store.{packedOf}
 use Rattle.metadata_first_merge.specs.Merge.{rowValues}

@@ -1,6 +1,6 @@
 -- `metadata_first_build::pack` meets its contract. Assumes nothing.
 use native.Mathlib.Omega.{arith}
-use Rattle.topology_build.proofs.LevelLaws.{zeros-long}
+use Rattle.levels.proofs.LevelLaws.{zeros-long}
 use Rattle.metadata_first_build.proofs.RowsLaws.{places-in}
 use borrow.Author.Needs.{needs}
 use Rattle.metadata_first_build.proofs.pack.Statement.{statement}

@@ -1,0 +1,76 @@
+-- `dense_block_check::rules_hold` meets its contract. Assumes nothing.
+use mathlib.Core.Path.{sym}
+use native.Mathlib.Omega.{arith}
+use lib.ListN.{length}
+use Rattle.hybit_core.proofs.BoolLaws.{flag-on, flag-off}
+use Rattle.dense_block.specs.Blocks.{asBlocks, widthOf}
+use Rattle.dense_block_check.proofs.FastLaws.{width-small}
+use Rattle.dense_block_check.proofs.RuleLaws.{square-small, slots-fit, pointers-told, columns-told, values-wrong, values-right, rules-unframed, rules-values, rules-columns, rules-rows}
+use borrow.Author.Needs.{needs}
+use Rattle.dense_block_check.proofs.rules_hold.Statement.{statement}
+use Rattle.dense_block_check.proofs.rules_hold.Tie as tie
+
+blocks-for-requires : tie.Need-blocks-for-requires
+blocks-for-requires c κs = search needs
+
+pointers-hold-requires : tie.Need-pointers-hold-requires
+pointers-hold-requires c κs = search needs
+
+returns : tie.Need-returns
+returns c =
+    let a = c .before .before .before .before .before .before .args in
+    let b = asBlocks (a .nrows) (a .ncols) (widthOf (a .size)) (a .row-ptr .now) (a .col-idx .now) (a .values .now) in
+    rules-unframed b (flag-off _ _ (pointers-told _ _ _ _ _ (c .before .before .blocks-for .ensures) (c .before .pointers-hold .ensures)) (c .if1 .taken))
+
+width-requires : tie.Need-width-requires
+width-requires c κs = search needs
+
+mul-if2 : tie.Need-mul-if2
+mul-if2 c = omega (arith, square-small _ (width-small (c .before .before .before .before .before .before .before .args .size) _ (c .width .ensures)))
+
+mul-if2-2 : tie.Need-mul-if2-2
+mul-if2-2 c = let a = c .before .before .before .before .before .before .before in omega (arith, slots-fit (length (a .args .col-idx .now)) _ (a .pre) (width-small (a .args .size) _ (c .width .ensures)))
+
+returns-2 : tie.Need-returns-2
+returns-2 c =
+    let a = c .before .before .before .before .before .before .before .before .args in
+    let b = asBlocks (a .nrows) (a .ncols) (widthOf (a .size)) (a .row-ptr .now) (a .col-idx .now) (a .values .now) in
+    rules-values b (flag-on _ _ (pointers-told _ _ _ _ _ (c .before .before .before .before .blocks-for .ensures) (c .before .before .before .pointers-hold .ensures)) (c .before .before .if1 .left)) (values-wrong _ _ _ _ (c .before .width .ensures) (c .if2 .taken))
+
+blocks-for-requires-2 : tie.Need-blocks-for-requires-2
+blocks-for-requires-2 c κs = search needs
+
+columns-below-requires : tie.Need-columns-below-requires
+columns-below-requires c κs = search needs
+
+returns-3 : tie.Need-returns-3
+returns-3 c =
+    let a = c .before .before .before .before .before .before .before .before .before .before .before .args in
+    let b = asBlocks (a .nrows) (a .ncols) (widthOf (a .size)) (a .row-ptr .now) (a .col-idx .now) (a .values .now) in
+    rules-columns b (flag-on _ _ (pointers-told _ _ _ _ _ (c .before .before .before .before .before .before .before .blocks-for .ensures) (c .before .before .before .before .before .before .pointers-hold .ensures)) (c .before .before .before .before .before .if1 .left)) (values-right _ _ _ _ (c .before .before .before .before .width .ensures) (c .before .before .before .if2 .left)) (flag-off _ _ (columns-told _ _ _ _ (c .before .before .blocks-for2 .ensures) (c .before .columns-below .ensures)) (c .if3 .taken))
+
+rows-climb-requires : tie.Need-rows-climb-requires
+rows-climb-requires c κs = sym (flag-on _ _ (pointers-told _ _ _ _ _ (c .before .before .before .before .before .before .before .blocks-for .ensures) (c .before .before .before .before .before .before .pointers-hold .ensures)) (c .before .before .before .before .before .if1 .left))
+
+returns-4 : tie.Need-returns-4
+returns-4 c =
+    let a = c .before .before .before .before .before .before .before .before .before .before .before .before .args in
+    let b = asBlocks (a .nrows) (a .ncols) (widthOf (a .size)) (a .row-ptr .now) (a .col-idx .now) (a .values .now) in
+    rules-rows b (flag-on _ _ (pointers-told _ _ _ _ _ (c .before .before .before .before .before .before .before .before .blocks-for .ensures) (c .before .before .before .before .before .before .before .pointers-hold .ensures)) (c .before .before .before .before .before .before .if1 .left)) (values-right _ _ _ _ (c .before .before .before .before .before .width .ensures) (c .before .before .before .before .if2 .left)) _ (flag-on _ _ (columns-told _ _ _ _ (c .before .before .before .blocks-for2 .ensures) (c .before .before .columns-below .ensures)) (c .before .if3 .left)) (c .rows-climb .ensures)
+
+pub rules-hold-spec : {M : Type 1} → statement M
+rules-hold-spec =
+    tie.close
+    (tie.spec
+    blocks-for-requires
+    pointers-hold-requires
+    returns
+    width-requires
+    mul-if2
+    mul-if2-2
+    returns-2
+    blocks-for-requires-2
+    columns-below-requires
+    returns-3
+    rows-climb-requires
+    returns-4)

@@ -4,3 +4,4 @@ pub mod MergeLaws
 pub mod RunLaws
 pub mod RowLaws
 pub mod AddLaws
+pub mod NoteLaws

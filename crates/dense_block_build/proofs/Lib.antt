@@ -5,3 +5,4 @@ pub mod RunLaws
 pub mod RowLaws
 pub mod AddLaws
 pub mod NoteLaws
+pub mod BandLaws

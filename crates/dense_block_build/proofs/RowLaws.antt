@@ -63,10 +63,10 @@ module _ {A : Type 0} (d : A) (a b : ℕ) (l new : List A) (o : a ≤ b) (h : b 
 
 module _ (w i : ℕ) (cs : List ℕ) where
   -- the column of place q
-  abbrev columnAt : ℕ → ℕ
+  abbrev pub columnAt : ℕ → ℕ
   columnAt q = w * getD cs (q / (w * w)) 0 + q % w
 
-  abbrev valueAt : List Entry → List Float → ℕ → Bool → Float
+  abbrev pub valueAt : List Entry → List Float → ℕ → Bool → Float
   valueAt es old q t = cond t (addValues (getD old q nan) (only (ofColumn (columnAt q)) es)) (getD old q nan)
 
   pub row-length : (es : List Entry) (old : List Float) → length (inRow w i cs es old) ≡ length cs * (w * w)

@@ -178,7 +178,7 @@ block-low : (s : DenseBlockSize) (c n : ℕ) → c < n → c / widthOf s < block
 block-low B3 c n h = omega arith
 block-low B6 c n h = omega arith
 
-blocks-few : (s : DenseBlockSize) (n : ℕ) → n ≤ 2 ^ 20 → blocksFor (widthOf s) n ≤ 349526
+pub blocks-few : (s : DenseBlockSize) (n : ℕ) → n ≤ 2 ^ 20 → blocksFor (widthOf s) n ≤ 349526
 blocks-few B3 n h = omega arith
 blocks-few B6 n h = omega arith
 

@@ -6,3 +6,4 @@ pub mod RowLaws
 pub mod AddLaws
 pub mod NoteLaws
 pub mod BandLaws
+pub mod FillLaws

@@ -1,6 +1,8 @@
 -- The width of a block, 3 or 6: its bounds, and the places of a block's numbers. Assumes nothing.
 use mathlib.Core.Path.{_≡_, sym, ap, _∙_}
-use Prim.Native.Nat.{ℕ, _+_, _*_, _/_, _%_, _≤_, _<_}
+use Prim.Native.Nat.{ℕ, _+_, _*_, _/_, _%_, _^_, _≤_, _<_}
+use mir.Syntax.{w64}
+use mir.Val.{Fits}
 use native.Mathlib.Omega.{arith}
 use Rattle.dense_block.specs.Blocks.{widthOf}
 use Rattle.dense_block.specs.declared.DenseBlockSize.{DenseBlockSize}
@@ -32,3 +34,7 @@ square-small s w e = rw (square-is s w e) (small s)
     small : (s : DenseBlockSize) → widthOf s * widthOf s ≤ 36
     small B3 = omega arith
     small B6 = omega arith
+
+-- the next number, below the length of a list
+pub next-fits : (r n : ℕ) → r + 1 < n → n < 2 ^ 64 → Fits w64 (r + 1)
+next-fits r n h l = record { fits = omega arith }

@@ -12,13 +12,14 @@ use lib.Ieee.{Float}
 use Rattle.hybit_core.specs.Answer.{accepted}
 use Rattle.hybit_core.specs.Floats.{zero64}
 use Rattle.lent.specs.Lists.{joined, starts, part, spread}
-use Rattle.lent.proofs.ListLaws.{joined-lengths, length-joined-le, length-joined-suc, getD-starts, length-starts, part-joined, part-lent, part-mid}
+use Rattle.lent.proofs.ListLaws.{joined-lengths, length-joined-le, length-joined-suc, getD-starts, length-starts, part-joined, part-lent, part-mid, zeros-front}
 use Rattle.word.specs.Bits.{below, ceil64}
 use Rattle.mask.specs.Mask.{maskWords}
 use Rattle.mask.specs.Calls.{listed}
-use Rattle.mask.proofs.MaskLaws.{length-words}
+use Rattle.mask.proofs.CallLaws.{empty-words}
 use Rattle.levels.specs.Levels.{zeroed}
 use Rattle.levels.specs.Ranks.{Ranks}
+use Rattle.levels.proofs.LevelLaws.{zeros-long}
 use Rattle.levels.proofs.ClearLaws.{forgotten}
 use Rattle.csr32.specs.Csr.{Csr, csrAnswer}
 use Rattle.csr32.proofs.CsrLaws.{Valid, valid}
@@ -205,3 +206,20 @@ module _ (m : Csr) (s : DenseBlockSize) where
             same = l ∙ inv .same;
             is = next-written zero64 valsAt bands R out h (inv .is) (a * k) (b * k) (values-start R h a b ea eb k ek) (values-end R h a b ea eb k ek) new n;
           }
+
+-- ---- the local lists are long enough, and empty
+
+module _ (s : DenseBlockSize) (n x : ℕ) (few : n ≤ 2 ^ 20) (e : x ≡ blocksFor (widthOf s) n) where
+  pub local-few : x ≤ 349526
+  local-few = subst (λ (k : ℕ). k ≤ 349526) (sym e) (blocks-few s n few)
+
+  pub local-words : (x + 63) / 64 ≤ 5462
+  local-words = omega (arith, local-few)
+
+  pub local-bits : take ((x + 63) / 64) (replicate 5462 0) ≡ maskWords (λ c. false) (blocksFor (widthOf s) n)
+  local-bits = zeros-front 0 ((x + 63) / 64) 5462 local-words ∙ ap (λ (k : ℕ). replicate ((k + 63) / 64) 0) e ∙ sym (empty-words (blocksFor (widthOf s) n))
+
+  pub local-starts : ceil64 (blocksFor (widthOf s) n) ≤ length {A = ℕ} (take 5462 (replicate 5462 0))
+  local-starts =
+      let long : 5462 ≡ length {A = ℕ} (take 5462 (replicate 5462 0)) = zeros-long 5462 5462 (omega arith) in
+      omega (arith, long, local-words, ap (λ (k : ℕ). (k + 63) / 64) e)

@@ -1,40 +1,38 @@
+-- `dense_block_build::build_values` meets its contract. Assumes nothing.
+use native.Mathlib.Omega.{arith}
+use Rattle.csr32.proofs.CsrLaws.{valid}
+use Rattle.levels.proofs.LevelLaws.{zeros-long}
+use Rattle.dense_block_build.proofs.FillLaws.{local-few, local-words, local-bits, local-starts}
 use borrow.Author.Needs.{needs}
 use Rattle.dense_block_build.proofs.build_values.Statement.{statement}
 use Rattle.dense_block_build.proofs.build_values.Tie as tie
-use Rattle.dense_block_build.proofs.build_values.Reads as reads
-use Rattle.dense_block_build.proofs.build_values.Lts as lts
-use Rattle.dense_block.proofs.DenseBlockSize.blocks_for.Reads as blocks-for-reads
-use Rattle.dense_block_build.proofs.fill_values.Reads as fill-values-reads
 
--- src/lib.rt:285:19
 blocks-for-requires : tie.Need-blocks-for-requires
 blocks-for-requires c κs = search needs
 
--- src/lib.rt:285:19
 add-nwords : tie.Need-add-nwords
-add-nwords c = search needs
+add-nwords c =
+    let h = local-few (c .before .before .before .before .before .before .before .args .size) _ _ (valid _ (c .before .before .before .before .before .before .before .pre .0) .cols-in) (c .blocks-for .ensures) in
+    search needs
 
--- src/lib.rt:295:9
 array-borrow-prefix-bits : tie.Need-array-borrow-prefix-bits
-array-borrow-prefix-bits c = search needs
+array-borrow-prefix-bits c = local-words (c .before .before .before .before .before .before .before .args .size) _ _ (valid _ (c .before .before .before .before .before .before .before .pre .0) .cols-in) (c .blocks-for .ensures)
 
--- src/lib.rt:295:9
 slice-aggregate-fill-values : tie.Need-slice-aggregate-fill-values
-slice-aggregate-fill-values c = search needs
+slice-aggregate-fill-values c = zeros-long _ 5462 (local-words (c .before .before .before .before .before .before .before .before .args .size) _ _ (valid _ (c .before .before .before .before .before .before .before .before .pre .0) .cols-in) (c .before .blocks-for .ensures))
 
--- src/lib.rt:296:9
 slice-aggregate-fill-values-2 : tie.Need-slice-aggregate-fill-values-2
-slice-aggregate-fill-values-2 c = search needs
+slice-aggregate-fill-values-2 c = zeros-long 5462 5462 (omega arith)
 
--- src/lib.rt:286:5
 fill-values-requires : tie.Need-fill-values-requires
-fill-values-requires c κs = search needs
+fill-values-requires c κs =
+    let p = c .before .before .before .before .before .before .before .before .before .before .pre in
+    let v = valid _ (p .0) .cols-in in
+    (p .0, (p .1 .0, (local-bits (c .before .before .before .before .before .before .before .before .before .before .args .size) _ _ v (c .before .before .before .blocks-for .ensures), (local-starts (c .before .before .before .before .before .before .before .before .before .before .args .size) _ _ v (c .before .before .before .blocks-for .ensures), p .1 .1))))
 
--- src/lib.rt:269:1
 same-length : tie.Need-same-length
 same-length c = search needs
 
--- src/lib.rt:269:1
 returns : tie.Need-returns
 returns c = search needs
 

@@ -68,7 +68,7 @@ module _ {A : Type 0} (z : A) (f : ℕ → List A) (n r : ℕ) (out : List A) (h
 pub in-bands : (s : DenseBlockSize) (n x R : ℕ) → x ≡ blocksFor (widthOf s) n → R < x → R < blocksFor (widthOf s) n
 in-bands s n x R e h = subst (λ (k : ℕ). R < k) e h
 
-in-rows : (s : DenseBlockSize) (R n : ℕ) → R < blocksFor (widthOf s) n → widthOf s * R < n
+pub in-rows : (s : DenseBlockSize) (R n : ℕ) → R < blocksFor (widthOf s) n → widthOf s * R < n
 in-rows B3 R n h = omega arith
 in-rows B6 R n h = omega arith
 

@@ -7,3 +7,4 @@ pub mod AddLaws
 pub mod NoteLaws
 pub mod BandLaws
 pub mod FillLaws
+pub mod SlotLaws

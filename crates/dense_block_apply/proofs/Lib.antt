@@ -1,0 +1,4 @@
+pub mod TermLaws
+pub mod BlockLaws
+pub mod RowLaws
+pub mod ProductLaws

@@ -1,9 +1,7 @@
 // dense_block.rs: `LinearOperator::apply` of `DenseBlockCsrOperator`, the product of blocks. Each value is read once.
 ghost use mathlib.Core.Path.{_≡_};
-ghost use mathlib.Core.Bool.{cond};
-ghost use Prim.Native.Nat.{ℕ, _+_, _*_, _/_, _≤_, _<_, _^_};
-ghost use lib.Dec.{ltb};
-ghost use lib.ListN.{length, getD};
+ghost use Prim.Native.Nat.{_+_, _*_, _/_, _≤_, _<_, _^_};
+ghost use lib.ListN.{length, getD, take};
 ghost use lib.Ieee.{nan, binary64, add};
 ghost use Rattle.hybit_core.specs.Answer.{accepted};
 ghost use Rattle.hybit_core.specs.Floats.{zero64};
@@ -175,7 +173,7 @@ fn full_row6(
     sums
 }
 
-// The full block rows, written from row 0 on; answers the first row after them.
+// The rows of accepted blocks of width 3, the full block rows first.
 fn apply3(
     nrows: usize,
     ncols: usize,
@@ -210,6 +208,7 @@ fn apply3(
     );
 }
 
+// The same of width 6.
 fn apply6(
     nrows: usize,
     ncols: usize,
@@ -284,7 +283,7 @@ fn partial_sum(
     sum
 }
 
-// The rows below the full block rows.
+// The rows below the full block rows, which are written already.
 fn apply_partial_last_row(
     nrows: usize,
     ncols: usize,
@@ -295,8 +294,8 @@ fn apply_partial_last_row(
     x: &[f64],
     y: &mut [f64],
 )
-    requires { ⌜ applyBlocksAnswer (asBlocks nrows ncols (widthOf size) (now «row_ptr») (now «col_idx») (now values)) (now x) (length (now y)) ≡ accepted ⌝ }
-    ensures { λ _. ⌜ (length (now (y .exit)) ≡ nrows) × ((r : ℕ) → r < nrows → getD (now (y .exit)) r nan ≡ cond (ltb r (widthOf size * (nrows / widthOf size))) (getD (now (y .entry)) r nan) (blockSum (asBlocks nrows ncols (widthOf size) (now («row_ptr» .entry)) (now («col_idx» .entry)) (now (values .entry))) (now (x .entry)) r)) ⌝ }
+    requires { ⌜ applyBlocksAnswer (asBlocks nrows ncols (widthOf size) (now «row_ptr») (now «col_idx») (now values)) (now x) (length (now y)) ≡ accepted ⌝ ∗ ⌜ take (widthOf size * (nrows / widthOf size)) (now y) ≡ each (blockSum (asBlocks nrows ncols (widthOf size) (now «row_ptr») (now «col_idx») (now values)) (now x)) (widthOf size * (nrows / widthOf size)) ⌝ }
+    ensures { λ _. ⌜ now (y .exit) ≡ blocksProduct (asBlocks nrows ncols (widthOf size) (now («row_ptr» .entry)) (now («col_idx» .entry)) (now (values .entry))) (now (x .entry)) ⌝ }
 {
     let mut row = size.width() * size.full_blocks(nrows);
     while row < nrows {

@@ -1,0 +1,219 @@
+-- Accepted blocks as the code of the product reads them: widths, block rows and the place of a block. Assumes nothing.
+use mathlib.Core.Bool.{Bool, true, _&&_}
+use mathlib.Core.List.{List}
+use mathlib.Core.Path.{_≡_, sym, ap, subst, _∙_}
+use Prim.Native.Nat.{ℕ, suc, _+_, _-_, _*_, _/_, _%_, _^_, _≤_, _<_}
+use native.Mathlib.Omega.{arith}
+use lib.Dec.{eqb, ltb}
+use lib.ListN.{length, getD}
+use lib.Ieee.{Float}
+use borrow.Author.Tests.{leb-true, ltb-true, eqb-true}
+use Rattle.hybit_core.specs.Answer.{Answer, accepted, demand, lengthIs, _andThen_}
+use Rattle.hybit_core.specs.Domain.{few, many, sizesFit}
+use Rattle.hybit_core.proofs.BoolLaws.{and-left, and-right}
+use Rattle.hybit_core.proofs.AnswerLaws.{demand-accepted, then-first, then-second, length-accepted}
+use Rattle.lent.specs.Lists.{every}
+use Rattle.csr32.specs.Csr.{framed}
+use Rattle.csr32.proofs.FrameLaws.{Framed, framed-facts, RowIn, row-in}
+use Rattle.csr32.proofs.CsrLaws.{column-below}
+use Rattle.dense_block.specs.Blocks.{widthOf, blocksFor, Blocks, asBlocks, blockSizes, rowsClimb, blocksRules, blocksAnswer}
+use Rattle.dense_block.specs.declared.DenseBlockSize.{DenseBlockSize}
+use Rattle.dense_block.specs.declared.DenseBlockSize.the-variants.{B3, B6}
+use Rattle.dense_block_apply.specs.Product.{applyBlocksAnswer}
+
+-- ---- widths
+
+pub data Width : ℕ → Type 0 where
+  three : Width 3
+  six : Width 6
+
+width-of : (s : DenseBlockSize) → Width (widthOf s)
+width-of B3 = three
+width-of B6 = six
+
+pub row-over : {w : ℕ} → Width w → (R i : ℕ) → i < w → (w * R + i) / w ≡ R
+row-over three R i h = omega arith
+row-over six R i h = omega arith
+
+pub row-under : {w : ℕ} → Width w → (R i : ℕ) → i < w → (w * R + i) % w ≡ i
+row-under three R i h = omega arith
+row-under six R i h = omega arith
+
+row-full : {w : ℕ} → Width w → (R n : ℕ) → w * R + w ≤ n → R < blocksFor w n
+row-full three R n h = omega arith
+row-full six R n h = omega arith
+
+-- a row r at or past the last full block row
+pub last-over : {w : ℕ} → Width w → (n r : ℕ) → w * (n / w) ≤ r → r < n → r / w ≡ n / w
+last-over three n r h k = omega arith
+last-over six n r h k = omega arith
+
+pub last-under : {w : ℕ} → Width w → (n r : ℕ) → w * (n / w) ≤ r → r < n → r % w ≡ r - w * (n / w)
+last-under three n r h k = omega arith
+last-under six n r h k = omega arith
+
+row-last : {w : ℕ} → Width w → (n r : ℕ) → w * (n / w) ≤ r → r < n → n / w < blocksFor w n
+row-last three n r h k = omega arith
+row-last six n r h k = omega arith
+
+pub last-short : {w : ℕ} → Width w → (n : ℕ) → n < w * (n / w) + w
+last-short three n = omega arith
+last-short six n = omega arith
+
+local-small : {w : ℕ} → Width w → (n r : ℕ) → r < n → r - w * (n / w) < w
+local-small three n r h = omega arith
+local-small six n r h = omega arith
+
+row-in-block : {w : ℕ} → Width w → (i : ℕ) → i < w → w * i + w ≤ w * w
+row-in-block three i h = omega arith
+row-in-block six i h = omega arith
+
+square-small : {w : ℕ} → Width w → w * w ≤ 36
+square-small three = omega arith
+square-small six = omega arith
+
+column-inside : {w : ℕ} → Width w → (C n : ℕ) → C < blocksFor w n → w * C < n
+column-inside three C n h = omega arith
+column-inside six C n h = omega arith
+
+values-inside : {w : ℕ} → Width w → (p k n : ℕ) → n ≡ k * (w * w) → p < k → p * (w * w) + w * w ≤ n
+values-inside three p k n e h = omega arith
+values-inside six p k n e h = omega arith
+
+values-few : {w : ℕ} → Width w → (k n : ℕ) → n ≡ k * (w * w) → k ≤ 2 ^ 24 → n ≤ 2 ^ 40
+values-few three k n e h = omega arith
+values-few six k n e h = omega arith
+
+-- ---- what accepted blocks are
+
+pub record Ready (b : Blocks) (x : List Float) : Type 0 where
+  pub width : Width (b .width)
+  pub rows-in : b .rows ≤ 2 ^ 20
+  pub cols-in : b .cols ≤ 2 ^ 20
+  pub blocks-in : length (b .col) ≤ 2 ^ 24
+  pub frame : Framed (blocksFor (b .width) (b .rows)) (b .ptr) (length (b .col))
+  pub values : length (b .vals) ≡ length (b .col) * (b .width * b .width)
+  pub columns : every (λ C. ltb C (blocksFor (b .width) (b .cols))) (b .col) ≡ true
+  pub x-long : length x ≡ b .cols
+
+module _ (b : Blocks) (x : List Float) (ny : ℕ) (e : applyBlocksAnswer b x ny ≡ accepted) where
+  rules : blocksAnswer b ≡ accepted
+  unfolding applyBlocksAnswer
+  rules = then-first (blocksAnswer b) (lengthIs (b .cols) (length x) andThen lengthIs (b .rows) ny) e
+
+  lengths : lengthIs (b .cols) (length x) andThen lengthIs (b .rows) ny ≡ accepted
+  unfolding applyBlocksAnswer
+  lengths = then-second (blocksAnswer b) (lengthIs (b .cols) (length x) andThen lengthIs (b .rows) ny) e
+
+  pub y-long : ny ≡ b .rows
+  y-long = length-accepted (b .rows) ny (then-second (lengthIs (b .cols) (length x)) (lengthIs (b .rows) ny) lengths)
+
+  sizes : (few (b .rows) && few (b .cols) && many (length (b .col))) ≡ true
+  unfolding blocksAnswer sizesFit
+  sizes =
+      and-left (few (b .rows) && few (b .cols) && many (length (b .col))) (many (length (b .col)))
+      (demand-accepted (blockSizes b) 1 (then-first (demand (blockSizes b) 1) (demand (blocksRules b) 12) rules))
+
+  frame : (few (b .rows) && few (b .cols)) ≡ true
+  frame = and-left (few (b .rows) && few (b .cols)) (many (length (b .col))) sizes
+
+  pub rows-few : b .rows ≤ 2 ^ 20
+  rows-few = leb-true (b .rows) (2 ^ 20) (and-left (few (b .rows)) (few (b .cols)) frame)
+
+  facts : Width (b .width) → Ready b x
+  unfolding blocksAnswer blocksRules
+  facts k =
+      let n : ℕ = length (b .col) in
+      let f : Bool = framed (blocksFor (b .width) (b .rows)) (b .ptr) n in
+      let v : Bool = eqb (length (b .vals)) (n * (b .width * b .width)) in
+      let c : Bool = every (λ C. ltb C (blocksFor (b .width) (b .cols))) (b .col) in
+      let rule : (f && v && c && rowsClimb b) ≡ true = demand-accepted (blocksRules b) 12 (then-second (demand (blockSizes b) 1) (demand (blocksRules b) 12) rules) in
+      let lists : (f && v && c) ≡ true = and-left (f && v && c) (rowsClimb b) rule in
+      record {
+        width = k;
+        rows-in = rows-few;
+        cols-in = leb-true (b .cols) (2 ^ 20) (and-right (few (b .rows)) (few (b .cols)) frame);
+        blocks-in = leb-true n (2 ^ 24) (and-right (few (b .rows) && few (b .cols)) (many n) sizes);
+        frame = framed-facts (blocksFor (b .width) (b .rows)) (b .ptr) n (and-left f v (and-left (f && v) c lists));
+        values = eqb-true (length (b .vals)) (n * (b .width * b .width)) (and-right f v (and-left (f && v) c lists));
+        columns = and-right (f && v) c lists;
+        x-long = length-accepted (b .cols) (length x) (then-first (lengthIs (b .cols) (length x)) (lengthIs (b .rows) ny) lengths);
+      }
+
+-- blocks of the size s; w is its width as the code has it
+pub ready : (s : DenseBlockSize) (w n m : ℕ) (ps cs : List ℕ) (vs x : List Float) (ny : ℕ) → w ≡ widthOf s → applyBlocksAnswer (asBlocks n m (widthOf s) ps cs vs) x ny ≡ accepted → Ready (asBlocks n m w ps cs vs) x
+ready s w n m ps cs vs x ny e a = subst (λ (k : ℕ). Ready (asBlocks n m k ps cs vs) x) (sym e) (facts (asBlocks n m (widthOf s) ps cs vs) x ny a (width-of s))
+
+-- ---- a block row, from its pointer up to the next one, as the code reads them
+
+pub record Row (b : Blocks) (x : List Float) (R from to : ℕ) : Type 0 where
+  pub ready : Ready b x
+  pub starts : from ≡ getD (b .ptr) R 0
+  pub ends : to ≡ getD (b .ptr) (R + 1) 0
+  pub order : from ≤ to
+  pub inside : to ≤ length (b .col)
+
+-- the block at place p, whose block column is C
+pub record Place (b : Blocks) (p C : ℕ) : Type 0 where
+  pub small : p < 2 ^ 24
+  pub column : b .width * C < b .cols
+  pub values : p * (b .width * b .width) + b .width * b .width ≤ length (b .vals)
+
+module _ {b : Blocks} {x : List Float} (k : Ready b x) where
+  pub full-row : (R : ℕ) → b .width * R + b .width ≤ b .rows → RowIn (b .ptr) (length (b .col)) R
+  full-row R h = row-in (blocksFor (b .width) (b .rows)) (b .ptr) (length (b .col)) R (k .frame) (row-full (k .width) R (b .rows) h)
+
+  pub row-is : (R from to : ℕ) → RowIn (b .ptr) (length (b .col)) R → from ≡ getD (b .ptr) R 0 → to ≡ getD (b .ptr) (R + 1) 0 → Row b x R from to
+  row-is R from to i p q = record { ready = k; starts = p; ends = q; order = omega (arith, i .order); inside = omega (arith, i .inside) }
+
+  pub place : (p C : ℕ) → p < length (b .col) → C ≡ getD (b .col) p 0 → Place b p C
+  place p C h e = record {
+    small = omega (arith, k .blocks-in);
+    column = column-inside (k .width) C (b .cols) (column-below (blocksFor (b .width) (b .cols)) (b .col) p C (k .columns) h e);
+    values = values-inside (k .width) p (length (b .col)) (length (b .vals)) (k .values) h;
+  }
+
+-- ---- a row r at or past the last full block row, which is before block row `last`
+
+pub record LastRow (b : Blocks) (x : List Float) (r last : ℕ) : Type 0 where
+  pub ready : Ready b x
+  pub is : last ≡ b .rows / b .width
+  pub below : b .width * last ≤ r
+  pub inside : r < b .rows
+  pub pointers : RowIn (b .ptr) (length (b .col)) last
+
+-- w and last as the code has them
+pub last-row : (s : DenseBlockSize) (w n m : ℕ) (ps cs : List ℕ) (vs x : List Float) (ny r last : ℕ) → w ≡ widthOf s → last ≡ n / widthOf s
+    → applyBlocksAnswer (asBlocks n m (widthOf s) ps cs vs) x ny ≡ accepted → widthOf s * (n / widthOf s) ≤ r → r < n → LastRow (asBlocks n m w ps cs vs) x r last
+last-row s w n m ps cs vs x ny r last ew el a h l =
+    let k : Ready (asBlocks n m w ps cs vs) x = ready s w n m ps cs vs x ny ew a in
+    let is : last ≡ n / w = el ∙ ap (λ (v : ℕ). n / v) (sym ew) in
+    let below : w * last ≤ r = rw (is, ew) h in
+    record {
+      ready = k;
+      is = is;
+      below = below;
+      inside = l;
+      pointers = row-in (blocksFor w n) ps (length cs) last (k .frame) (rw is (row-last (k .width) n r (rw is at below) l));
+    }
+
+-- the block at place p, whose block column is C, and the row's part of it
+pub record LastPlace (b : Blocks) (r last p C : ℕ) : Type 0 where
+  pub square : b .width * b .width ≤ 36
+  pub row : b .width * (r - b .width * last) + b .width ≤ b .width * b .width
+  pub column : b .width * C < b .cols
+  pub values : p * (b .width * b .width) + b .width * (r - b .width * last) + b .width ≤ length (b .vals)
+  pub few : length (b .vals) ≤ 2 ^ 40
+
+pub last-place : {b : Blocks} {x : List Float} {r last : ℕ} → LastRow b x r last → (p C : ℕ) → p < length (b .col) → C ≡ getD (b .col) p 0 → LastPlace b r last p C
+last-place {b} {x} {r} {last} k p C h e =
+    let w = k .ready .width in
+    let q = place (k .ready) p C h e in
+    let row : b .width * (r - b .width * last) + b .width ≤ b .width * b .width = row-in-block w (r - b .width * last) (rw (k .is) (local-small w (b .rows) r (k .inside))) in
+    record {
+      square = square-small w;
+      row = row;
+      column = q .column;
+      values = omega (arith, q .values);
+      few = values-few w (length (b .col)) (length (b .vals)) (k .ready .values) (k .ready .blocks-in);
+    }

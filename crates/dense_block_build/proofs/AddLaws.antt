@@ -102,5 +102,5 @@ module _ (w i n : ℕ) (cols : List ℕ) (vals : List Float) (bits starts : List
                       ap (λ (t : ℕ). take ((a + b) * t) out ++ (new ++ drop ((a + b) * t + t - (a + b) * t) (drop ((a + b) * t) out))) es
                       ∙ run-adds w i (below (bitAt bits) n) (a + b) key pos there is-key alone fs all out new long y
                       ∙ ap (inRow w i (below (bitAt bits) n) fs) (inv .is) ∙ row-append w i (below (bitAt bits) n) (zip (take k cols) (take k vals)) fs old
-                      ∙ ap (λ (es : List Entry). inRow w i (below (bitAt bits) n) es old) (sym (zip-split cols vals k (next - k) same (inv .inside)) ∙ ap (λ (m : ℕ). zip (take m cols) (take m vals)) z);
+                      ∙ ap (λ (es : List Entry). inRow w i (below (bitAt bits) n) es old) (sym (zip-split cols vals k (next - k)) ∙ ap (λ (m : ℕ). zip (take m cols) (take m vals)) z);
                 }

@@ -28,6 +28,7 @@ use Rattle.csr32.proofs.CsrLaws.{Valid, valid, row-of, entries-lent, row-lent}
 use Rattle.dense_block.specs.Blocks.{widthOf, blocksFor, inside, band, blockHas, rowBlocks, placeValue, blockOf}
 use Rattle.dense_block.specs.declared.DenseBlockSize.{DenseBlockSize}
 use Rattle.dense_block.specs.declared.DenseBlockSize.the-variants.{B3, B6}
+use Rattle.dense_block_columns.proofs.BandLaws.{blocks-few}
 use Rattle.dense_block_build.specs.Making.{addValues, inRow}
 use Rattle.dense_block_build.proofs.FlatLaws.{even-length, even-at}
 use Rattle.dense_block_build.proofs.RowLaws.{row-length, row-at, valueAt}
@@ -177,10 +178,6 @@ ranks-same p q n bits starts h r = record {
 block-low : (s : DenseBlockSize) (c n : ℕ) → c < n → c / widthOf s < blocksFor (widthOf s) n
 block-low B3 c n h = omega arith
 block-low B6 c n h = omega arith
-
-pub blocks-few : (s : DenseBlockSize) (n : ℕ) → n ≤ 2 ^ 20 → blocksFor (widthOf s) n ≤ 349526
-blocks-few B3 n h = omega arith
-blocks-few B6 n h = omega arith
 
 module _ (m : Csr) (s : DenseBlockSize) (R : ℕ) (ok : csrAnswer m ≡ accepted) where
   -- row k of the block row is row r of the plot list, where k is below the width as the code holds it

@@ -26,8 +26,9 @@ use Rattle.csr32.proofs.CsrLaws.{Valid, valid}
 use Rattle.dense_block.specs.Blocks.{widthOf, blocksFor, rowBlocks, blockOf, blocksOf, blockHas}
 use Rattle.dense_block.specs.declared.DenseBlockSize.{DenseBlockSize}
 use Rattle.dense_block.specs.declared.DenseBlockSize.the-variants.{B3, B6}
+use Rattle.dense_block_columns.proofs.BandLaws.{band-in, blocks-few}
 use Rattle.dense_block_build.proofs.NoteLaws.{below-listed}
-use Rattle.dense_block_build.proofs.BandLaws.{spread-length, blocks-few}
+use Rattle.dense_block_build.proofs.BandLaws.{spread-length}
 use Rattle.dense_block_build.proofs.SizeLaws.{width-pos}
 
 -- ---- parts written one after the other over zeros
@@ -67,10 +68,6 @@ module _ {A : Type 0} (z : A) (f : ℕ → List A) (n r : ℕ) (out : List A) (h
 
 pub in-bands : (s : DenseBlockSize) (n x R : ℕ) → x ≡ blocksFor (widthOf s) n → R < x → R < blocksFor (widthOf s) n
 in-bands s n x R e h = subst (λ (k : ℕ). R < k) e h
-
-pub in-rows : (s : DenseBlockSize) (R n : ℕ) → R < blocksFor (widthOf s) n → widthOf s * R < n
-in-rows B3 R n h = omega arith
-in-rows B6 R n h = omega arith
 
 module _ (m : Csr) (s : DenseBlockSize) where
   abbrev bands : ℕ
@@ -195,7 +192,7 @@ module _ (m : Csr) (s : DenseBlockSize) where
               → (csrAnswer m ≡ accepted) × ((widthOf s * R < m .rows) × ((bits′ ≡ maskWords (listed (rowBlocks m (widthOf s) R)) (blocksFor (widthOf s) (m .cols))) × (Ranks (listed (rowBlocks m (widthOf s) R)) (blocksFor (widthOf s) (m .cols)) bits′ starts′ × (take (b * k - a * k) (drop (a * k) out) ≡ replicate (length (rowBlocks m (widthOf s) R) * (widthOf s * widthOf s)) zero64))))
           filling-asks ok x bits′ starts′ ex e ranks =
               let p : take (b - a) (drop a col) ≡ rowBlocks m (widthOf s) R = part-is R h a b ea eb in
-              (ok, (in-rows s R (m .rows) h, (e ∙ ap₂ (λ (l : List ℕ) (y : ℕ). maskWords (listed l) y) p ex, (subst (λ (l : List ℕ). Ranks (listed l) (blocksFor (widthOf s) (m .cols)) bits′ starts′) p (subst (λ (y : ℕ). Ranks (listed (take (b - a) (drop a col))) y bits′ starts′) ex ranks), next-zeros zero64 valsAt bands R out h (inv .is) (a * k) (b * k) (values-start R h a b ea eb k ek) (values-end R h a b ea eb k ek) ∙ ap (λ (y : ℕ). replicate y zero64) (vals-long R)))))
+              (ok, (band-in s (m .rows) R h, (e ∙ ap₂ (λ (l : List ℕ) (y : ℕ). maskWords (listed l) y) p ex, (subst (λ (l : List ℕ). Ranks (listed l) (blocksFor (widthOf s) (m .cols)) bits′ starts′) p (subst (λ (y : ℕ). Ranks (listed (take (b - a) (drop a col))) y bits′ starts′) ex ranks), next-zeros zero64 valsAt bands R out h (inv .is) (a * k) (b * k) (values-start R h a b ea eb k ek) (values-end R h a b ea eb k ek) ∙ ap (λ (y : ℕ). replicate y zero64) (vals-long R)))))
 
           -- the block row is written, and its columns are forgotten
           pub filling-more : (x : ℕ) (bits′ bits″ starts′ : List ℕ) (new : List Float) → x ≡ blocksFor (widthOf s) (m .cols) → bits′ ≡ maskWords (listed (take (b - a) (drop a col))) x → bits″ ≡ zeroed (λ c. c / 64) (take (b - a) (drop a col)) bits′ → length starts′ ≡ length starts → new ≡ valsAt R

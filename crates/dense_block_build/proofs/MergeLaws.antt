@@ -9,11 +9,12 @@ use native.Mathlib.Decide.{decLt}
 use native.Mathlib.Omega.{arith}
 use lib.Dec.{eqb}
 use lib.ListN.{length, getD, take, drop, set, length-set}
-use lib.Seq.{take-suc, take-add, getD-set-same, getD-set-other, length-take-le}
+use lib.Seq.{take-suc, take-add, getD-set-same, getD-set-other}
 use lib.Ieee.{Float, nan, binary64, add}
 use borrow.Author.Tests.{eq-eqb, ne-eqb, eqb-true}
 use Rattle.lent.specs.Lists.{joined, each, only, consIf}
 use Rattle.lent.proofs.ListLaws.{each-cong, each-is, getD-each, only-append}
+use Rattle.lent.proofs.PartLaws.{take-zip, drop-zip, getD-zip, length-zip}
 use Rattle.csr32.specs.Csr.{Entry}
 use Rattle.csr32.proofs.MergedLaws.{firsts-all}
 use Rattle.dense_block_build.proofs.FlatLaws.{flat-length, flat-at}
@@ -21,24 +22,15 @@ use Rattle.dense_block_build.specs.Making.{flat, addValues, inLine, inBl
 
 -- ---- two lists side by side, in two parts
 
-pub zip-append : {A B : Type 0} (a c : List A) (b d : List B) → length a ≡ length b → zip (a ++ c) (b ++ d) ≡ zip a b ++ zip c d
-unfolding zip zipWith
-zip-append [] c [] d e = refl
-zip-append [] c (y ∷ b) d e = absurd (omega arith)
-zip-append (x ∷ a) c [] d e = absurd (omega arith)
-zip-append (x ∷ a) c (y ∷ b) d e = ap (λ (t : List _). (x, y) ∷ t) (zip-append a c b d (omega arith))
-
-pub zip-split : (cs : List ℕ) (vs : List Float) (k d : ℕ) → length vs ≡ length cs → k ≤ length cs → zip (take (k + d) cs) (take (k + d) vs) ≡ zip (take k cs) (take k vs) ++ zip (take d (drop k cs)) (take d (drop k vs))
-zip-split cs vs k d l h =
-    ap₂ (λ (s : List ℕ) (t : List Float). zip s t) (take-add k d cs) (take-add k d vs)
-    ∙ zip-append (take k cs) (take d (drop k cs)) (take k vs) (take d (drop k vs)) (length-take-le k cs h ∙ sym (length-take-le k vs (omega arith)))
+pub zip-split : (cs : List ℕ) (vs : List Float) (k d : ℕ) → zip (take (k + d) cs) (take (k + d) vs) ≡ zip (take k cs) (take k vs) ++ zip (take d (drop k cs)) (take d (drop k vs))
+zip-split cs vs k d =
+    sym (take-zip (k + d) cs vs) ∙ take-add k d (zip cs vs) ∙ ap₂ (λ (s t : List Entry). s ++ t) (take-zip k cs vs) (ap (take d) (drop-zip k cs vs) ∙ take-zip d (drop k cs) (drop k vs))
 
 -- the first k entries, and one more
-pub zip-next : (cs : List ℕ) (vs : List Float) (k : ℕ) → length vs ≡ length cs → k < length cs → zip (take (k + 1) cs) (take (k + 1) vs) ≡ zip (take k cs) (take k vs) ++ ((getD cs k 0, getD vs k nan) ∷ [])
-unfolding zip zipWith
+zip-next : (cs : List ℕ) (vs : List Float) (k : ℕ) → length vs ≡ length cs → k < length cs → zip (take (k + 1) cs) (take (k + 1) vs) ≡ zip (take k cs) (take k vs) ++ ((getD cs k 0, getD vs k nan) ∷ [])
 zip-next cs vs k l h =
-    ap (λ (n : ℕ). zip (take n cs) (take n vs)) (add-one k) ∙ ap₂ (λ (s : List ℕ) (t : List Float). zip s t) (take-suc cs k 0 h) (take-suc vs k nan (omega arith))
-    ∙ zip-append (take k cs) (getD cs k 0 ∷ []) (take k vs) (getD vs k nan ∷ []) (length-take-le k cs (omega arith) ∙ sym (length-take-le k vs (omega arith)))
+    ap (λ (n : ℕ). zip (take n cs) (take n vs)) (add-one k) ∙ sym (take-zip (suc k) cs vs) ∙ take-suc (zip cs vs) k (0, nan) (omega (arith, length-zip cs vs l))
+    ∙ ap₂ (λ (s : List Entry) (x : Entry). s ++ x ∷ []) (take-zip k cs vs) (getD-zip cs vs k 0 nan h (omega arith))
 
 -- ---- values added in stored order
 

@@ -9,14 +9,17 @@ use native.Mathlib.Omega.{arith}
 use lib.Dec.{ltb}
 use lib.ListN.{length, getD, take, length-append}
 use lib.Seq.{take-suc, take-all}
-use borrow.Author.Tests.{ltb-true}
+use borrow.Author.Tests.{ltb-true, lt-ltb}
+use Rattle.hybit_core.specs.Answer.{accepted}
 use Rattle.lent.specs.Lists.{joined, every}
 use Rattle.lent.proofs.ListLaws.{every-getD, length-joined-suc, length-joined-le}
-use Rattle.dense_block.specs.Blocks.{widthOf, blocksFor, inside, sumOf, rowBlocks, rowSlots, validSlots}
+use Rattle.dense_block.specs.Blocks.{widthOf, blocksFor, inside, sumOf, blockHas, rowBlocks, rowSlots, validSlots}
 use Rattle.dense_block.specs.declared.DenseBlockSize.{DenseBlockSize}
-use Rattle.csr32.specs.Csr.{Csr}
+use Rattle.word.proofs.BitLaws.{every-below}
+use Rattle.csr32.specs.Csr.{Csr, csrAnswer}
+use Rattle.csr32.proofs.CsrLaws.{valid}
+use Rattle.dense_block_columns.proofs.BandLaws.{band-in, blocks-most}
 use Rattle.dense_block_build.proofs.SizeLaws.{width-six}
-use Rattle.dense_block_build.proofs.FillLaws.{in-rows}
 
 -- ---- sums
 
@@ -48,7 +51,7 @@ module _ (w ncols rows : ℕ) (cs : List ℕ) where
       slotting-inside e =
           let l : c < blocksFor (widthOf s) ncols =
           subst (λ (x : ℕ). x < blocksFor (widthOf s) ncols) (sym ec) (ltb-true (getD cs k 0) (blocksFor (widthOf s) ncols) (every-getD (λ c. ltb c (blocksFor (widthOf s) ncols)) cs k 0 e h)) in
-          subst (λ (x : ℕ). x * c < ncols) (sym ew) (in-rows s c ncols l)
+          subst (λ (x : ℕ). x * c < ncols) (sym ew) (band-in s ncols c l)
 
       module _ (x : ℕ) (ex : x ≡ min w (ncols - w * c)) (six : rows ≤ 6) where
         pub slotting-small : rows * x ≤ 36
@@ -94,7 +97,7 @@ module _ (m : Csr) (s : DenseBlockSize) where
     -- the block row's block columns are cs, and x of its rows, at width v, lie inside the frame
     module _ (h : R < blocksFor (widthOf s) (m .rows)) (v : ℕ) (ev : v ≡ widthOf s) where
       pub counting-first : v * R < m .rows
-      counting-first = subst (λ (u : ℕ). u * R < m .rows) (sym ev) (in-rows s R (m .rows) h)
+      counting-first = subst (λ (u : ℕ). u * R < m .rows) (sym ev) (band-in s (m .rows) R h)
 
       module _ (cs : List ℕ) (ec : cs ≡ rowBlocks m (widthOf s) R) (x : ℕ) (ex : x ≡ min v (m .rows - v * R)) where
         row-is : x ≡ inside (widthOf s) (m .rows) R

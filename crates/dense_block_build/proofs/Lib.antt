@@ -8,3 +8,4 @@ pub mod NoteLaws
 pub mod BandLaws
 pub mod FillLaws
 pub mod SlotLaws
+pub mod BuildLaws

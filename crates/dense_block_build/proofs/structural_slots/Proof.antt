@@ -1,29 +1,23 @@
+-- `dense_block_build::structural_slots` meets its contract. Assumes nothing.
+use Rattle.dense_block_build.proofs.BuildLaws.{count-given, count-never}
 use borrow.Author.Needs.{needs}
 use Rattle.dense_block_build.proofs.structural_slots.Statement.{statement}
 use Rattle.dense_block_build.proofs.structural_slots.Tie as tie
-use Rattle.dense_block_build.proofs.structural_slots.Reads as reads
-use Rattle.dense_block_build.proofs.structural_slots.Lts as lts
-use Rattle.dense_block_counts.proofs.structural_slots.Reads as structural-slots-reads
 
--- src/lib.rt:427:9
 structural-slots-requires : tie.Need-structural-slots-requires
 structural-slots-requires c κs = search needs
 
--- src/lib.rt:428:28
 enum-known-answer : tie.Need-enum-known-answer
 enum-known-answer c = search needs
 
--- src/lib.rt:429:9
 enum-told : tie.Need-enum-told
 enum-told c = search needs
 
--- src/lib.rt:429:9
 returns : tie.Need-returns
-returns c = search needs
+returns c = count-never _ _ _ _ _ (c .before .before .before .before .before .before .pre) (c .before .before .structural-slots .ensures) (c .enum-told .given .1)
 
--- src/lib.rt:417:1
 returns-2 : tie.Need-returns-2
-returns-2 c = search needs
+returns-2 c = count-given _ _ _ _ (c .before .before .before .before .before .before .before .pre) (c .before .before .before .structural-slots .ensures) (c .before .answer .given .1)
 
 pub structural-slots-spec : {M : Type 1} → statement M
 structural-slots-spec =

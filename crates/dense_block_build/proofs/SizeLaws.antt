@@ -28,6 +28,13 @@ block-fits s w n e l = (omega (arith, width-six s), l ∙ ap (λ (k : ℕ). k * 
 pub square-is : (s : DenseBlockSize) (w : ℕ) → w ≡ widthOf s → w * w ≡ widthOf s * widthOf s
 square-is s w e = ap (λ (k : ℕ). k * k) e
 
+pub square-pos : (s : DenseBlockSize) (w : ℕ) → w ≡ widthOf s → 0 < w * w
+square-pos s w e = rw (square-is s w e) (positive s)
+  where
+    positive : (s : DenseBlockSize) → 0 < widthOf s * widthOf s
+    positive B3 = omega arith
+    positive B6 = omega arith
+
 pub square-small : (s : DenseBlockSize) (w : ℕ) → w ≡ widthOf s → w * w ≤ 36
 square-small s w e = rw (square-is s w e) (small s)
   where

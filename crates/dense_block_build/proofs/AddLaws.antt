@@ -1,12 +1,12 @@
 -- The entries of one row, added to the blocks of its block row a run at a time. Assumes nothing.
-use mathlib.Core.Bool.{Bool, true}
-use mathlib.Core.List.{List, [], _∷_, _++_, zip, zipWith}
-use mathlib.Core.Path.{_≡_, refl, sym, ap, ap₂, _∙_, subst}
+use mathlib.Core.Bool.{true}
+use mathlib.Core.List.{List, _++_, zip, zipWith}
+use mathlib.Core.Path.{_≡_, sym, ap, ap₂, _∙_, subst}
 use Prim.Native.Nat.{ℕ, _+_, _-_, _*_, _/_, _%_, _≤_, _<_, zero-le}
 use native.Mathlib.Omega.{arith}
 use lib.Dec.{eqb, ltb}
 use lib.ListN.{length, getD, take, drop, length-take, length-drop}
-use lib.Ieee.{Float, nan}
+use lib.Ieee.{Float}
 use borrow.Author.Tests.{ltb-true}
 use Rattle.lent.specs.Lists.{every}
 use Rattle.lent.proofs.ListLaws.{every-getD, every-left}

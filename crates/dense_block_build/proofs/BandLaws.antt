@@ -3,7 +3,7 @@ use mathlib.Core.Bool.{Bool, true, false, cond, _||_, or-true, true≢false}
 use mathlib.Core.List.{List, [], _∷_, _++_, zip, append-assoc, append-nil}
 use mathlib.Core.Path.{_≡_, refl, sym, ap, ap₂, _∙_, subst}
 use Prim.Native.Nat.{ℕ, zero, suc, _+_, _-_, _*_, _/_, _%_, _^_, _≤_, _<_, min, zero-le}
-use native.Mathlib.Nat.{mod-lt, mul-comm, mul-assoc, mul-lt-mul-of-pos-left, mul-zero, div-add-mod, div-lt-iff-lt-mul, mul-add-mod-self-right, mul-add-mod-self-left}
+use native.Mathlib.Nat.{mod-lt, mul-comm, mul-assoc, mul-lt-mul-of-pos-left, mul-zero, div-add-mod, div-lt-iff-lt-mul, mul-add-mod-self-left}
 use native.Mathlib.Decide.{decLt, ℕ-discrete}
 use native.Mathlib.Omega.{arith}
 use lib.Dec.{eqb, ltb}
@@ -15,7 +15,7 @@ use Rattle.hybit_core.specs.Floats.{zero64}
 use Rattle.hybit_core.proofs.BoolLaws.{same-test}
 use Rattle.lent.specs.Lists.{joined, each, only, every, some, spread}
 use Rattle.lent.proofs.ListLaws.{each-cong, each-is, each-same, getD-each, length-each, every-by, every-at, every-listed, some-left, some-by, joined-at}
-use Rattle.word.specs.Bits.{below, count, ceil64}
+use Rattle.word.specs.Bits.{below, count}
 use Rattle.word.proofs.BelowLaws.{below-cong}
 use Rattle.word.proofs.BitLaws.{within-in, count-cong}
 use Rattle.mask.specs.Mask.{bitAt, maskWords}
@@ -24,7 +24,7 @@ use Rattle.mask.proofs.MaskLaws.{bit-of-words}
 use Rattle.levels.specs.Ranks.{Ranks}
 use Rattle.csr32.specs.Csr.{Csr, Entry, csrAnswer, entries, merged, ofColumn}
 use Rattle.csr32.proofs.FrameLaws.{RowIn}
-use Rattle.csr32.proofs.CsrLaws.{Valid, valid, row-of, entries-lent, row-lent}
+use Rattle.csr32.proofs.CsrLaws.{valid, row-of, entries-lent, row-lent}
 use Rattle.dense_block.specs.Blocks.{widthOf, blocksFor, inside, band, blockHas, rowBlocks, placeValue, blockOf}
 use Rattle.dense_block.specs.declared.DenseBlockSize.{DenseBlockSize}
 use Rattle.dense_block.specs.declared.DenseBlockSize.the-variants.{B3, B6}
@@ -33,7 +33,6 @@ use Rattle.dense_block_build.specs.Making.{addValues, inRow}
 use Rattle.dense_block_build.proofs.FlatLaws.{even-length, even-at}
 use Rattle.dense_block_build.proofs.RowLaws.{row-length, row-at, valueAt}
 use Rattle.dense_block_build.proofs.NoteLaws.{listed-below}
-use Rattle.dense_block_build.proofs.SizeLaws.{width-pos}
 
 -- ---- lists over the elements of a list
 
@@ -104,7 +103,7 @@ module _ (m : Csr) (w R : ℕ) (cs : List ℕ) (pos : 0 < w) where
   spread-length =
       ap length (spread-places (blockOf m w R) cs 0) ∙ even-length (λ k. blockOf m w R (getD cs k 0)) (w * w) (λ k. block-even (getD cs k 0)) (length cs) ∙ mul-comm (w * w) (length cs)
 
-  pub spread-at : (q : ℕ) → q < length cs * (w * w) → getD (spread (blockOf m w R) cs) q nan ≡ placeValue m (w * R + rowAt q) (colAt q)
+  spread-at : (q : ℕ) → q < length cs * (w * w) → getD (spread (blockOf m w R) cs) q nan ≡ placeValue m (w * R + rowAt q) (colAt q)
   spread-at q h =
       ap (λ (l : List Float). getD l q nan) (spread-places (blockOf m w R) cs 0)
       ∙ even-at (λ k. blockOf m w R (getD cs k 0)) (w * w) (λ k. block-even (getD cs k 0)) (length cs) q nan square h
@@ -191,7 +190,7 @@ module _ (m : Csr) (s : DenseBlockSize) (R : ℕ) (ok : csrAnswer m ≡ accepted
   band-first v e h = subst (λ (u : ℕ). u * R < m .rows) (sym e) h
 
   module _ (v k : ℕ) (e : v ≡ widthOf s) (h : k < inside (widthOf s) (m .rows) R) where
-    pub band-row : v * R + k < m .rows
+    band-row : v * R + k < m .rows
     band-row = omega (arith, ap (λ (u : ℕ). u * R) e)
 
     pub band-few : v * R + k + 1 ≤ 2 ^ 20
@@ -225,7 +224,7 @@ module _ (m : Csr) (s : DenseBlockSize) (R : ℕ) (ok : csrAnswer m ≡ accepted
         unfolding rowBlocks
         has-block c l = listed-below (blockHas m (widthOf s) R) n c l
 
-        pub band-columns : below (bitAt bits) n ≡ rowBlocks m (widthOf s) R
+        band-columns : below (bitAt bits) n ≡ rowBlocks m (widthOf s) R
         unfolding rowBlocks
         band-columns = below-cong (bitAt bits) (blockHas m (widthOf s) R) n (λ c l. bit-is c l ∙ has-block c l)
 

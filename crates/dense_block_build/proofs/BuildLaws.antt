@@ -1,9 +1,8 @@
 -- Laws of the public build: its figures, which lists are too short, and what each of its ends answers and leaves. Assumes nothing.
 use mathlib.Core.Bool.{Bool, true, false, _&&_}
-use mathlib.Core.List.{List, [], _∷_, _++_}
+use mathlib.Core.List.{List, [], _++_}
 use mathlib.Core.Path.{_≡_, refl, sym, ap, ap₂, _∙_, subst}
-use Prim.Native.Nat.{ℕ, _+_, _-_, _*_, _/_, _^_, _≤_, _<_}
-use native.Mathlib.Numerals.{add-one}
+use Prim.Native.Nat.{ℕ, _+_, _-_, _*_, _/_, _≤_, _<_}
 use native.Mathlib.Nat.{div-lt-iff-lt-mul, div-mul-le-self, mul-le-mul-right}
 use native.Mathlib.Omega.{arith}
 use lib.Dec.{leb}
@@ -15,10 +14,9 @@ use Rattle.hybit_core.specs.Answer.{Answer, accepted, refused, plain, demand, _
 use Rattle.hybit_core.specs.Floats.{zero64}
 use Rattle.hybit_core.specs.Table.{paper, toldCount}
 use Rattle.hybit_core.specs.declared.HybitError.{HybitError}
-use Rattle.hybit_core.specs.declared.HybitError.the-variants.{ShortList}
 use Rattle.hybit_core.specs.declared.CountAnswer.{CountAnswer}
 use Rattle.hybit_core.specs.declared.CountAnswer.the-variants as counted
-use Rattle.hybit_core.proofs.BoolLaws.{and-left, and-right, and-both}
+use Rattle.hybit_core.proofs.BoolLaws.{and-left, and-right}
 use Rattle.hybit_core.proofs.AnswerLaws.{demand-accepted, then-first, then-second}
 use Rattle.lent.specs.Lent.{padded, built}
 use Rattle.lent.proofs.LentLaws.{front-zeros, written-front}
@@ -68,7 +66,7 @@ module _ (m : Csr) (s : DenseBlockSize) (ok : csrAnswer m ≡ accepted) where
 
   -- blocks of them, of width v
   module _ (blocks v : ℕ) (eb : blocks ≡ length (blocksOf m (widthOf s) .col)) (ev : v ≡ widthOf s) where
-    pub slots-are : blocks * (v * v) ≡ length (blocksOf m (widthOf s) .vals)
+    slots-are : blocks * (v * v) ≡ length (blocksOf m (widthOf s) .vals)
     slots-are = ap₂ (λ (x y : ℕ). x * y) eb (square-is s v ev) ∙ sym (vals-count m s)
 
     pub slots-room : (n : ℕ) → blocks * (widthOf s * widthOf s) ≤ n → blocks * (v * v) ≤ n
@@ -84,9 +82,9 @@ module _ (m : Csr) (s : DenseBlockSize) (ok : csrAnswer m ≡ accepted) where
       values-written new e = written-front zero64 (blocks * (v * v)) n zeros new ez (ap length e ∙ sym slots-are) ∙ ap (padded zero64 n) e
 
     pub figures-are : (bands st va : ℕ) → bands ≡ blocksFor (widthOf s) (m .rows) → st ≡ structuralSlots m → va ≡ validSlots m (widthOf s)
-        → _≡_ {A = DenseBlocks} (record { nrows = m .rows; ncols = m .cols; «block_rows» = bands; «unique_blocks» = blocks; «dense_value_slots» = blocks * (v * v); «structural_slots» = st; «valid_dense_slots» = va; }) (figuresOf m (widthOf s))
+        → _≡_ {A = DenseBlocks} (record { nrows = m .rows; ncols = m .cols; «block_rows» = bands; «unique_blocks» = blocks; «dense_value_slots» = blocks * (v * v); «structural_slots» = st; «valid_dense_slots» = va }) (figuresOf m (widthOf s))
     unfolding figuresOf
-    figures-are bands st va x y z = λ i. record { nrows = m .rows; ncols = m .cols; «block_rows» = x i; «unique_blocks» = eb i; «dense_value_slots» = slots-are i; «structural_slots» = y i; «valid_dense_slots» = z i; }
+    figures-are bands st va x y z = λ i. record { nrows = m .rows; ncols = m .cols; «block_rows» = x i; «unique_blocks» = eb i; «dense_value_slots» = slots-are i; «structural_slots» = y i; «valid_dense_slots» = z i }
 
 -- ---- what the call answers, and what its lists of np, nc and nv places hold
 
@@ -172,11 +170,16 @@ module _ (m : Csr) (s : DenseBlockSize) (np nc nv : ℕ) (r : CountAnswer) (e : 
             → (csrAnswer m ≡ accepted) × ((blocks ≡ length (blocksOf m (widthOf s) .col)) × (Padded 0 (blocksOf m (widthOf s) .ptr) op × (Padded 0 (blocksOf m (widthOf s) .col) oc × (blocks * (widthOf s * widthOf s) ≤ nv))))
         fill-asks op oc lp lc x y =
             let p : leb (length (blocksOf m (widthOf s) .ptr)) np ≡ true = and-left (leb (length (blocksOf m (widthOf s) .ptr)) np) (leb (length (blocksOf m (widthOf s) .col)) nc) fitting in
-            let q : leb (length (blocksOf m (widthOf s) .col)) nc ≡ true = and-right (leb (length (blocksOf m (widthOf s) .ptr)) np) (leb (length (blocksOf m (widthOf s) .col)) nc) fitting in
-            (checked, (made .1, (
-              record { room = omega (arith, leb-true (length (blocksOf m (widthOf s) .ptr)) np p); is = x ∙ ap₂ (λ (a : Answer) (n : ℕ). built 0 n a (blocksOf m (widthOf s) .ptr)) (made .0) (sym lp) },
-              (record { room = omega (arith, leb-true (length (blocksOf m (widthOf s) .col)) nc q); is = y ∙ ap₂ (λ (a : Answer) (n : ℕ). built 0 n a (blocksOf m (widthOf s) .col)) (made .0) (sym lc) }, subst (λ (w : ℕ). blocks * w ≤ nv) (square-is s v ev) room),
-            )))
+            let q : leb (length (blocksOf m (widthOf s) .col)) nc ≡ true = and-right (leb (length (blocksOf m (widthOf s) .ptr)) np) (leb (length (blocksOf m (widthOf s) .col)) nc) fitting in (
+              checked,
+              (
+                made .1,
+                (
+                  record { room = omega (arith, leb-true (length (blocksOf m (widthOf s) .ptr)) np p); is = x ∙ ap₂ (λ (a : Answer) (n : ℕ). built 0 n a (blocksOf m (widthOf s) .ptr)) (made .0) (sym lp) },
+                  (record { room = omega (arith, leb-true (length (blocksOf m (widthOf s) .col)) nc q); is = y ∙ ap₂ (λ (a : Answer) (n : ℕ). built 0 n a (blocksOf m (widthOf s) .col)) (made .0) (sym lc) }, subst (λ (w : ℕ). blocks * w ≤ nv) (square-is s v ev) room),
+                ),
+              ),
+            )
 
         pub blocks-built : (figures : DenseBlocks) (op oc : List ℕ) (ov : List Float) → figures ≡ figuresOf m (widthOf s) → op ≡ built 0 np (columnsAnswer m (widthOf s) np nc) (blocksOf m (widthOf s) .ptr) → oc ≡ built 0 nc (columnsAnswer m (widthOf s) np nc) (blocksOf m (widthOf s) .col) → ov ≡ padded zero64 nv (blocksOf m (widthOf s) .vals)
             → Result (buildBlocksAnswer m (widthOf s) (asCsrRoom np nc nv)) (gives figures) m (widthOf s) np nc nv op oc ov

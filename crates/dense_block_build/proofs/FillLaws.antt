@@ -1,8 +1,8 @@
 -- The values of all block rows, one after the other, each written over zeros. Assumes nothing.
-use mathlib.Core.Bool.{Bool, true, false}
-use mathlib.Core.List.{List, [], _∷_, _++_, append-assoc, append-nil}
+use mathlib.Core.Bool.{false}
+use mathlib.Core.List.{List, _++_, append-assoc, append-nil}
 use mathlib.Core.Path.{_≡_, refl, sym, ap, ap₂, _∙_, subst}
-use Prim.Native.Nat.{ℕ, zero, suc, _+_, _-_, _*_, _/_, _%_, _^_, _≤_, _<_, zero-le}
+use Prim.Native.Nat.{ℕ, zero, suc, _+_, _-_, _*_, _/_, _^_, _≤_, _<_, zero-le}
 use native.Mathlib.Nat.{zero-mul, add-mul, mul-le-mul-right}
 use native.Mathlib.Numerals.{add-one}
 use native.Mathlib.Omega.{arith}
@@ -12,7 +12,7 @@ use lib.Ieee.{Float}
 use Rattle.hybit_core.specs.Answer.{accepted}
 use Rattle.hybit_core.specs.Floats.{zero64}
 use Rattle.lent.specs.Lists.{joined, starts, part, spread}
-use Rattle.lent.proofs.ListLaws.{joined-lengths, length-joined-le, length-joined-suc, getD-starts, length-starts, part-joined, part-lent, part-mid, zeros-front}
+use Rattle.lent.proofs.ListLaws.{length-joined-le, length-joined-suc, getD-starts, length-starts, part-joined, part-lent, part-mid, zeros-front}
 use Rattle.word.specs.Bits.{below, ceil64}
 use Rattle.mask.specs.Mask.{maskWords}
 use Rattle.mask.specs.Calls.{listed}
@@ -22,10 +22,9 @@ use Rattle.levels.specs.Ranks.{Ranks}
 use Rattle.levels.proofs.LevelLaws.{zeros-long}
 use Rattle.levels.proofs.ClearLaws.{forgotten}
 use Rattle.csr32.specs.Csr.{Csr, csrAnswer}
-use Rattle.csr32.proofs.CsrLaws.{Valid, valid}
+use Rattle.csr32.proofs.CsrLaws.{valid}
 use Rattle.dense_block.specs.Blocks.{widthOf, blocksFor, rowBlocks, blockOf, blocksOf, blockHas}
 use Rattle.dense_block.specs.declared.DenseBlockSize.{DenseBlockSize}
-use Rattle.dense_block.specs.declared.DenseBlockSize.the-variants.{B3, B6}
 use Rattle.dense_block_columns.proofs.BandLaws.{band-in, blocks-few}
 use Rattle.dense_block_build.proofs.NoteLaws.{below-listed}
 use Rattle.dense_block_build.proofs.BandLaws.{spread-length}
@@ -89,15 +88,15 @@ module _ (m : Csr) (s : DenseBlockSize) where
       length-append (joined valsAt k) (valsAt k) ∙ ap₂ (λ (a b : ℕ). a + b) (all-long k) (vals-long k)
       ∙ sym (add-mul (length (joined colsAt k)) (length (colsAt k)) (widthOf s * widthOf s)) ∙ ap (λ (a : ℕ). a * (widthOf s * widthOf s)) (sym (length-append (joined colsAt k) (colsAt k)))
 
-  pub ptr-is : blocksOf m (widthOf s) .ptr ≡ starts colsAt bands
+  ptr-is : blocksOf m (widthOf s) .ptr ≡ starts colsAt bands
   unfolding blocksOf
   ptr-is = refl
 
-  pub col-is : blocksOf m (widthOf s) .col ≡ joined colsAt bands
+  col-is : blocksOf m (widthOf s) .col ≡ joined colsAt bands
   unfolding blocksOf
   col-is = refl
 
-  pub vals-is : blocksOf m (widthOf s) .vals ≡ joined valsAt bands
+  vals-is : blocksOf m (widthOf s) .vals ≡ joined valsAt bands
   unfolding blocksOf
   vals-is = refl
 
@@ -156,7 +155,7 @@ module _ (m : Csr) (s : DenseBlockSize) where
       pub filling-bits : (old : List ℕ) → old ≡ maskWords (λ c. false) (blocksFor (widthOf s) (m .cols)) → length bits ≡ length old
       filling-bits old e = ap length (inv .bits-are ∙ sym e)
 
-      pub filling-long : length out ≡ length (joined valsAt bands)
+      filling-long : length out ≡ length (joined valsAt bands)
       filling-long =
           let x : ℕ = length (joined valsAt bands) - length (joined valsAt R) in
           omega (arith, ap length (inv .is), length-append (joined valsAt R) (replicate x zero64), length-replicate x zero64, length-joined-le valsAt R bands (inv .within))

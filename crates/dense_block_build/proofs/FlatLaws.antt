@@ -1,6 +1,5 @@
 -- A block's numbers as one list, row after row: copied in, copied out, and merged into. Assumes nothing.
-use mathlib.Core.Bool.{Bool, true, false}
-use mathlib.Core.List.{List, [], _∷_, _++_, zip, append-assoc}
+use mathlib.Core.List.{List, [], _∷_, _++_, append-assoc}
 use mathlib.Core.Path.{_≡_, refl, sym, ap, ap₂, _∙_}
 use Prim.Native.Nat.{ℕ, zero, suc, _+_, _-_, _*_, _/_, _%_, _≤_, _<_, zero-le}
 use native.Mathlib.Nat.{mul-zero, mul-suc, mul-le-mul-left, mod-lt, div-add-mod, div-lt-iff-lt-mul}
@@ -28,7 +27,7 @@ module _ {A : Type 0} (f : ℕ → List A) (w : ℕ) (even : (i : ℕ) → lengt
       ap (λ (m : ℕ). getD (joined f n) m d) (sym e) ∙ getD-joined f (q / w) n (q % w) d r (rw even (mod-lt q pos))
 
 -- one more element of a list is stored: what is made of the elements, one after the other
-pub joined-set : {A B : Type 0} (g : A → List B) (l : List A) (n : ℕ) (x d : A) → n < length l → joined (λ i. g (getD (set l n x) i d)) (suc n) ≡ joined (λ i. g (getD l i d)) n ++ g x
+joined-set : {A B : Type 0} (g : A → List B) (l : List A) (n : ℕ) (x d : A) → n < length l → joined (λ i. g (getD (set l n x) i d)) (suc n) ≡ joined (λ i. g (getD l i d)) n ++ g x
 unfolding joined
 joined-set g l n x d h =
     ap₂ (λ (s t : List _). s ++ t) (joined-cong (λ i. g (getD (set l n x) i d)) (λ i. g (getD l i d)) n (λ i b. ap g (getD-set-other l n i x d (λ q. omega arith))))

@@ -1,8 +1,8 @@
 -- Entries of one block merged into a row of it, in stored order. Assumes nothing.
 use mathlib.Core.Bool.{Bool, true, false, cond}
-use mathlib.Core.List.{List, [], _∷_, _++_, zip, zipWith, foldl, foldl-append}
+use mathlib.Core.List.{List, [], _∷_, _++_, zip, zipWith, foldl-append}
 use mathlib.Core.Path.{_≡_, refl, sym, ap, ap₂, _∙_}
-use Prim.Native.Nat.{ℕ, zero, suc, _+_, _-_, _*_, _/_, _%_, _≤_, _<_, zero-le}
+use Prim.Native.Nat.{ℕ, suc, _+_, _-_, _*_, _/_, _%_, _≤_, _<_, zero-le}
 use native.Mathlib.Nat.{mod-lt}
 use native.Mathlib.Numerals.{add-one}
 use native.Mathlib.Decide.{decLt}
@@ -11,8 +11,8 @@ use lib.Dec.{eqb}
 use lib.ListN.{length, getD, take, drop, set, length-set}
 use lib.Seq.{take-suc, take-add, getD-set-same, getD-set-other}
 use lib.Ieee.{Float, nan, binary64, add}
-use borrow.Author.Tests.{eq-eqb, ne-eqb, eqb-true}
-use Rattle.lent.specs.Lists.{joined, each, only, consIf}
+use borrow.Author.Tests.{eq-eqb, ne-eqb}
+use Rattle.lent.specs.Lists.{each, only, consIf}
 use Rattle.lent.proofs.ListLaws.{each-cong, each-is, getD-each, only-append}
 use Rattle.lent.proofs.PartLaws.{take-zip, drop-zip, getD-zip, length-zip}
 use Rattle.csr32.specs.Csr.{Entry}
@@ -46,7 +46,7 @@ add-append s es fs = foldl-append (λ (t : Float) (e : Entry). add binary64 t (e
 pub add-only : (p : Entry → Bool) (s : Float) (es fs : List Entry) → addValues s (only p (es ++ fs)) ≡ addValues (addValues s (only p es)) (only p fs)
 add-only p s es fs = ap (addValues s) (only-append p es fs) ∙ add-append s (only p es) (only p fs)
 
-pub add-snoc : (p : Entry → Bool) (s : Float) (es : List Entry) (c : ℕ) (v : Float) (t : Bool) → p (c, v) ≡ t → addValues s (only p (es ++ ((c, v) ∷ []))) ≡ cond t (add binary64 (addValues s (only p es)) v) (addValues s (only p es))
+add-snoc : (p : Entry → Bool) (s : Float) (es : List Entry) (c : ℕ) (v : Float) (t : Bool) → p (c, v) ≡ t → addValues s (only p (es ++ ((c, v) ∷ []))) ≡ cond t (add binary64 (addValues s (only p es)) v) (addValues s (only p es))
 unfolding only addValues
 add-snoc p s es c v t e = add-only p s es ((c, v) ∷ []) ∙ ap (λ (b : Bool). addValues (addValues s (only p es)) (consIf b (c, v) [])) e ∙ go t
   where

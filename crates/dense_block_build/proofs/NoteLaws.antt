@@ -1,19 +1,19 @@
 -- The block columns of a block row, noted one after the other: a bitmap of them, and the place of each word's first. Assumes nothing.
-use mathlib.Core.Bool.{Bool, true, false, not, _||_, true≢false, or-true}
+use mathlib.Core.Bool.{Bool, true, false, not, _||_, true≢false}
 use mathlib.Core.List.{List}
 use mathlib.Core.Path.{_≡_, refl, sym, ap, ap₂, _∙_}
 use Prim.Native.Nat.{ℕ, _+_, _*_, _/_, _%_, _^_, _≤_, _<_, zero-le}
 use native.Mathlib.Nat.{mod-eq-of-lt}
-use native.Mathlib.Decide.{decLt, ℕ-discrete}
+use native.Mathlib.Decide.{ℕ-discrete}
 use native.Mathlib.Omega.{arith}
-use lib.Dec.{eqb, ltb}
+use lib.Dec.{eqb}
 use lib.ListN.{length, getD, take, set, length-set}
 use lib.Seq.{take-all, getD-take, getD-set-same, getD-set-other, length-take-le}
 use borrow.Author.Tests.{eq-eqb, ne-eqb, eqb-true}
 use Rattle.hybit_core.proofs.BoolLaws.{same-test}
 use Rattle.lent.specs.Lists.{some}
 use Rattle.lent.proofs.ListLaws.{some-getD, some-every}
-use Rattle.word.specs.Bits.{has, below, count, within, wordOf, maskOf, hit, ceil64}
+use Rattle.word.specs.Bits.{has, below, count, wordOf, maskOf, hit, ceil64}
 use Rattle.word.proofs.BelowLaws.{rank-lt, selects, below-at-rank, below-trim, below-cong, length-block, length-below-le}
 use Rattle.word.proofs.BitLaws.{has-none, has-mask-of, within-in, every-below, some-below, count-cong}
 use Rattle.word.proofs.WordLaws.{hit-member}
@@ -73,7 +73,7 @@ module _ (n : ℕ) (cs starts₀ : List ℕ) where
       ranked : count (listed cs) c ≡ k
       ranked = ap (count (listed cs)) (sym at-c) ∙ selects (listed cs) n k short .ranked
 
-      pub noting-few : k < n
+      noting-few : k < n
       noting-few = omega (arith, short, length-below-le (listed cs) n)
 
       pub noting-bits : c / 64 < length bits

@@ -1,19 +1,19 @@
 -- Entries of one row added to the values of the blocks of its block row. Assumes nothing.
 use mathlib.Core.Bool.{Bool, true, false, cond}
-use mathlib.Core.List.{List, [], _∷_, _++_, zip}
+use mathlib.Core.List.{List, [], _∷_, _++_}
 use mathlib.Core.Path.{_≡_, refl, sym, ap, ap₂, _∙_}
-use Prim.Native.Nat.{ℕ, zero, suc, _+_, _-_, _*_, _/_, _%_, _≤_, _<_}
-use native.Mathlib.Nat.{mod-lt, mod-eq-of-lt, mul-zero, mul-assoc, add-mul, mul-le-mul-right, mul-add-mod-self-right, mul-add-mod-self-left, mul-add-div, mul-lt-mul-of-pos-left, one-mul, add-zero, div-add-mod', div-eq-of-lt, div-eq-of-lt-le, div-add-mod, div-lt-iff-lt-mul}
+use Prim.Native.Nat.{ℕ, _+_, _-_, _*_, _/_, _%_, _≤_, _<_}
+use native.Mathlib.Nat.{mod-lt, mod-eq-of-lt, mul-zero, mul-assoc, add-mul, mul-le-mul-right, mul-add-mod-self-right, mul-add-div, mul-lt-mul-of-pos-left, one-mul, add-zero, div-add-mod', div-eq-of-lt, div-eq-of-lt-le, div-add-mod, div-lt-iff-lt-mul}
 use native.Mathlib.Numerals.{add-one}
 use native.Mathlib.Decide.{decLt}
 use native.Mathlib.Omega.{arith}
 use lib.Dec.{eqb}
 use lib.ListN.{length, getD, take, drop, length-append, length-drop, List·getD-append}
-use lib.Seq.{take-all, getD-take, getD-drop, getD-append-add, length-take-le}
+use lib.Seq.{getD-take, getD-drop, getD-append-add, length-take-le}
 use lib.Ieee.{Float, nan}
 use borrow.Author.Tests.{eq-eqb, ne-eqb, eqb-true}
 use Rattle.hybit_core.proofs.BoolLaws.{same-test, and-left, and-right}
-use Rattle.lent.specs.Lists.{each, only, consIf, every}
+use Rattle.lent.specs.Lists.{only, consIf, every}
 use Rattle.lent.proofs.ListLaws.{each-cong, each-is, getD-each, length-each}
 use Rattle.csr32.specs.Csr.{Entry, ofColumn}
 use Rattle.dense_block_build.specs.Making.{addValues, inBlock, inRow}

@@ -2,17 +2,17 @@
 use mathlib.Core.List.{List, [], _∷_, _++_, map, map-append, foldl, foldl-append}
 use mathlib.Core.Bool.{true}
 use mathlib.Core.Path.{_≡_, refl, sym, ap, ap₂, _∙_, subst}
-use Prim.Native.Nat.{ℕ, zero, suc, _+_, _-_, _*_, _≤_, _<_, _^_, min, zero-le}
+use Prim.Native.Nat.{ℕ, _+_, _-_, _*_, _≤_, _<_, _^_, min, zero-le}
 use native.Mathlib.Nat.{mul-le-mul, zero-add}
 use native.Mathlib.Numerals.{add-one}
 use native.Mathlib.Omega.{arith}
 use lib.Dec.{ltb}
-use lib.ListN.{length, getD, take, length-append}
+use lib.ListN.{length, getD, take}
 use lib.Seq.{take-suc, take-all}
 use borrow.Author.Tests.{ltb-true, lt-ltb}
 use Rattle.hybit_core.specs.Answer.{accepted}
 use Rattle.lent.specs.Lists.{joined, every}
-use Rattle.lent.proofs.ListLaws.{every-getD, length-joined-suc, length-joined-le}
+use Rattle.lent.proofs.ListLaws.{every-getD, length-joined-suc}
 use Rattle.dense_block.specs.Blocks.{widthOf, blocksFor, inside, sumOf, blockHas, rowBlocks, rowSlots, validSlots}
 use Rattle.dense_block.specs.declared.DenseBlockSize.{DenseBlockSize}
 use Rattle.word.proofs.BitLaws.{every-below}
@@ -27,7 +27,7 @@ sum-from : (a : ℕ) (l : List ℕ) → foldl _+_ a l ≡ a + sumOf l
 sum-from a [] = omega arith
 sum-from a (b ∷ l) = sum-from (a + b) l ∙ omega (arith, sum-from (0 + b) l)
 
-pub sum-append : (l r : List ℕ) → sumOf (l ++ r) ≡ sumOf l + sumOf r
+sum-append : (l r : List ℕ) → sumOf (l ++ r) ≡ sumOf l + sumOf r
 sum-append l r = foldl-append _+_ 0 l r ∙ sum-from (sumOf l) r
 
 -- ---- the blocks of one block row: the first k are counted
@@ -68,8 +68,8 @@ module _ (w ncols rows : ℕ) (cs : List ℕ) where
               few = omega (arith, slotting-small, inv .few);
               is =
                   ap₂ (λ (a b : ℕ). a + b) (inv .is) y ∙ sym (
-                    ap (λ (n : ℕ). sumOf (map f (take n cs))) (add-one k) ∙ ap (λ (l : List ℕ). sumOf (map f l)) (take-suc cs k 0 h) ∙ ap sumOf (map-append f (take k cs) (getD cs k 0 ∷ []))
-                    ∙ sum-append (map f (take k cs)) (f (getD cs k 0) ∷ []) ∙ ap (λ (b : ℕ). sumOf (map f (take k cs)) + b) (zero-add (f (getD cs k 0)))
+                  ap (λ (n : ℕ). sumOf (map f (take n cs))) (add-one k) ∙ ap (λ (l : List ℕ). sumOf (map f l)) (take-suc cs k 0 h) ∙ ap sumOf (map-append f (take k cs) (getD cs k 0 ∷ []))
+                  ∙ sum-append (map f (take k cs)) (f (getD cs k 0) ∷ []) ∙ ap (λ (b : ℕ). sumOf (map f (take k cs)) + b) (zero-add (f (getD cs k 0)))
                   );
             }
 

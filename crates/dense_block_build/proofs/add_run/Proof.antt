@@ -1,5 +1,4 @@
 -- `dense_block_build::add_run` meets its contract. Assumes nothing.
-use mathlib.Core.Path.{_∙_}
 use Rattle.dense_block_build.proofs.SizeLaws.{block-fits}
 use Rattle.dense_block_build.proofs.MergeLaws.{merged-run}
 use borrow.Author.Needs.{needs}

@@ -1,5 +1,5 @@
 -- `dense_block_build::fill` meets its contract. Assumes nothing.
-use mathlib.Core.Path.{sym, _∙_}
+use mathlib.Core.Path.{sym}
 use native.Mathlib.Omega.{arith}
 use lib.Seq.{length-take-le}
 use Rattle.dense_block_build.proofs.SizeLaws.{square-small}

@@ -1,5 +1,4 @@
 -- `dense_block_build::run_end` meets its contract. Assumes nothing.
-use mathlib.Core.Path.{refl}
 use Prim.Native.Nat.{_-_}
 use lib.ListN.{length}
 use Rattle.dense_block.specs.Blocks.{widthOf}

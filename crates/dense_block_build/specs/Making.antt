@@ -18,6 +18,10 @@ flat w b = joined (λ i. each (λ j. getD (getD b i []) j nan) w) w
 unfoldable pub addValues : Float → List Entry → Float
 addValues s es = foldl (λ (t : Float) (e : Entry). add binary64 t (e .1)) s es
 
+-- the first w numbers of a row of a block after entries in it
+unfoldable pub inLine : ℕ → List Entry → List Float → List Float
+inLine w es old = each (λ j. addValues (getD old j nan) (only (λ (e : Entry). eqb (e .0 % w) j) es)) w
+
 -- the values of one block after entries in its row i
 unfoldable pub inBlock : ℕ → ℕ → List Entry → List Float → List Float
 inBlock w i es old =

@@ -1,5 +1,6 @@
 //! Times the library beside hybit's Rust on the same matrices: `oracle/bench [--quick]`.
 
+mod dense_block;
 mod matrices;
 mod ours;
 mod restricted;
@@ -8,7 +9,7 @@ mod timing;
 
 use hybit_core::LinearOperator;
 use hybit_matrix as rust;
-use matrices::{Csr, FULL, KINDS, Kind, Random};
+use matrices::{Csr, FULL, KINDS, Kind, MESHES, Random};
 use ours::{Lists, Operation};
 use std::fs;
 use timing::{Table, load, timed};
@@ -21,6 +22,9 @@ fn main() {
     machine();
     for kind in KINDS.iter().chain([&FULL]) {
         println!("# {}", kind.describe());
+    }
+    for mesh in &MESHES {
+        println!("# {}", mesh.describe());
     }
     notes();
     load();
@@ -35,10 +39,16 @@ fn main() {
         dots(&table, kind, &pair[0], &mut random);
         tiles::times(&table, kind, &pair[0], &mut random);
         restricted::times(&table, kind, &pair[0], &mut random);
+        dense_block::times(&table, kind.name, &pair[0], &mut random);
     }
     let full = Both::new(FULL.matrix(&mut random));
     tiles::times(&table, &FULL, &full, &mut random);
     restricted::times(&table, &FULL, &full, &mut random);
+    dense_block::times(&table, FULL.name, &full, &mut random);
+    for mesh in &MESHES {
+        let m = Both::new(mesh.matrix(&mut random));
+        dense_block::times(&table, mesh.name, &m, &mut random);
+    }
     load();
 }
 
@@ -68,6 +78,7 @@ fn notes() {
     println!("# dot_by_row: ours the crate's sparse_dot_row for every row");
     println!("# tile_..: thresholds 8 and 40; the lines before tell how many tiles of each kind");
     println!("# restrict_.., local_..: ours into lists of the length that the result fills");
+    println!("# block3_.., block6_..: the same; the lines before tell how many blocks there are");
 }
 
 /// One matrix on both sides.

@@ -77,12 +77,74 @@ pub const FULL: Kind = Kind {
     sorted: true,
 };
 
+/// The unknowns of a grid's nodes: those of a node and of the up to eight around it are in full blocks, as in a stiffness matrix.
+pub struct Mesh {
+    pub name: &'static str,
+    pub across: usize,
+    pub down: usize,
+    /// The unknowns of a node.
+    pub dofs: usize,
+}
+
+pub const MESHES: [Mesh; 2] = [
+    Mesh {
+        name: "mesh3",
+        across: 120,
+        down: 100,
+        dofs: 3,
+    },
+    Mesh {
+        name: "mesh6",
+        across: 60,
+        down: 50,
+        dofs: 6,
+    },
+];
+
 pub struct Csr {
     pub nrows: usize,
     pub ncols: usize,
     pub row_ptr: Vec<u32>,
     pub col_idx: Vec<u32>,
     pub values: Vec<f64>,
+}
+
+impl Mesh {
+    pub fn describe(&self) -> String {
+        let (across, down, dofs) = (self.across, self.down, self.dofs);
+        let n = across * down * dofs;
+        format!(
+            "{}: {n} x {n}, a grid of {across} x {down} nodes with {dofs} unknowns, sorted",
+            self.name
+        )
+    }
+
+    pub fn matrix(&self, random: &mut Random) -> Csr {
+        let n = self.across * self.down * self.dofs;
+        let (mut row_ptr, mut col_idx) = (vec![0], Vec::new());
+        for row in 0..n {
+            for node in self.around(row / self.dofs) {
+                let first = node * self.dofs;
+                col_idx.extend((first..first + self.dofs).map(|col| col as u32));
+            }
+            row_ptr.push(col_idx.len() as u32);
+        }
+        Csr {
+            nrows: n,
+            ncols: n,
+            row_ptr,
+            values: col_idx.iter().map(|_| random.value()).collect(),
+            col_idx,
+        }
+    }
+
+    /// The node and those beside it, ascending.
+    fn around(&self, node: usize) -> impl Iterator<Item = usize> {
+        let near = |place: usize, end: usize| place.saturating_sub(1)..(place + 2).min(end);
+        let columns = near(node % self.across, self.across);
+        let rows = near(node / self.across, self.down);
+        rows.flat_map(move |row| columns.clone().map(move |col| row * self.across + col))
+    }
 }
 
 impl Kind {

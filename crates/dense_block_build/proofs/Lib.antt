@@ -9,3 +9,4 @@ pub mod BandLaws
 pub mod FillLaws
 pub mod SlotLaws
 pub mod BuildLaws
+pub mod BuiltLaws

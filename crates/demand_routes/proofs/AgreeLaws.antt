@@ -20,9 +20,9 @@ use Rattle.demand.proofs.Demand3.{demand3, every-active}
 use Rattle.demand.proofs.PackedLaws.{packable}
 use Rattle.demand.proofs.RestrictingLaws.{wanted-again}
 use Rattle.demand.proofs.TilingLaws.{left-number}
-use Rattle.demand_routes.specs.Calls.{recordsAnswer, questionAnswer, prunedAnswer, rowDot, restrictedRowDot, tiledRowProduct}
+use Rattle.demand_examine.specs.Calls.{recordsAnswer, questionAnswer, prunedAnswer, rowDot, restrictedRowDot, tiledRowProduct}
 use Rattle.demand_routes.specs.Agree.{Agree}
-use Rattle.demand_routes.proofs.ExactLaws.{Asked, asked}
+use Rattle.demand_examine.proofs.StepLaws.{Asked, asked}
 
 dot-three : (m : Csr) (a : Mask) (x : List Float) (r : ℕ) → threeOf (rowDot m a x r) ≡ wanted m a x r
 unfolding rowDot

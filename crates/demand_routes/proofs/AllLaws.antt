@@ -1,15 +1,14 @@
 -- The mask with every column active, the dot with it, and a restriction before them. Assumes nothing.
 use mathlib.Core.Bool.{Bool, true, _&&_}
 use mathlib.Core.List.{List, [], _++_}
-use mathlib.Core.Path.{_≡_, refl, sym, ap, ap₂, subst, _∙_}
-use Prim.Native.Nat.{ℕ, suc, _+_, _-_, _*_, _^_, _≤_, _<_}
-use native.Mathlib.Numerals.{add-one}
+use mathlib.Core.Path.{_≡_, refl, sym, ap, subst, _∙_}
+use Prim.Native.Nat.{ℕ, _+_, _-_, _*_, _^_, _≤_, _<_}
 use native.Mathlib.Omega.{arith}
-use lib.Dec.{leb, ltb}
-use lib.ListN.{length, take, drop, length-append, length-take, length-drop}
+use lib.Dec.{ltb}
+use lib.ListN.{length, take, drop}
 use lib.Ieee.{Float}
 use borrow.Author.Tests.{ltb-true, lt-ltb}
-use Rattle.hybit_core.specs.Answer.{Told, plain, Answer, accepted, refused, Given, gives, refuses, demand, answers, _andThen_}
+use Rattle.hybit_core.specs.Answer.{plain, Answer, accepted, refused, Given, refuses, demand, answers, _andThen_}
 use Rattle.hybit_core.specs.Floats.{zero64}
 use Rattle.hybit_core.specs.Table.{paper}
 use Rattle.hybit_core.specs.declared.HybitError.{HybitError}
@@ -23,7 +22,7 @@ use Rattle.word.proofs.OpLaws.{word-cong}
 use Rattle.mask.specs.Mask.{Mask, asMask, maskWords, allActive}
 use Rattle.mask.proofs.MaskLaws.{length-words}
 use Rattle.csr32.specs.Csr.{Csr, asCsr}
-use Rattle.csr32.specs.Made.{csrOf, CsrRoom, asCsrRoom, csrLeft}
+use Rattle.csr32.specs.Made.{csrOf, asCsrRoom}
 use Rattle.metadata_first.specs.declared.AbtmRowDot.{AbtmRowDot}
 use Rattle.metadata_first_build.specs.Pack.{StoreRoom, storeOf, packAnswer}
 use Rattle.restricted.specs.declared.ColumnRestriction.{ColumnRestriction}
@@ -31,8 +30,9 @@ use Rattle.restricted.specs.declared.RestrictAnswer.{RestrictAnswer}
 use Rattle.restricted.specs.declared.RestrictAnswer.the-variants as restriction
 use Rattle.restricted.specs.Restricted.{restricted, restrictAnswer, restrictedLeft, restrictionOf, toldRestriction}
 use Rattle.restricted_csr32.proofs.FillLaws.{Restrictable, restrict-facts, kept-values}
-use Rattle.demand_routes.specs.Routes.{after, packedDot, StoreLists, allAnswer, allDot, restrictedDot, PlotLists}
-use Rattle.demand_routes.proofs.RouteLaws.{gave, refused-as}
+use Rattle.demand_examine.specs.Steps.{after, PlotLists}
+use Rattle.demand_routes.specs.Routes.{packedDot, StoreLists, allAnswer, allDot, restrictedDot}
+use Rattle.demand_examine.proofs.StepLaws.{gave, refused-as, plot-lent}
 
 -- ---- its words
 
@@ -50,9 +50,6 @@ pub all-filled : (n w : ℕ) (front old last : List ℕ) → front ≡ maskWords
 unfolding maskWords
 all-filled n w front old last ef ew h q =
     cleared-front 0 w (maskOf (λ c. true) n) front old last (ef ∙ ap (each (maskOf (λ c. true) n)) (sym ew)) h q ∙ ap (λ (i : ℕ). padded 0 (length old) (each (maskOf (λ c. true) n) i)) ew
-
-pub front-long : {A : Type 0} (n : ℕ) (front old : List A) → length front ≡ length (take n old) → n ≤ length old → length (front ++ drop n old) ≡ length old
-front-long n front old e h = simp (length-append, length-drop) (let k = simp length-take at e in omega arith)
 
 -- ---- the dot with it
 
@@ -83,17 +80,6 @@ module _ (m : Csr) (n : ℕ) where
         let words : take w oa ≡ maskWords (λ c. true) (m .cols) = ap (take w) ea ∙ handed-used 0 n accepted w (maskWords (λ c. true) (m .cols)) refl (length-words (λ c. true) (m .cols) ∙ sym ew) in
         subst (λ (t : Answer). (g ≡ after t (packedDot m rp (allActive (m .cols)) x r)) × ((oa ≡ built 0 n t (maskWords (λ c. true) (m .cols))) × StoreLists (t andThen packAnswer m rp) (storeOf m) rp op ow om ov ox))
         (sym (all-fits h)) (eg ∙ ap (λ (l : List ℕ). packedDot m rp (asMask (m .cols) l) x r) words, (ea, es))
-
--- ---- a plot list that a build left, by its used parts
-
-pub plot-lent : (t : Answer) (m : Csr) (rc : CsrRoom) (k : ℕ) (op oc : List ℕ) (ov : List Float) → PlotLists t m rc op oc ov → k ≡ length (m .val)
-    → asCsr (m .rows) (m .cols) (take (m .rows + 1) op) (take k oc) (take k ov) ≡ csrLeft t m rc
-unfolding csrLeft
-plot-lent t m rc k op oc ov ls e =
-    let p = ap₂ (λ (i : ℕ) (l : List ℕ). take i l) (add-one (m .rows)) (ls .pointers) in
-    let c = ap₂ (λ (i : ℕ) (l : List ℕ). take i l) e (ls .columns) in
-    let v = ap₂ (λ (i : ℕ) (l : List Float). take i l) e (ls .values) in
-    λ i. asCsr (m .rows) (m .cols) (p i) (c i) (v i)
 
 -- ---- a restriction, which answered t, in lists of np, nc and nv places
 

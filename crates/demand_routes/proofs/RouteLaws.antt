@@ -1,15 +1,15 @@
 -- Laws of the routes: what a call's answer says of its record and used parts, and what the next call is handed. Assumes nothing.
-use mathlib.Core.Bool.{Bool, true, false, _&&_}
-use mathlib.Core.List.{List, []}
-use mathlib.Core.Path.{_≡_, refl, sym, ap, ap₂, _∙_}
-use Prim.Native.Nat.{ℕ, suc, _+_, _^_, _≤_, _<_}
+use mathlib.Core.Bool.{Bool, true, _&&_}
+use mathlib.Core.List.{List}
+use mathlib.Core.Path.{_≡_, sym, ap, ap₂, _∙_}
+use Prim.Native.Nat.{ℕ, _+_, _^_, _≤_}
 use native.Mathlib.Numerals.{add-one}
 use native.Mathlib.Omega.{arith}
 use lib.Dec.{leb}
 use lib.ListN.{length, take}
 use lib.Ieee.{Float}
 use borrow.Author.Tests.{leb-true}
-use Rattle.hybit_core.specs.Answer.{Told, Answer, accepted, refused, Given, gives, refuses, answers}
+use Rattle.hybit_core.specs.Answer.{accepted, Given, refuses, answers}
 use Rattle.hybit_core.specs.Floats.{zero64}
 use Rattle.hybit_core.specs.Table.{paper}
 use Rattle.hybit_core.specs.declared.HybitError.{HybitError}
@@ -18,7 +18,7 @@ use Rattle.lent.specs.Lent.{built}
 use Rattle.mask.specs.Mask.{Mask}
 use Rattle.csr32.specs.Csr.{Csr, entries, present}
 use Rattle.csr32.proofs.CsrLaws.{valid}
-use Rattle.topology.specs.Calls.{asRoom, fitsWords, usedOf, toldTopology}
+use Rattle.topology.specs.Calls.{fitsWords, usedOf, toldTopology}
 use Rattle.topology.specs.declared.TopologyAnswer.{TopologyAnswer}
 use Rattle.topology.specs.declared.TopologyAnswer.the-variants as build
 use Rattle.topology.proofs.TopologyLaws.{topology-pointers, topology-sides}
@@ -28,23 +28,8 @@ use Rattle.metadata_first.specs.Store.{Store, asStore, packedOf}
 use Rattle.metadata_first.specs.Dot.{sparseDotRow}
 use Rattle.metadata_first_build.specs.Pack.{asStoreRoom, storeOf, packAnswer, packed}
 use Rattle.metadata_first_build.proofs.AnswerLaws.{Packs, packs}
-use Rattle.demand_routes.specs.Routes.{after, packedDot}
-
--- ---- answers with a result
-
-pub gave : {A : Type 0} (a : Answer) (u v : A) → gives v ≡ answers a u → (a ≡ accepted) × (v ≡ u)
-gave accepted u v e = (refl, cc)
-gave (refused t) u v e = let z : _≡_ {A = ℕ} 0 1 = cc in absurd (omega arith)
-
-pub refused-as : {A : Type 0} (a : Answer) (u : A) (t : Told) → refuses t ≡ answers a u → a ≡ refused t
-refused-as accepted u t e = let z : _≡_ {A = ℕ} 0 1 = cc in absurd (omega arith)
-refused-as (refused s) u t e = cc
-
-pub after-refused : {A : Type 0} (a : Answer) (g : Given A) (t : Told) → a ≡ refused t → refuses t ≡ after a g
-after-refused a g t e = sym (ap (λ (b : Answer). after b g) e)
-
-pub after-accepted : {A : Type 0} (a : Answer) (g h : Given A) → a ≡ accepted → h ≡ g → h ≡ after a g
-after-accepted a g h e k = k ∙ sym (ap (λ (b : Answer). after b g) e)
+use Rattle.demand_routes.specs.Routes.{packedDot}
+use Rattle.demand_examine.proofs.StepLaws.{gave, refused-as, after-refused, after-accepted}
 
 -- ---- packing, which answered t, in lists of np, nw, nm, nv and nx places
 

@@ -9,7 +9,7 @@ use Rattle.metadata_first.specs.Dot.{threeOf}
 use Rattle.metadata_first_build.specs.Pack.{wanted}
 use Rattle.abtm.specs.declared.AbtmConfig.{AbtmConfig}
 use Rattle.demand.specs.Demand.{NoZero}
-use Rattle.demand_routes.specs.Calls.{rowDot, restrictedRowDot, tiledRowProduct}
+use Rattle.demand_examine.specs.Calls.{rowDot, restrictedRowDot, tiledRowProduct}
 
 -- the three routes give what demand 2 wants of the row
 pub record Agree (m : Csr) (a : Mask) (h : AbtmConfig) (x : List Float) (r : ℕ) : Type 0 where

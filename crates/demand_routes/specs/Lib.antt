@@ -1,3 +1,2 @@
 pub mod Routes
-pub mod Calls
 pub mod Agree

@@ -1,14 +1,13 @@
-// Demand 3's three routes of a row on lent lists: the pruned dot; the dot of the restriction with every plot active; the row product
-// of the list restricted from tiles. Each runs its calls one after the other and answers the first refusal. proofs/AgreeLaws shows
-// from the theorem of the crate demand that the three agree.
+// Demand 3's two dots of a row on lent lists: the pruned dot; the dot of the restriction with every plot active. Each runs its calls one
+// after the other and answers the first refusal. proofs/AgreeLaws shows from the theorem of the crate demand that these two and the
+// route of the crate demand_tiled agree.
 ghost use mathlib.Core.Path.{_≡_};
 ghost use mathlib.Core.Bool.{true};
 ghost use mathlib.Core.List.{[]};
 ghost use Prim.Native.Nat.{_≤_, _^_};
 ghost use lib.ListN.{length};
-ghost use Rattle.hybit_core.specs.Answer.{accepted, answers, _andThen_};
+ghost use Rattle.hybit_core.specs.Answer.{answers, _andThen_};
 ghost use Rattle.hybit_core.specs.Floats.{zero64};
-ghost use Rattle.hybit_core.specs.Table.{told};
 ghost use Rattle.lent.specs.Lent.{padded, built};
 ghost use Rattle.word.specs.Bits.{ceil64};
 ghost use Rattle.mask.specs.Mask.{asMask, maskWords};
@@ -16,25 +15,15 @@ ghost use Rattle.csr32.specs.Csr.{asCsr};
 ghost use Rattle.csr32.specs.Made.{asCsrRoom};
 ghost use Rattle.metadata_first.specs.Dot.{toldDot};
 ghost use Rattle.metadata_first_build.specs.Pack.{asStoreRoom, storeOf, packAnswer};
-ghost use Rattle.abtm.specs.Calls.{thresholdAnswer};
-ghost use Rattle.abtm.specs.Tiles.{asTiles};
-ghost use Rattle.abtm_build.specs.Build.{asTileRoom, tilesFrom, tileAnswer, tiled};
-ghost use Rattle.restricted.specs.Restricted.{restricted, restrictAnswer, restrictedLeft, restrictedTiles, restrictTilesAnswer, restrictedTilesLeft};
-ghost use Rattle.demand_routes.specs.Routes.{toldNumber, packedDot, StoreLists, allAnswer, allDot, restrictedDot, productAnswer, productOf, listNumber, tileListNumber, tilesNumber, PlotLists, TileLists};
-ghost use Rattle.demand_routes.specs.Calls.{recordsAnswer, questionAnswer, prunedAnswer, rowDot, restrictedAnswer, restrictedRowDot, tiledAnswer, tiledRowProduct};
-use abtm::AbtmConfig;
-use abtm_build::TilesAnswer;
+ghost use Rattle.restricted.specs.Restricted.{restricted, restrictAnswer, restrictedLeft};
+ghost use Rattle.demand_routes.specs.Routes.{packedDot, StoreLists, allAnswer, allDot, restrictedDot};
+ghost use Rattle.demand_examine.specs.Steps.{PlotLists};
+ghost use Rattle.demand_examine.specs.Calls.{prunedAnswer, rowDot, restrictedAnswer, restrictedRowDot};
 use hybit_core::HybitError;
 use hybit_core::Verdict;
 use metadata_first::DotAnswer;
 use restricted::RestrictAnswer;
 use topology::TopologyAnswer;
-
-// A row product.
-pub enum NumberAnswer {
-    Number(f64),
-    Refused(HybitError),
-}
 
 // The pruned dot of a row: the plot list is packed, and the dot taken on the used parts. The five lists are what packing leaves.
 fn pack_dot(
@@ -235,279 +224,6 @@ fn restrict_dot(
     }
 }
 
-// A row of a plot list's product, which goes to `product`.
-fn list_number(
-    nrows: usize,
-    ncols: usize,
-    row_ptr: &[u32],
-    col_idx: &[u32],
-    values: &[f64],
-    x: &[f64],
-    row: usize,
-    product: &mut [f64],
-) -> NumberAnswer
-    ensures answer { λ r. ⌜ toldNumber r ≡ listNumber (asCsr nrows ncols (now («row_ptr» .entry)) (now («col_idx» .entry)) (now (values .entry))) (now (x .entry)) row (length (now (product .entry))) ⌝ }
-    ensures list { λ r. ⌜ now (product .exit) ≡ built zero64 (length (now (product .entry))) (productAnswer (asCsr nrows ncols (now («row_ptr» .entry)) (now («col_idx» .entry)) (now (values .entry))) (now (x .entry)) row (length (now (product .entry)))) (productOf (asCsr nrows ncols (now («row_ptr» .entry)) (now («col_idx» .entry)) (now (values .entry))) (now (x .entry))) ⌝ }
-{
-    if row >= nrows {
-        lent::clear_from_f64(product, 0);
-        return NumberAnswer::Refused(HybitError::NoSuchPlace);
-    }
-    if product.len() < nrows {
-        lent::clear_from_f64(product, 0);
-        return NumberAnswer::Refused(HybitError::ShortList);
-    }
-    let v = csr32_apply::apply(
-        nrows,
-        ncols,
-        row_ptr,
-        col_idx,
-        values,
-        x,
-        &mut product[..nrows],
-    );
-    if let Verdict::Refused(e) = v {
-        lent::clear_from_f64(product, 0);
-        return NumberAnswer::Refused(e);
-    }
-    lent::clear_from_f64(product, nrows);
-    NumberAnswer::Number(product[row])
-}
-
-// The row product of the list restricted from tiles.
-fn tile_list_number(
-    nrows: usize,
-    ncols: usize,
-    row_tile_ptr: &[u32],
-    tile_masks: &[u64],
-    value_offsets: &[u32],
-    metas: &[u32],
-    tile_values: &[f64],
-    matrix_nnz: usize,
-    mask_len: usize,
-    mask: &[u64],
-    x: &[f64],
-    row: usize,
-    out_row_ptr: &mut [u32],
-    out_col_idx: &mut [u32],
-    out_values: &mut [f64],
-    product: &mut [f64],
-) -> NumberAnswer
-    ensures answer { λ r. ⌜ toldNumber r ≡ tileListNumber (asTiles nrows ncols (now («row_tile_ptr» .entry)) (now («tile_masks» .entry)) (now («value_offsets» .entry)) (now (metas .entry)) (now («tile_values» .entry)) «matrix_nnz») (asMask «mask_len» (now (mask .entry))) (now (x .entry)) row (asCsrRoom (length (now («out_row_ptr» .entry))) (length (now («out_col_idx» .entry))) (length (now («out_values» .entry)))) (length (now (product .entry))) ⌝ }
-    ensures list { λ r. ⌜ PlotLists (restrictTilesAnswer (asTiles nrows ncols (now («row_tile_ptr» .entry)) (now («tile_masks» .entry)) (now («value_offsets» .entry)) (now (metas .entry)) (now («tile_values» .entry)) «matrix_nnz») (asMask «mask_len» (now (mask .entry))) (asCsrRoom (length (now («out_row_ptr» .entry))) (length (now («out_col_idx» .entry))) (length (now («out_values» .entry))))) (restrictedTiles (asTiles nrows ncols (now («row_tile_ptr» .entry)) (now («tile_masks» .entry)) (now («value_offsets» .entry)) (now (metas .entry)) (now («tile_values» .entry)) «matrix_nnz») (asMask «mask_len» (now (mask .entry)))) (asCsrRoom (length (now («out_row_ptr» .entry))) (length (now («out_col_idx» .entry))) (length (now («out_values» .entry)))) (now («out_row_ptr» .exit)) (now («out_col_idx» .exit)) (now («out_values» .exit)) ⌝ }
-    ensures product { λ r. ⌜ now (product .exit) ≡ built zero64 (length (now (product .entry))) (restrictTilesAnswer (asTiles nrows ncols (now («row_tile_ptr» .entry)) (now («tile_masks» .entry)) (now («value_offsets» .entry)) (now (metas .entry)) (now («tile_values» .entry)) «matrix_nnz») (asMask «mask_len» (now (mask .entry))) (asCsrRoom (length (now («out_row_ptr» .entry))) (length (now («out_col_idx» .entry))) (length (now («out_values» .entry)))) andThen productAnswer (restrictedTilesLeft (asTiles nrows ncols (now («row_tile_ptr» .entry)) (now («tile_masks» .entry)) (now («value_offsets» .entry)) (now (metas .entry)) (now («tile_values» .entry)) «matrix_nnz») (asMask «mask_len» (now (mask .entry))) (asCsrRoom (length (now («out_row_ptr» .entry))) (length (now («out_col_idx» .entry))) (length (now («out_values» .entry))))) (now (x .entry)) row (length (now (product .entry)))) (productOf (restrictedTilesLeft (asTiles nrows ncols (now («row_tile_ptr» .entry)) (now («tile_masks» .entry)) (now («value_offsets» .entry)) (now (metas .entry)) (now («tile_values» .entry)) «matrix_nnz») (asMask «mask_len» (now (mask .entry))) (asCsrRoom (length (now («out_row_ptr» .entry))) (length (now («out_col_idx» .entry))) (length (now («out_values» .entry))))) (now (x .entry))) ⌝ }
-{
-    let t = restricted_abtm::from_abtm(
-        nrows,
-        ncols,
-        row_tile_ptr,
-        tile_masks,
-        value_offsets,
-        metas,
-        tile_values,
-        matrix_nnz,
-        mask_len,
-        mask,
-        out_row_ptr,
-        out_col_idx,
-        out_values,
-    );
-    match t {
-        RestrictAnswer::Refused(e) => {
-            lent::clear_from_f64(product, 0);
-            NumberAnswer::Refused(e)
-        }
-        RestrictAnswer::Built(s) => {
-            let kept = s.retained_nnz;
-            list_number(
-                nrows,
-                ncols,
-                &out_row_ptr[..nrows + 1],
-                &out_col_idx[..kept],
-                &out_values[..kept],
-                x,
-                row,
-                product,
-            )
-        }
-    }
-}
-
-// Zeros in the lists of a plot list and of a product.
-fn clear_list(
-    out_row_ptr: &mut [u32],
-    out_col_idx: &mut [u32],
-    out_values: &mut [f64],
-    product: &mut [f64],
-)
-    ensures pointers { λ _. ⌜ now («out_row_ptr» .exit) ≡ padded 0 (length (now («out_row_ptr» .entry))) [] ⌝ }
-    ensures columns { λ _. ⌜ now («out_col_idx» .exit) ≡ padded 0 (length (now («out_col_idx» .entry))) [] ⌝ }
-    ensures values { λ _. ⌜ now («out_values» .exit) ≡ padded zero64 (length (now («out_values» .entry))) [] ⌝ }
-    ensures product { λ _. ⌜ now (product .exit) ≡ padded zero64 (length (now (product .entry))) [] ⌝ }
-{
-    lent::clear_from_u32(out_row_ptr, 0);
-    lent::clear_from_u32(out_col_idx, 0);
-    lent::clear_from_f64(out_values, 0);
-    lent::clear_from_f64(product, 0);
-}
-
-// The row product of the list restricted from the plot list's tiles. Each list is what the call that writes it leaves.
-fn tile_number(
-    nrows: usize,
-    ncols: usize,
-    row_ptr: &[u32],
-    col_idx: &[u32],
-    values: &[f64],
-    mask_len: usize,
-    mask: &[u64],
-    config: AbtmConfig,
-    x: &[f64],
-    row: usize,
-    row_tile_ptr: &mut [u32],
-    tile_masks: &mut [u64],
-    value_offsets: &mut [u32],
-    metas: &mut [u32],
-    tile_values: &mut [f64],
-    out_row_ptr: &mut [u32],
-    out_col_idx: &mut [u32],
-    out_values: &mut [f64],
-    product: &mut [f64],
-) -> NumberAnswer
-    ensures answer { λ r. ⌜ toldNumber r ≡ tilesNumber (asCsr nrows ncols (now («row_ptr» .entry)) (now («col_idx» .entry)) (now (values .entry))) (asMask «mask_len» (now (mask .entry))) (now (x .entry)) config row (asTileRoom (length (now («row_tile_ptr» .entry))) (length (now («tile_masks» .entry))) (length (now («value_offsets» .entry))) (length (now (metas .entry))) (length (now («tile_values» .entry)))) (asCsrRoom (length (now («out_row_ptr» .entry))) (length (now («out_col_idx» .entry))) (length (now («out_values» .entry)))) (length (now (product .entry))) ⌝ }
-    ensures tiles { λ r. ⌜ TileLists (tileAnswer (asCsr nrows ncols (now («row_ptr» .entry)) (now («col_idx» .entry)) (now (values .entry))) config (asTileRoom (length (now («row_tile_ptr» .entry))) (length (now («tile_masks» .entry))) (length (now («value_offsets» .entry))) (length (now (metas .entry))) (length (now («tile_values» .entry))))) (tilesFrom (asCsr nrows ncols (now («row_ptr» .entry)) (now («col_idx» .entry)) (now (values .entry))) config) (asTileRoom (length (now («row_tile_ptr» .entry))) (length (now («tile_masks» .entry))) (length (now («value_offsets» .entry))) (length (now (metas .entry))) (length (now («tile_values» .entry)))) (now («row_tile_ptr» .exit)) (now («tile_masks» .exit)) (now («value_offsets» .exit)) (now (metas .exit)) (now («tile_values» .exit)) ⌝ }
-    ensures list { λ r. ⌜ PlotLists (tileAnswer (asCsr nrows ncols (now («row_ptr» .entry)) (now («col_idx» .entry)) (now (values .entry))) config (asTileRoom (length (now («row_tile_ptr» .entry))) (length (now («tile_masks» .entry))) (length (now («value_offsets» .entry))) (length (now (metas .entry))) (length (now («tile_values» .entry)))) andThen restrictTilesAnswer (tiled (asCsr nrows ncols (now («row_ptr» .entry)) (now («col_idx» .entry)) (now (values .entry))) config (asTileRoom (length (now («row_tile_ptr» .entry))) (length (now («tile_masks» .entry))) (length (now («value_offsets» .entry))) (length (now (metas .entry))) (length (now («tile_values» .entry))))) (asMask «mask_len» (now (mask .entry))) (asCsrRoom (length (now («out_row_ptr» .entry))) (length (now («out_col_idx» .entry))) (length (now («out_values» .entry))))) (restrictedTiles (tiled (asCsr nrows ncols (now («row_ptr» .entry)) (now («col_idx» .entry)) (now (values .entry))) config (asTileRoom (length (now («row_tile_ptr» .entry))) (length (now («tile_masks» .entry))) (length (now («value_offsets» .entry))) (length (now (metas .entry))) (length (now («tile_values» .entry))))) (asMask «mask_len» (now (mask .entry)))) (asCsrRoom (length (now («out_row_ptr» .entry))) (length (now («out_col_idx» .entry))) (length (now («out_values» .entry)))) (now («out_row_ptr» .exit)) (now («out_col_idx» .exit)) (now («out_values» .exit)) ⌝ }
-    ensures product { λ r. ⌜ now (product .exit) ≡ built zero64 (length (now (product .entry))) (tileAnswer (asCsr nrows ncols (now («row_ptr» .entry)) (now («col_idx» .entry)) (now (values .entry))) config (asTileRoom (length (now («row_tile_ptr» .entry))) (length (now («tile_masks» .entry))) (length (now («value_offsets» .entry))) (length (now (metas .entry))) (length (now («tile_values» .entry)))) andThen restrictTilesAnswer (tiled (asCsr nrows ncols (now («row_ptr» .entry)) (now («col_idx» .entry)) (now (values .entry))) config (asTileRoom (length (now («row_tile_ptr» .entry))) (length (now («tile_masks» .entry))) (length (now («value_offsets» .entry))) (length (now (metas .entry))) (length (now («tile_values» .entry))))) (asMask «mask_len» (now (mask .entry))) (asCsrRoom (length (now («out_row_ptr» .entry))) (length (now («out_col_idx» .entry))) (length (now («out_values» .entry)))) andThen productAnswer (restrictedTilesLeft (tiled (asCsr nrows ncols (now («row_ptr» .entry)) (now («col_idx» .entry)) (now (values .entry))) config (asTileRoom (length (now («row_tile_ptr» .entry))) (length (now («tile_masks» .entry))) (length (now («value_offsets» .entry))) (length (now (metas .entry))) (length (now («tile_values» .entry))))) (asMask «mask_len» (now (mask .entry))) (asCsrRoom (length (now («out_row_ptr» .entry))) (length (now («out_col_idx» .entry))) (length (now («out_values» .entry))))) (now (x .entry)) row (length (now (product .entry)))) (productOf (restrictedTilesLeft (tiled (asCsr nrows ncols (now («row_ptr» .entry)) (now («col_idx» .entry)) (now (values .entry))) config (asTileRoom (length (now («row_tile_ptr» .entry))) (length (now («tile_masks» .entry))) (length (now («value_offsets» .entry))) (length (now (metas .entry))) (length (now («tile_values» .entry))))) (asMask «mask_len» (now (mask .entry))) (asCsrRoom (length (now («out_row_ptr» .entry))) (length (now («out_col_idx» .entry))) (length (now («out_values» .entry))))) (now (x .entry))) ⌝ }
-{
-    let t = abtm_build::from_csr32(
-        nrows,
-        ncols,
-        row_ptr,
-        col_idx,
-        values,
-        config,
-        row_tile_ptr,
-        tile_masks,
-        value_offsets,
-        metas,
-        tile_values,
-    );
-    match t {
-        TilesAnswer::Refused(e) => {
-            clear_list(out_row_ptr, out_col_idx, out_values, product);
-            NumberAnswer::Refused(e)
-        }
-        TilesAnswer::Built {
-            tiles,
-            value_slots,
-            matrix_nnz,
-        } => tile_list_number(
-            nrows,
-            ncols,
-            &row_tile_ptr[..nrows + 1],
-            &tile_masks[..tiles],
-            &value_offsets[..tiles],
-            &metas[..tiles],
-            &tile_values[..value_slots],
-            matrix_nnz,
-            mask_len,
-            mask,
-            x,
-            row,
-            out_row_ptr,
-            out_col_idx,
-            out_values,
-            product,
-        ),
-    }
-}
-
-// ---- what every route asks first
-
-fn examine_records(
-    nrows: usize,
-    ncols: usize,
-    row_ptr: &[u32],
-    col_idx: &[u32],
-    values: &[f64],
-    mask_len: usize,
-    mask: &[u64],
-) -> Verdict
-    ensures { λ r. ⌜ told r ≡ recordsAnswer (asCsr nrows ncols (now («row_ptr» .entry)) (now («col_idx» .entry)) (now (values .entry))) (asMask «mask_len» (now (mask .entry))) ⌝ }
-{
-    if !hybit_core::dimension_fits(mask_len) {
-        return Verdict::Refused(HybitError::SizeOverflow);
-    }
-    let c = csr32::check(nrows, ncols, row_ptr, col_idx, values);
-    if let Verdict::Refused(e) = c {
-        return Verdict::Refused(e);
-    }
-    mask::check(mask_len, mask)
-}
-
-fn examine_question(
-    nrows: usize,
-    ncols: usize,
-    row_ptr: &[u32],
-    col_idx: &[u32],
-    values: &[f64],
-    mask_len: usize,
-    mask: &[u64],
-    x: &[f64],
-    row: usize,
-) -> Verdict
-    requires { ⌜ recordsAnswer (asCsr nrows ncols (now «row_ptr») (now «col_idx») (now values)) (asMask «mask_len» (now mask)) ≡ accepted ⌝ }
-    ensures { λ r. ⌜ told r ≡ questionAnswer (asCsr nrows ncols (now («row_ptr» .entry)) (now («col_idx» .entry)) (now (values .entry))) (asMask «mask_len» (now (mask .entry))) (now (x .entry)) row ⌝ }
-{
-    if mask_len != ncols {
-        return Verdict::Refused(HybitError::DimensionMismatch {
-            expected: ncols,
-            actual: mask_len,
-        });
-    }
-    if x.len() != ncols {
-        return Verdict::Refused(HybitError::DimensionMismatch {
-            expected: ncols,
-            actual: x.len(),
-        });
-    }
-    if row >= nrows {
-        return Verdict::Refused(HybitError::NoSuchPlace);
-    }
-    metadata_first_merge::check(nrows, ncols, row_ptr, col_idx, values)
-}
-
-fn examine(
-    nrows: usize,
-    ncols: usize,
-    row_ptr: &[u32],
-    col_idx: &[u32],
-    values: &[f64],
-    mask_len: usize,
-    mask: &[u64],
-    x: &[f64],
-    row: usize,
-) -> Verdict
-    ensures { λ r. ⌜ told r ≡ (recordsAnswer (asCsr nrows ncols (now («row_ptr» .entry)) (now («col_idx» .entry)) (now (values .entry))) (asMask «mask_len» (now (mask .entry))) andThen questionAnswer (asCsr nrows ncols (now («row_ptr» .entry)) (now («col_idx» .entry)) (now (values .entry))) (asMask «mask_len» (now (mask .entry))) (now (x .entry)) row) ⌝ }
-{
-    let v = examine_records(nrows, ncols, row_ptr, col_idx, values, mask_len, mask);
-    if let Verdict::Refused(e) = v {
-        return Verdict::Refused(e);
-    }
-    examine_question(
-        nrows,
-        ncols,
-        row_ptr,
-        col_idx,
-        values,
-        mask_len,
-        mask,
-        x,
-        row,
-    )
-}
-
-// ---- the routes
-
 // The pruned dot of a row: the plot list is packed, and the dot taken on its store, which the five lists then hold.
 pub fn pruned_dot(
     nrows: usize,
@@ -528,7 +244,7 @@ pub fn pruned_dot(
     ensures answer { λ r. ⌜ toldDot r ≡ answers (prunedAnswer (asCsr nrows ncols (now («row_ptr» .entry)) (now («col_idx» .entry)) (now (values .entry))) (asMask «mask_len» (now (mask .entry))) (now (x .entry)) row (asStoreRoom (length (now («row_word_ptr» .entry))) (length (now («word_indices» .entry))) (length (now (bits .entry))) (length (now («row_value_ptr» .entry))) (length (now (packed .entry))))) (rowDot (asCsr nrows ncols (now («row_ptr» .entry)) (now («col_idx» .entry)) (now (values .entry))) (asMask «mask_len» (now (mask .entry))) (now (x .entry)) row) ⌝ }
     ensures store { λ r. ⌜ StoreLists (prunedAnswer (asCsr nrows ncols (now («row_ptr» .entry)) (now («col_idx» .entry)) (now (values .entry))) (asMask «mask_len» (now (mask .entry))) (now (x .entry)) row (asStoreRoom (length (now («row_word_ptr» .entry))) (length (now («word_indices» .entry))) (length (now (bits .entry))) (length (now («row_value_ptr» .entry))) (length (now (packed .entry))))) (storeOf (asCsr nrows ncols (now («row_ptr» .entry)) (now («col_idx» .entry)) (now (values .entry)))) (asStoreRoom (length (now («row_word_ptr» .entry))) (length (now («word_indices» .entry))) (length (now (bits .entry))) (length (now («row_value_ptr» .entry))) (length (now (packed .entry)))) (now («row_word_ptr» .exit)) (now («word_indices» .exit)) (now (bits .exit)) (now («row_value_ptr» .exit)) (now (packed .exit)) ⌝ }
 {
-    let v = examine(
+    let v = demand_examine::examine(
         nrows,
         ncols,
         row_ptr,
@@ -614,7 +330,7 @@ pub fn restricted_dot(
     ensures all { λ r. ⌜ now (all .exit) ≡ built 0 (length (now (all .entry))) (restrictedAnswer (asCsr nrows ncols (now («row_ptr» .entry)) (now («col_idx» .entry)) (now (values .entry))) (asMask «mask_len» (now (mask .entry))) (now (x .entry)) row (asCsrRoom (length (now («out_row_ptr» .entry))) (length (now («out_col_idx» .entry))) (length (now («out_values» .entry)))) (length (now (all .entry))) (asStoreRoom (length (now («row_word_ptr» .entry))) (length (now («word_indices» .entry))) (length (now (bits .entry))) (length (now («row_value_ptr» .entry))) (length (now (packed .entry))))) (maskWords (λ c. true) ncols) ⌝ }
     ensures store { λ r. ⌜ StoreLists (restrictedAnswer (asCsr nrows ncols (now («row_ptr» .entry)) (now («col_idx» .entry)) (now (values .entry))) (asMask «mask_len» (now (mask .entry))) (now (x .entry)) row (asCsrRoom (length (now («out_row_ptr» .entry))) (length (now («out_col_idx» .entry))) (length (now («out_values» .entry)))) (length (now (all .entry))) (asStoreRoom (length (now («row_word_ptr» .entry))) (length (now («word_indices» .entry))) (length (now (bits .entry))) (length (now («row_value_ptr» .entry))) (length (now (packed .entry))))) (storeOf (restricted (asCsr nrows ncols (now («row_ptr» .entry)) (now («col_idx» .entry)) (now (values .entry))) (asMask «mask_len» (now (mask .entry))))) (asStoreRoom (length (now («row_word_ptr» .entry))) (length (now («word_indices» .entry))) (length (now (bits .entry))) (length (now («row_value_ptr» .entry))) (length (now (packed .entry)))) (now («row_word_ptr» .exit)) (now («word_indices» .exit)) (now (bits .exit)) (now («row_value_ptr» .exit)) (now (packed .exit)) ⌝ }
 {
-    let v = examine(
+    let v = demand_examine::examine(
         nrows,
         ncols,
         row_ptr,
@@ -674,162 +390,6 @@ pub fn restricted_dot(
                 all,
             );
             DotAnswer::Refused(e)
-        }
-    }
-}
-
-fn clear_tiled(
-    row_tile_ptr: &mut [u32],
-    tile_masks: &mut [u64],
-    value_offsets: &mut [u32],
-    metas: &mut [u32],
-    tile_values: &mut [f64],
-    out_row_ptr: &mut [u32],
-    out_col_idx: &mut [u32],
-    out_values: &mut [f64],
-    product: &mut [f64],
-)
-    ensures pointers { λ _. ⌜ now («row_tile_ptr» .exit) ≡ padded 0 (length (now («row_tile_ptr» .entry))) [] ⌝ }
-    ensures bits { λ _. ⌜ now («tile_masks» .exit) ≡ padded 0 (length (now («tile_masks» .entry))) [] ⌝ }
-    ensures offsets { λ _. ⌜ now («value_offsets» .exit) ≡ padded 0 (length (now («value_offsets» .entry))) [] ⌝ }
-    ensures metas { λ _. ⌜ now (metas .exit) ≡ padded 0 (length (now (metas .entry))) [] ⌝ }
-    ensures values { λ _. ⌜ now («tile_values» .exit) ≡ padded zero64 (length (now («tile_values» .entry))) [] ⌝ }
-    ensures list { λ _. ⌜ (now («out_row_ptr» .exit) ≡ padded 0 (length (now («out_row_ptr» .entry))) []) × (now («out_col_idx» .exit) ≡ padded 0 (length (now («out_col_idx» .entry))) []) × (now («out_values» .exit) ≡ padded zero64 (length (now («out_values» .entry))) []) ⌝ }
-    ensures product { λ _. ⌜ now (product .exit) ≡ padded zero64 (length (now (product .entry))) [] ⌝ }
-{
-    lent::clear_from_u32(row_tile_ptr, 0);
-    lent::clear_from_u64(tile_masks, 0);
-    lent::clear_from_u32(value_offsets, 0);
-    lent::clear_from_u32(metas, 0);
-    lent::clear_from_f64(tile_values, 0);
-    clear_list(out_row_ptr, out_col_idx, out_values, product);
-}
-
-fn examine_tiled(
-    nrows: usize,
-    ncols: usize,
-    row_ptr: &[u32],
-    col_idx: &[u32],
-    values: &[f64],
-    mask_len: usize,
-    mask: &[u64],
-    config: AbtmConfig,
-    x: &[f64],
-    row: usize,
-) -> Verdict
-    ensures { λ r. ⌜ told r ≡ (recordsAnswer (asCsr nrows ncols (now («row_ptr» .entry)) (now («col_idx» .entry)) (now (values .entry))) (asMask «mask_len» (now (mask .entry))) andThen thresholdAnswer config andThen questionAnswer (asCsr nrows ncols (now («row_ptr» .entry)) (now («col_idx» .entry)) (now (values .entry))) (asMask «mask_len» (now (mask .entry))) (now (x .entry)) row) ⌝ }
-{
-    let v = examine_records(nrows, ncols, row_ptr, col_idx, values, mask_len, mask);
-    if let Verdict::Refused(e) = v {
-        return Verdict::Refused(e);
-    }
-    let t = config.validate();
-    if let Verdict::Refused(e) = t {
-        return Verdict::Refused(e);
-    }
-    examine_question(
-        nrows,
-        ncols,
-        row_ptr,
-        col_idx,
-        values,
-        mask_len,
-        mask,
-        x,
-        row,
-    )
-}
-
-// The row product of the list restricted from the plot list's tiles: the tiles are built and restricted, and the product of all rows
-// made, each in lists that then hold it.
-pub fn tiled_number(
-    nrows: usize,
-    ncols: usize,
-    row_ptr: &[u32],
-    col_idx: &[u32],
-    values: &[f64],
-    mask_len: usize,
-    mask: &[u64],
-    config: AbtmConfig,
-    x: &[f64],
-    row: usize,
-    row_tile_ptr: &mut [u32],
-    tile_masks: &mut [u64],
-    value_offsets: &mut [u32],
-    metas: &mut [u32],
-    tile_values: &mut [f64],
-    out_row_ptr: &mut [u32],
-    out_col_idx: &mut [u32],
-    out_values: &mut [f64],
-    product: &mut [f64],
-) -> NumberAnswer
-    ensures answer { λ r. ⌜ toldNumber r ≡ answers (tiledAnswer (asCsr nrows ncols (now («row_ptr» .entry)) (now («col_idx» .entry)) (now (values .entry))) (asMask «mask_len» (now (mask .entry))) config (now (x .entry)) row (asTileRoom (length (now («row_tile_ptr» .entry))) (length (now («tile_masks» .entry))) (length (now («value_offsets» .entry))) (length (now (metas .entry))) (length (now («tile_values» .entry)))) (asCsrRoom (length (now («out_row_ptr» .entry))) (length (now («out_col_idx» .entry))) (length (now («out_values» .entry)))) (length (now (product .entry)))) (tiledRowProduct (asCsr nrows ncols (now («row_ptr» .entry)) (now («col_idx» .entry)) (now (values .entry))) (asMask «mask_len» (now (mask .entry))) config (now (x .entry)) row) ⌝ }
-    ensures tiles { λ r. ⌜ TileLists (tiledAnswer (asCsr nrows ncols (now («row_ptr» .entry)) (now («col_idx» .entry)) (now (values .entry))) (asMask «mask_len» (now (mask .entry))) config (now (x .entry)) row (asTileRoom (length (now («row_tile_ptr» .entry))) (length (now («tile_masks» .entry))) (length (now («value_offsets» .entry))) (length (now (metas .entry))) (length (now («tile_values» .entry)))) (asCsrRoom (length (now («out_row_ptr» .entry))) (length (now («out_col_idx» .entry))) (length (now («out_values» .entry)))) (length (now (product .entry)))) (tilesFrom (asCsr nrows ncols (now («row_ptr» .entry)) (now («col_idx» .entry)) (now (values .entry))) config) (asTileRoom (length (now («row_tile_ptr» .entry))) (length (now («tile_masks» .entry))) (length (now («value_offsets» .entry))) (length (now (metas .entry))) (length (now («tile_values» .entry)))) (now («row_tile_ptr» .exit)) (now («tile_masks» .exit)) (now («value_offsets» .exit)) (now (metas .exit)) (now («tile_values» .exit)) ⌝ }
-    ensures list { λ r. ⌜ PlotLists (tiledAnswer (asCsr nrows ncols (now («row_ptr» .entry)) (now («col_idx» .entry)) (now (values .entry))) (asMask «mask_len» (now (mask .entry))) config (now (x .entry)) row (asTileRoom (length (now («row_tile_ptr» .entry))) (length (now («tile_masks» .entry))) (length (now («value_offsets» .entry))) (length (now (metas .entry))) (length (now («tile_values» .entry)))) (asCsrRoom (length (now («out_row_ptr» .entry))) (length (now («out_col_idx» .entry))) (length (now («out_values» .entry)))) (length (now (product .entry)))) (restrictedTiles (tilesFrom (asCsr nrows ncols (now («row_ptr» .entry)) (now («col_idx» .entry)) (now (values .entry))) config) (asMask «mask_len» (now (mask .entry)))) (asCsrRoom (length (now («out_row_ptr» .entry))) (length (now («out_col_idx» .entry))) (length (now («out_values» .entry)))) (now («out_row_ptr» .exit)) (now («out_col_idx» .exit)) (now («out_values» .exit)) ⌝ }
-    ensures product { λ r. ⌜ now (product .exit) ≡ built zero64 (length (now (product .entry))) (tiledAnswer (asCsr nrows ncols (now («row_ptr» .entry)) (now («col_idx» .entry)) (now (values .entry))) (asMask «mask_len» (now (mask .entry))) config (now (x .entry)) row (asTileRoom (length (now («row_tile_ptr» .entry))) (length (now («tile_masks» .entry))) (length (now («value_offsets» .entry))) (length (now (metas .entry))) (length (now («tile_values» .entry)))) (asCsrRoom (length (now («out_row_ptr» .entry))) (length (now («out_col_idx» .entry))) (length (now («out_values» .entry)))) (length (now (product .entry)))) (productOf (restrictedTiles (tilesFrom (asCsr nrows ncols (now («row_ptr» .entry)) (now («col_idx» .entry)) (now (values .entry))) config) (asMask «mask_len» (now (mask .entry)))) (now (x .entry))) ⌝ }
-{
-    let v = examine_tiled(
-        nrows,
-        ncols,
-        row_ptr,
-        col_idx,
-        values,
-        mask_len,
-        mask,
-        config,
-        x,
-        row,
-    );
-    if let Verdict::Refused(e) = v {
-        clear_tiled(
-            row_tile_ptr,
-            tile_masks,
-            value_offsets,
-            metas,
-            tile_values,
-            out_row_ptr,
-            out_col_idx,
-            out_values,
-            product,
-        );
-        return NumberAnswer::Refused(e);
-    }
-    let d = tile_number(
-        nrows,
-        ncols,
-        row_ptr,
-        col_idx,
-        values,
-        mask_len,
-        mask,
-        config,
-        x,
-        row,
-        row_tile_ptr,
-        tile_masks,
-        value_offsets,
-        metas,
-        tile_values,
-        out_row_ptr,
-        out_col_idx,
-        out_values,
-        product,
-    );
-    match d {
-        NumberAnswer::Number(n) => NumberAnswer::Number(n),
-        NumberAnswer::Refused(e) => {
-            clear_tiled(
-                row_tile_ptr,
-                tile_masks,
-                value_offsets,
-                metas,
-                tile_values,
-                out_row_ptr,
-                out_col_idx,
-                out_values,
-                product,
-            );
-            NumberAnswer::Refused(e)
         }
     }
 }

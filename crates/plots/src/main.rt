@@ -2,7 +2,7 @@
 // document's figures.
 use abtm::AbtmConfig;
 use abtm_build::TilesAnswer;
-use demand_routes::NumberAnswer;
+use demand_tiled::NumberAnswer;
 use hybit_core::BoolAnswer;
 use hybit_core::CountAnswer;
 use hybit_core::HybitError;
@@ -760,7 +760,7 @@ fn show_tiled(row_ptr: &[u32], cols: &[u32], values: &[f64], active: &[u64], x: 
     let mut out_values: [f64; 2] = [9.0; 2];
     let mut product: [f64; 1] = [9.0];
     text(b"tiled:");
-    number_answer(demand_routes::tiled_number(
+    number_answer(demand_tiled::tiled_number(
         1,
         70,
         row_ptr,

@@ -2,7 +2,8 @@
 use mathlib.Core.Path.{refl, _∙_}
 use native.Mathlib.Omega.{arith}
 use lib.ListN.{length-take}
-use Rattle.demand_routes.proofs.AllLaws.{all-none, all-some, all-filled, front-long}
+use Rattle.demand_routes.proofs.AllLaws.{all-none, all-some, all-filled}
+use Rattle.demand_examine.proofs.StepLaws.{front-long}
 use borrow.Author.Needs.{needs}
 use Rattle.demand_routes.proofs.all_dot.Statement.{statement}
 use Rattle.demand_routes.proofs.all_dot.Tie as tie

@@ -1,6 +1,7 @@
 -- `demand_routes::pruned_dot` meets its contract. Assumes nothing.
-use Rattle.demand_routes.proofs.EndLaws.{store-zeros, answer-refused, pruned-told, pruned-lists}
-use Rattle.demand_routes.proofs.CheckLaws.{pruned-refused}
+use Rattle.demand_routes.proofs.EndLaws.{store-zeros, pruned-told, pruned-lists}
+use Rattle.demand_examine.proofs.StepLaws.{answer-refused}
+use Rattle.demand_examine.proofs.CheckLaws.{pruned-refused}
 use borrow.Author.Needs.{needs}
 use Rattle.demand_routes.proofs.pruned_dot.Statement.{statement}
 use Rattle.demand_routes.proofs.pruned_dot.Tie as tie

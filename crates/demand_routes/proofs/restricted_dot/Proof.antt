@@ -1,6 +1,7 @@
 -- `demand_routes::restricted_dot` meets its contract. Assumes nothing.
-use Rattle.demand_routes.proofs.EndLaws.{store-zeros, plot-zeros, list-zeros, at-length, answer-refused, restricted-told, restricted-short, restricted-plots, restricted-all, restricted-store}
-use Rattle.demand_routes.proofs.CheckLaws.{restricted-refused}
+use Rattle.demand_routes.proofs.EndLaws.{store-zeros, restricted-told, restricted-short, restricted-plots, restricted-all, restricted-store}
+use Rattle.demand_examine.proofs.StepLaws.{plot-zeros, list-zeros, at-length, answer-refused}
+use Rattle.demand_examine.proofs.CheckLaws.{restricted-refused}
 use mathlib.Core.Path.{sym, ap, _∙_}
 use Rattle.metadata_first.specs.Dot.{toldDot}
 use borrow.Author.Needs.{needs}

@@ -1,0 +1,3 @@
+pub mod NumberLaws
+pub mod ExactLaws
+pub mod EndLaws

@@ -205,12 +205,12 @@ fn sums(sink: &mut impl Sink, share: &mut Share) {
     for list in numbers.iter().filter(|list| list.len() == 4) {
         for six in BOTH.into_iter().filter(|_| share.mine()) {
             let w = width(six);
-            let row = vec![
+            let rows = [vec![
                 Block::new(0, six, &list[..1]),
                 Block::new(1, six, &list[1..]),
-            ];
+            ]];
             for (nrows, ncols) in [(w, 2 * w), (w, 2 * w - 1), (w - 1, 2 * w), (1, 2 * w - 1)] {
-                let b = listed((nrows, ncols), six, &[row.clone()]);
+                let b = listed((nrows, ncols), six, &rows);
                 let (x, y) = (vec![1.0; ncols], vec![7.0; nrows]);
                 sink.call(&Call::DenseBlockApply(b, x, y));
             }

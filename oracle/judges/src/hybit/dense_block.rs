@@ -32,9 +32,9 @@ pub fn judge(call: &Call) -> Result<Outcome, Reason> {
             Ok(accepted(vec![made.metadata_bytes() as u64]))
         }
         DenseBlockStorageBytes(block_rows, blocks, slots) => {
-            let widths = [3, 6].into_iter();
-            let width = widths.filter(|w| blocks.checked_mul(w * w) == Some(*slots));
-            let width = width.last().ok_or(Reason::NoSuchList)?;
+            let of_width = |w: &usize| blocks.checked_mul(w * w) == Some(*slots);
+            let width = [3, 6].into_iter().find(of_width);
+            let width = width.ok_or(Reason::NoSuchList)?;
             let made = with_blocks(width, *block_rows, *blocks)?;
             Ok(accepted(vec![made.storage_bytes() as u64]))
         }

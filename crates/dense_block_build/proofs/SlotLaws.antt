@@ -94,28 +94,25 @@ module _ (m : Csr) (s : DenseBlockSize) where
     unfolding validSlots
     counting-done x e h = let q : R ≡ blocksFor (widthOf s) (m .rows) = omega (arith, inv .within) in inv .is ∙ ap (λ (k : ℕ). sumOf (joined (rowSlots m (widthOf s)) k)) q
 
-    -- the block row's block columns are cs, and x of its rows, at width v, lie inside the frame
+    -- the block row's block columns are cs; x of its rows, at width v, lie inside the frame, and t of its places
     module _ (h : R < blocksFor (widthOf s) (m .rows)) (v : ℕ) (ev : v ≡ widthOf s) where
       pub counting-first : v * R < m .rows
       counting-first = subst (λ (u : ℕ). u * R < m .rows) (sym ev) (band-in s (m .rows) R h)
 
-      module _ (cs : List ℕ) (ec : cs ≡ rowBlocks m (widthOf s) R) (x : ℕ) (ex : x ≡ min v (m .rows - v * R)) where
-        row-is : x ≡ inside (widthOf s) (m .rows) R
-        row-is = ex ∙ ap (λ (u : ℕ). min u (m .rows - u * R)) ev
-
+      module _ (cs : List ℕ) (ec : cs ≡ rowBlocks m (widthOf s) R) where
         next-long : length (joined (rowBlocks m (widthOf s)) (R + 1)) ≡ length (joined (rowBlocks m (widthOf s)) R) + length cs
         next-long = ap (λ (k : ℕ). length (joined (rowBlocks m (widthOf s)) k)) (add-one R) ∙ length-joined-suc (rowBlocks m (widthOf s)) R ∙ ap (λ (l : List ℕ). length (joined (rowBlocks m (widthOf s)) R) + length l) (sym ec)
 
         all-few : length (joined (rowBlocks m (widthOf s)) (R + 1)) ≤ 2 ^ 24
         all-few = omega (arith, blocks-most (valid m ok) s (R + 1) (omega arith), valid m ok .entries-in)
 
-        -- what `row_slots` requires
-        pub counting-asks : (x ≤ 6) × ((length cs ≤ 2 ^ 24) × (every (λ c. ltb c (blocksFor (widthOf s) (m .cols))) cs ≡ true))
+        -- what `row_slots` requires of them
+        pub counting-asks : (length cs ≤ 2 ^ 24) × (every (λ c. ltb c (blocksFor (widthOf s) (m .cols))) cs ≡ true)
         unfolding rowBlocks
         counting-asks =
-            (omega (arith, width-six s), (omega (arith, next-long, all-few), ap (every (λ c. ltb c (blocksFor (widthOf s) (m .cols)))) ec ∙ every-below (λ c. ltb c (blocksFor (widthOf s) (m .cols))) (blockHas m (widthOf s) R) (blocksFor (widthOf s) (m .cols)) (λ c l e. lt-ltb c (blocksFor (widthOf s) (m .cols)) l)))
+            (omega (arith, next-long, all-few), ap (every (λ c. ltb c (blocksFor (widthOf s) (m .cols)))) ec ∙ every-below (λ c. ltb c (blocksFor (widthOf s) (m .cols))) (blockHas m (widthOf s) R) (blocksFor (widthOf s) (m .cols)) (λ c l e. lt-ltb c (blocksFor (widthOf s) (m .cols)) l))
 
-        module _ (t : ℕ) (et : t ≡ sumOf (map (λ c. x * inside (widthOf s) (m .cols) c) cs)) where
+        module _ (x t : ℕ) (ex : x ≡ min v (m .rows - v * R)) (et : t ≡ sumOf (map (λ c. x * inside (widthOf s) (m .cols) c) cs)) where
           row-most : t ≤ 36 * length cs
           row-most = omega (arith, sum-most (λ c. x * inside (widthOf s) (m .cols) c) cs (λ c. place-few c))
             where
@@ -134,6 +131,6 @@ module _ (m : Csr) (s : DenseBlockSize) where
             within = omega arith;
             few = omega (arith, row-most, inv .few, next-long);
             is =
-                ap₂ (λ (a b : ℕ). a + b) (inv .is) (et ∙ ap₂ (λ (i : ℕ) (l : List ℕ). sumOf (map (λ c. i * inside (widthOf s) (m .cols) c) l)) row-is ec)
+                ap₂ (λ (a b : ℕ). a + b) (inv .is) (et ∙ ap₂ (λ (i : ℕ) (l : List ℕ). sumOf (map (λ c. i * inside (widthOf s) (m .cols) c) l)) (ex ∙ ap (λ (u : ℕ). min u (m .rows - u * R)) ev) ec)
                 ∙ sym (ap (λ (k : ℕ). sumOf (joined (rowSlots m (widthOf s)) k)) (add-one R) ∙ sum-append (joined (rowSlots m (widthOf s)) R) (rowSlots m (widthOf s) R));
           }

@@ -2,7 +2,7 @@
 use Prim.Native.Nat.{_-_}
 use native.Mathlib.Omega.{arith}
 use Rattle.csr32.specs.Csr.{asCsr}
-use Rattle.dense_block_build.proofs.SizeLaws.{next-fits}
+use Rattle.dense_block_build.proofs.SizeLaws.{width-six, next-fits}
 use Rattle.dense_block_build.proofs.FillLaws.{in-bands, pointers-here, pointers-next, band-order, band-inside, part-is}
 use Rattle.dense_block_build.proofs.SlotLaws.{Counting, counting-none, counting-done, counting-first, counting-asks, counting-fits, counting-more}
 use borrow.Author.Needs.{needs}
@@ -104,13 +104,13 @@ row-slots-requires : tie.Need-row-slots-requires Inv-loop μ-loop
 row-slots-requires c κs =
     let p = c .before .before .before .before .before .before .before .before .before .before .before .before .before .before .before .pre in
     let h = in-bands (c .before .before .before .before .before .before .before .before .before .before .before .before .before .before .before .args .size) _ _ _ (c .before .before .before .before .before .before .before .before .blocks-for .ensures) (c .before .before .before .before .before .before .loop-test .taken) in
-    counting-asks _ (c .before .before .before .before .before .before .before .before .before .before .before .before .before .before .before .args .size) (p .0) _ _ (c .before .before .before .before .before .before .before .loop .inv) h _ (c .before .before .before .before .before .before .before .before .before .width .ensures) _ (part-is _ (c .before .before .before .before .before .before .before .before .before .before .before .before .before .before .before .args .size) _ _ (p .1 .0) (p .1 .1) _ h _ _ (c .before .before .before .before .wide .ensures) (c .before .before .wide2 .ensures)) _ (c .before .smaller .ensures)
+    (omega (arith, width-six (c .before .before .before .before .before .before .before .before .before .before .before .before .before .before .before .args .size), c .before .before .before .before .before .before .before .before .before .width .ensures, c .before .smaller .ensures), counting-asks _ (c .before .before .before .before .before .before .before .before .before .before .before .before .before .before .before .args .size) (p .0) _ _ (c .before .before .before .before .before .before .before .loop .inv) h _ (c .before .before .before .before .before .before .before .before .before .width .ensures) _ (part-is _ (c .before .before .before .before .before .before .before .before .before .before .before .before .before .before .before .args .size) _ _ (p .1 .0) (p .1 .1) _ h _ _ (c .before .before .before .before .wide .ensures) (c .before .before .wide2 .ensures)))
 
 add-slots : tie.Need-add-slots Inv-loop μ-loop
 add-slots c =
     let p = c .before .before .before .before .before .before .before .before .before .before .before .before .before .before .before .before .pre in
     let h = in-bands (c .before .before .before .before .before .before .before .before .before .before .before .before .before .before .before .before .args .size) _ _ _ (c .before .before .before .before .before .before .before .before .before .blocks-for .ensures) (c .before .before .before .before .before .before .before .loop-test .taken) in
-    record { fits = counting-fits _ (c .before .before .before .before .before .before .before .before .before .before .before .before .before .before .before .before .args .size) (p .0) _ _ (c .before .before .before .before .before .before .before .before .loop .inv) h _ (c .before .before .before .before .before .before .before .before .before .before .width .ensures) _ (part-is _ (c .before .before .before .before .before .before .before .before .before .before .before .before .before .before .before .before .args .size) _ _ (p .1 .0) (p .1 .1) _ h _ _ (c .before .before .before .before .before .wide .ensures) (c .before .before .before .wide2 .ensures)) _ (c .before .before .smaller .ensures) _ (c .row-slots .ensures) }
+    record { fits = counting-fits _ (c .before .before .before .before .before .before .before .before .before .before .before .before .before .before .before .before .args .size) (p .0) _ _ (c .before .before .before .before .before .before .before .before .loop .inv) h _ (c .before .before .before .before .before .before .before .before .before .before .width .ensures) _ (part-is _ (c .before .before .before .before .before .before .before .before .before .before .before .before .before .before .before .before .args .size) _ _ (p .1 .0) (p .1 .1) _ h _ _ (c .before .before .before .before .before .wide .ensures) (c .before .before .before .wide2 .ensures)) _ _ (c .before .before .smaller .ensures) (c .row-slots .ensures) }
 
 add-band : tie.Need-add-band Inv-loop μ-loop
 add-band c = next-fits _ _ (pointers-next _ (c .before .before .before .before .before .before .before .before .before .before .before .before .before .before .before .before .args .size) _ _ (c .before .before .before .before .before .before .before .before .before .before .before .before .before .before .before .before .pre .1 .0) (c .before .before .before .before .before .before .before .before .before .before .before .before .before .before .before .before .pre .1 .1) _ (in-bands (c .before .before .before .before .before .before .before .before .before .before .before .before .before .before .before .before .args .size) _ _ _ (c .before .before .before .before .before .before .before .before .before .blocks-for .ensures) (c .before .before .before .before .before .before .before .loop-test .taken))) (c .before .before .before .before .before .before .before .before .before .before .before .before .before .before .before .before .good .1 .1 .1 .1 .1 .1 .0 .0)
@@ -122,7 +122,7 @@ loop-again : tie.Need-loop-again Inv-loop μ-loop
 loop-again c =
     let p = c .before .before .before .before .before .before .before .before .before .before .before .before .before .before .before .before .pre in
     let h = in-bands (c .before .before .before .before .before .before .before .before .before .before .before .before .before .before .before .before .args .size) _ _ _ (c .before .before .before .before .before .before .before .before .before .blocks-for .ensures) (c .before .before .before .before .before .before .before .loop-test .taken) in
-    counting-more _ (c .before .before .before .before .before .before .before .before .before .before .before .before .before .before .before .before .args .size) (p .0) _ _ (c .before .before .before .before .before .before .before .before .loop .inv) h _ (c .before .before .before .before .before .before .before .before .before .before .width .ensures) _ (part-is _ (c .before .before .before .before .before .before .before .before .before .before .before .before .before .before .before .before .args .size) _ _ (p .1 .0) (p .1 .1) _ h _ _ (c .before .before .before .before .before .wide .ensures) (c .before .before .before .wide2 .ensures)) _ (c .before .before .smaller .ensures) _ (c .row-slots .ensures)
+    counting-more _ (c .before .before .before .before .before .before .before .before .before .before .before .before .before .before .before .before .args .size) (p .0) _ _ (c .before .before .before .before .before .before .before .before .loop .inv) h _ (c .before .before .before .before .before .before .before .before .before .before .width .ensures) _ (part-is _ (c .before .before .before .before .before .before .before .before .before .before .before .before .before .before .before .before .args .size) _ _ (p .1 .0) (p .1 .1) _ h _ _ (c .before .before .before .before .before .wide .ensures) (c .before .before .before .wide2 .ensures)) _ _ (c .before .before .smaller .ensures) (c .row-slots .ensures)
 
 returns : tie.Need-returns Inv-loop μ-loop
 returns c = counting-done _ (c .before .before .before .before .before .before .before .before .before .args .size) (c .before .before .before .before .before .before .before .before .before .pre .0) _ _ (c .before .loop .inv) _ (c .before .before .blocks-for .ensures) (c .loop-test .left)

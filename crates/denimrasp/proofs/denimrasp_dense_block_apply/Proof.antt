@@ -20,7 +20,7 @@ same-length c = search needs
 returns : tie.Need-returns
 returns c =
     let e = c .before .before .before .apply .ensures in
-    rw (← (c .before .before .before .before .block-size .ensures)) (c .verdict .ensures ∙ ap verdictOf (e .0), e .1)
+    rw (← (c .before .before .before .before .before .block-size .ensures)) (c .verdict .ensures ∙ ap verdictOf (e .0), e .1)
 
 pub denimrasp-dense-block-apply-spec : {M : Type 1} → statement M
 denimrasp-dense-block-apply-spec = tie.close (tie.spec block-size-requires apply-requires verdict-requires same-length returns)

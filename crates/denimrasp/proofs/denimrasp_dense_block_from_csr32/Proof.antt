@@ -26,7 +26,7 @@ same-length-3 c = search needs
 returns : tie.Need-returns
 returns c =
     let e = c .before .before .before .before .before .before .before .from-csr32 .ensures in
-    rw (← (c .before .before .before .before .before .before .before .before .block-size .ensures)) (c .blocks-built .ensures ∙ ap blocksAnswerOf (e .0), e .1)
+    rw (← (c .before .before .before .before .before .before .before .before .before .before .before .block-size .ensures)) (c .blocks-built .ensures ∙ ap blocksAnswerOf (e .0), e .1)
 
 pub denimrasp-dense-block-from-csr32-spec : {M : Type 1} → statement M
 denimrasp-dense-block-from-csr32-spec = tie.close (tie.spec block-size-requires from-csr32-requires blocks-built-requires same-length same-length-2 same-length-3 returns)

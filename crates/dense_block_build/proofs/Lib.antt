@@ -3,6 +3,7 @@ pub mod FlatLaws
 pub mod MergeLaws
 pub mod RunLaws
 pub mod RowLaws
+pub mod LineLaws
 pub mod AddLaws
 pub mod NoteLaws
 pub mod BandLaws

@@ -2,7 +2,7 @@
 use mathlib.Core.Bool.{Bool, true, false, cond}
 use mathlib.Core.List.{List, [], _∷_, _++_, zip, zipWith, foldl-append}
 use mathlib.Core.Path.{_≡_, refl, sym, ap, ap₂, _∙_}
-use Prim.Native.Nat.{ℕ, suc, _+_, _-_, _*_, _/_, _%_, _≤_, _<_, zero-le}
+use Prim.Native.Nat.{ℕ, suc, _+_, _-_, _%_, _≤_, _<_, zero-le}
 use native.Mathlib.Nat.{mod-lt}
 use native.Mathlib.Numerals.{add-one}
 use native.Mathlib.Decide.{decLt}
@@ -13,12 +13,11 @@ use lib.Seq.{take-suc, take-add, getD-set-same, getD-set-other}
 use lib.Ieee.{Float, nan, binary64, add}
 use borrow.Author.Tests.{eq-eqb, ne-eqb}
 use Rattle.lent.specs.Lists.{each, only, consIf}
-use Rattle.lent.proofs.ListLaws.{each-cong, each-is, getD-each, only-append}
+use Rattle.lent.proofs.ListLaws.{each-cong, only-append}
 use Rattle.lent.proofs.PartLaws.{take-zip, drop-zip, getD-zip, length-zip}
 use Rattle.csr32.specs.Csr.{Entry}
 use Rattle.csr32.proofs.MergedLaws.{firsts-all}
-use Rattle.dense_block_build.proofs.FlatLaws.{flat-length, flat-at}
-use Rattle.dense_block_build.specs.Making.{flat, addValues, inLine, inBlock}
+use Rattle.dense_block_build.specs.Making.{addValues, inLine}
 
 -- ---- two lists side by side, in two parts
 
@@ -108,40 +107,3 @@ module _ (w : ℕ) (cs : List ℕ) (vs old : List Float) where
     merging-done h =
         each-cong (λ j. getD line j nan) (λ j. addValues (getD old j nan) (only (atPlace w j) (zip cs vs))) w
         (λ j b. inv .is j b ∙ ap (λ (l : List Entry). addValues (getD old j nan) (only (atPlace w j) l)) (firsts-all cs vs k h same))
-
--- ---- a row of a block is merged into
-
-pub merged-block : (w row : ℕ) (block : List (List Float)) (line : List Float) (es : List Entry) → 0 < w → w ≤ 6 → row < w → length block ≡ 6
-    → each (λ j. getD line j nan) w ≡ inLine w es (getD block row []) → flat w (set block row line) ≡ inBlock w row es (flat w block)
-unfolding inBlock inLine
-merged-block w row block line es pos six h room e = each-is nan (λ q. next q (eqb (q / w) row)) (w * w) (flat w (set block row line)) (flat-length w (set block row line)) places
-  where
-    next : ℕ → Bool → Float
-    next q t = cond t (addValues (getD (flat w block) q nan) (only (atPlace w (q % w)) es)) (getD (flat w block) q nan)
-
-    line-at : (j : ℕ) → j < w → getD line j nan ≡ addValues (getD (getD block row []) j nan) (only (atPlace w j) es)
-    line-at j b =
-        sym (getD-each (λ j. getD line j nan) w j nan b) ∙ ap (λ (l : List Float). getD l j nan) e
-        ∙ getD-each (λ j. addValues (getD (getD block row []) j nan) (only (atPlace w j) es)) w j nan b
-
-    places : (q : ℕ) → q < w * w → getD (flat w (set block row line)) q nan ≡ next q (eqb (q / w) row)
-    places q b = flat-at w (set block row line) q pos b ∙ go (decLt (q / w) row) (decLt row (q / w))
-      where
-        was : getD (flat w block) q nan ≡ getD (getD block (q / w) []) (q % w) nan
-        was = flat-at w block q pos b
-
-        other : (q / w ≡ row → ⊥) → getD (getD (set block row line) (q / w) []) (q % w) nan ≡ next q (eqb (q / w) row)
-        other x = ap (λ (l : List Float). getD l (q % w) nan) (getD-set-other block row (q / w) line [] x) ∙ sym was ∙ sym (ap (next q) (ne-eqb (q / w) row x))
-
-        go : Dec (q / w < row) → Dec (row < q / w) → getD (getD (set block row line) (q / w) []) (q % w) nan ≡ next q (eqb (q / w) row)
-        go (yes x) y = other (λ r. omega arith)
-        go (no x) (yes y) = other (λ r. omega arith)
-        go (no x) (no y) =
-            let r : q / w ≡ row = omega arith in
-            ap (λ (n : ℕ). getD (getD (set block row line) n []) (q % w) nan) r ∙ ap (λ (l : List Float). getD l (q % w) nan) (getD-set-same block row line [] (omega arith))
-            ∙ line-at (q % w) (mod-lt q pos) ∙ ap (λ (x : Float). addValues x (only (atPlace w (q % w)) es)) (ap (λ (n : ℕ). getD (getD block n []) (q % w) nan) (sym r) ∙ sym was)
-            ∙ sym (ap (next q) (eq-eqb (q / w) row r))
-
--- a block copied in at width w, merged into, and copied out
-pub merged-run : (v w row : ℕ) (block merged : List (List Float)) (es : List Entry) (old new : List Float) → w ≡ v → flat w block ≡ old → flat v merged ≡ inBlock v row es (flat v block) → new ≡ flat w merged → new ≡ inBlock v row es old
-merged-run v w row block merged es old new e a m b = b ∙ ap (λ (k : ℕ). flat k merged) e ∙ m ∙ ap (inBlock v row es) (ap (λ (k : ℕ). flat k block) (sym e) ∙ a)

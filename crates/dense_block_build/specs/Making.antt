@@ -1,18 +1,14 @@
 -- The values of a block row in the making: what the private functions require and ensure.
 use Prim.Native.Nat.{ℕ, _+_, _*_, _/_, _%_, _≤_}
 use mathlib.Core.Bool.{cond}
-use mathlib.Core.List.{List, [], foldl}
+use mathlib.Core.List.{List, foldl}
 use mathlib.Core.Path.{_≡_}
 use lib.Dec.{eqb}
 use lib.ListN.{length, getD}
 use lib.Ieee.{Float, nan, binary64, add}
-use Rattle.lent.specs.Lists.{joined, each, only}
+use Rattle.lent.specs.Lists.{each, only}
 use Rattle.lent.specs.Lent.{padded}
 use Rattle.csr32.specs.Csr.{Entry, ofColumn}
-
--- the six rows of six numbers, of which a block of width w takes the first w of each of the first w, as one list
-unfoldable pub flat : ℕ → List (List Float) → List Float
-flat w b = joined (λ i. each (λ j. getD (getD b i []) j nan) w) w
 
 -- s, and the entries' values added to it in stored order
 unfoldable pub addValues : Float → List Entry → Float

@@ -2,8 +2,8 @@
 use mathlib.Core.Bool.{Bool, true, false, not, _&&_}
 use mathlib.Core.List.{List}
 use mathlib.Core.Path.{_≡_, sym, ap, ap₂, _∙_}
-use Prim.Native.Nat.{ℕ, _*_, _^_, _≤_}
-use native.Mathlib.Nat.{mul-le-mul-right}
+use Prim.Native.Nat.{ℕ, _*_, _%_, _^_, _≤_, _<_}
+use native.Mathlib.Nat.{mul-le-mul-right, mod-eq-of-lt}
 use native.Mathlib.Omega.{arith}
 use lib.Dec.{eqb, ltb}
 use lib.ListN.{length}
@@ -14,7 +14,9 @@ use Rattle.hybit_core.proofs.BoolLaws.{and-left, and-right, is-equal, is-unequa
 use Rattle.hybit_core.proofs.AnswerLaws.{demand-accepted, then-second}
 use Rattle.lent.specs.Lists.{every}
 use Rattle.csr32.specs.Csr.{framed}
-use Rattle.dense_block.specs.Blocks.{Blocks, blocksFor, blockSizes, rowsClimb, blocksRules, blocksAnswer}
+use Rattle.dense_block.specs.Blocks.{Blocks, widthOf, blocksFor, blockSizes, rowsClimb, blocksRules, blocksAnswer}
+use Rattle.dense_block.specs.declared.DenseBlockSize.{DenseBlockSize}
+use Rattle.dense_block.specs.declared.DenseBlockSize.the-variants.{B3, B6}
 
 -- a list whose size passed
 pub sizes-few : (a b c d : ℕ) (r : Bool) → r ≡ sizesFit a b c d → not r ≡ false → c ≤ 2 ^ 24
@@ -22,6 +24,21 @@ unfolding sizesFit
 sizes-few a b c d r e h =
     leb-true c (2 ^ 24)
     (and-right (few a && few b) (many c) (and-left (few a && few b && many c) (many d) (sym e ∙ not-false r h)))
+
+-- a column count that passed
+pub columns-few : (a b c d : ℕ) (r : Bool) → r ≡ sizesFit a b c d → not r ≡ false → b ≤ 2 ^ 20
+unfolding sizesFit
+columns-few a b c d r e h =
+    leb-true b (2 ^ 20)
+    (and-right (few a) (few b) (and-left (few a && few b) (many c) (and-left (few a && few b && many c) (many d) (sym e ∙ not-false r h))))
+
+-- so many block columns can be told in 32 bits
+pub limit-told : (s : DenseBlockSize) (n g m : ℕ) → n ≤ 2 ^ 20 → g ≡ blocksFor (widthOf s) n → m ≡ g % 2 ^ 32 → m ≡ blocksFor (widthOf s) n
+limit-told s n g m h e q = q ∙ mod-eq-of-lt (small s e) ∙ e
+  where
+    small : (s : DenseBlockSize) → g ≡ blocksFor (widthOf s) n → g < 2 ^ 32
+    small B3 e = omega arith
+    small B6 e = omega arith
 
 -- the values of so many blocks can be counted
 pub square-small : (w : ℕ) → w ≤ 6 → w * w ≤ 36

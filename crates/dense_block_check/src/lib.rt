@@ -62,13 +62,14 @@ fn rows_climb(
     true
 }
 
-fn columns_below(col_idx: &[u32], limit: usize) -> bool
+// In 32 bits, since there is no vector comparison of 64.
+fn columns_below(col_idx: &[u32], limit: u32) -> bool
     ensures { λ r. ⌜ r ≡ every (λ c. ltb c limit) (now («col_idx» .entry)) ⌝ }
 {
     let mut holds = true;
     let mut i: usize = 0;
     while i < col_idx.len() {
-        holds = also(holds, hybit_core::wide(col_idx[i]) < limit);
+        holds = also(holds, col_idx[i] < limit);
         i += 1;
     }
     holds
@@ -83,7 +84,7 @@ fn rules_hold(
     col_idx: &[u32],
     values: &[f64],
 ) -> bool
-    requires { ⌜ length (now «col_idx») ≤ 2 ^ 24 ⌝ }
+    requires { ⌜ (length (now «col_idx») ≤ 2 ^ 24) × (ncols ≤ 2 ^ 20) ⌝ }
     ensures { λ r. ⌜ r ≡ blocksRules (asBlocks nrows ncols (widthOf size) (now («row_ptr» .entry)) (now («col_idx» .entry)) (now (values .entry))) ⌝ }
 {
     if !csr32::pointers_hold(size.blocks_for(nrows), row_ptr, col_idx.len()) {
@@ -93,7 +94,8 @@ fn rules_hold(
     if values.len() != col_idx.len() * (width * width) {
         return false;
     }
-    if !columns_below(col_idx, size.blocks_for(ncols)) {
+    let limit = hybit_core::narrow(size.blocks_for(ncols));
+    if !columns_below(col_idx, limit) {
         return false;
     }
     rows_climb(nrows, ncols, size, row_ptr, col_idx, values)

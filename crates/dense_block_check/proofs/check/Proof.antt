@@ -2,7 +2,7 @@
 use Rattle.hybit_core.proofs.AnswerLaws.{checks}
 use Rattle.hybit_core.proofs.BoolLaws.{tests}
 use Rattle.dense_block.specs.Blocks.{blocksAnswer}
-use Rattle.dense_block_check.proofs.RuleLaws.{sizes-few}
+use Rattle.dense_block_check.proofs.RuleLaws.{sizes-few, columns-few}
 use borrow.Author.Needs.{needs}
 use Rattle.dense_block_check.proofs.check.Statement.{statement}
 use Rattle.dense_block_check.proofs.check.Tie as tie
@@ -15,7 +15,7 @@ unfolding blocksAnswer
 returns c = search (checks, tests, needs)
 
 rules-hold-requires : tie.Need-rules-hold-requires
-rules-hold-requires c κs = sizes-few _ _ _ _ _ (c .before .sizes-fit .ensures) (c .if1 .left)
+rules-hold-requires c κs = (sizes-few _ _ _ _ _ (c .before .sizes-fit .ensures) (c .if1 .left), columns-few _ _ _ _ _ (c .before .sizes-fit .ensures) (c .if1 .left))
 
 returns-2 : tie.Need-returns-2
 unfolding blocksAnswer

@@ -1,6 +1,6 @@
 -- `dense_block_check::columns_below` meets its contract. Assumes nothing.
-use mathlib.Core.Path.{ap}
-use Prim.Native.Nat.{ℕ, _-_}
+use mathlib.Core.Path.{refl}
+use Prim.Native.Nat.{_-_}
 use lib.Dec.{ltb}
 use lib.ListN.{length}
 use borrow.Author.Needs.{needs}
@@ -17,14 +17,11 @@ abbrev μ-loop : tie.MeasureT-loop
 loop-holds : tie.Need-loop-holds Inv-loop μ-loop
 loop-holds c = passed-none _ _
 
-mul-wide : tie.Need-mul-wide Inv-loop μ-loop
-mul-wide c = search needs
+mul-also : tie.Need-mul-also Inv-loop μ-loop
+mul-also c = search needs
 
-shared-slice-read-wide : tie.Need-shared-slice-read-wide Inv-loop μ-loop
-shared-slice-read-wide c = search needs
-
-wide-requires : tie.Need-wide-requires Inv-loop μ-loop
-wide-requires c κs = search needs
+shared-slice-read-also : tie.Need-shared-slice-read-also Inv-loop μ-loop
+shared-slice-read-also c = search needs
 
 also-requires : tie.Need-also-requires Inv-loop μ-loop
 also-requires c κs = search needs
@@ -36,9 +33,7 @@ loop-less : tie.Need-loop-less Inv-loop μ-loop
 loop-less c = search needs
 
 loop-again : tie.Need-loop-again Inv-loop μ-loop
-loop-again c =
-    let limit = c .before .before .before .before .before .before .args .limit in
-    passed-more _ _ _ _ (c .before .before .before .before .loop .inv) 0 _ _ (search needs) (ap (λ (k : ℕ). ltb k limit) (c .before .wide .ensures)) (c .also .ensures)
+loop-again c = passed-more _ _ _ _ (c .before .before .before .loop .inv) 0 _ _ (search needs) refl (c .also .ensures)
 
 returns : tie.Need-returns Inv-loop μ-loop
 returns c = passed-done _ _ _ _ (c .before .loop .inv) (search needs)
@@ -50,9 +45,8 @@ columns-below-spec =
     Inv-loop
     μ-loop
     loop-holds
-    mul-wide
-    shared-slice-read-wide
-    wide-requires
+    mul-also
+    shared-slice-read-also
     also-requires
     add-i
     loop-less

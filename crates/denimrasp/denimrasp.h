@@ -3,8 +3,8 @@
  * Every call checks its own input and refuses by number, and no input stops it: what a caller owes is that each list's pointer
  * is not null, is aligned, and leads to as many places as the length after it says (for an empty list any such address will
  * do), that a list which a call writes to overlaps no other list of that call, and that the thread has stack left: 136 KiB
- * for building words and blocks, 268 KiB for building tiles, 456 KiB for packing and for the check of merged values, 72 KiB for
- * building a local list, 4 KiB for any other call.
+ * for building words, 168 KiB for building blocks, 268 KiB for building tiles, 456 KiB for packing and for the check of merged
+ * values, 72 KiB for building a local list, 4 KiB for any other call.
  *
  * number in an answer: 0 accepted, 1 over size, 2 bad frame, 3 outside column, 4 not finite, 5 bad mask, 6 lengths differ,
  * 7 no such place, 8 frames differ, 9 bad thresholds, 10 not square, 11 bad words, 12 bad store, 13 short list. Under 6

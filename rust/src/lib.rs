@@ -14,7 +14,7 @@
 //! refuse it later; if it did, the method would panic rather than return the zeros of a refusal.
 //!
 //! Building words takes up to 136 KiB of stack, building tiles up to 268 KiB, packing up to 456 KiB, building a region's
-//! matrix up to 72 KiB, building blocks up to 136 KiB: a thread that does it needs a stack of that size.
+//! matrix up to 72 KiB, building blocks up to 168 KiB: a thread that does it needs a stack of that size.
 //!
 //! What differs from hybit-matrix:
 //! - Sizes above document 01's domain are [`HybitError::SizeOverflow`]: rows, columns and mask lengths above 1,048,576, stored

@@ -9,6 +9,7 @@ use hybit_core::HybitError;
 use hybit_core::Verdict;
 use metadata_first::AbtmRowDot;
 use metadata_first::DotAnswer;
+use metadata_first::TotalsAnswer;
 use restricted::RestrictAnswer;
 use topology::SelectAnswer;
 use topology::StatsAnswer;
@@ -847,6 +848,44 @@ fn show_routes() {
     show_tiled(&row_ptr, &cols, &values, &active, &x);
 }
 
+// The counts of one of the worked row's dots.
+fn row_report(executed: usize, skipped: usize, active_words: usize) -> AbtmRowDot {
+    AbtmRowDot {
+        sum: 0.0,
+        candidate_products: 3,
+        executed_products: executed,
+        skipped_products: skipped,
+        topology_words: 2,
+        active_words: active_words,
+    }
+}
+
+// The five totals over the first and last of 64 reports; those between are of empty rows.
+fn show_totals(first: AbtmRowDot, last: AbtmRowDot) {
+    let mut reports = [AbtmRowDot {
+        sum: 0.0,
+        candidate_products: 0,
+        executed_products: 0,
+        skipped_products: 0,
+        topology_words: 0,
+        active_words: 0,
+    }; 64];
+    reports[0] = first;
+    reports[63] = last;
+    text(b"totals:");
+    match metadata_first_totals::totals_of_64(reports) {
+        TotalsAnswer::Refused(e) => refused(e),
+        TotalsAnswer::Totals(t) => {
+            size(t.candidate_products);
+            size(t.executed_products);
+            size(t.skipped_products);
+            size(t.topology_words);
+            size(t.active_words);
+        }
+    }
+    text(b"\n");
+}
+
 fn main() {
     show_word(b"word 0", 8, 0, 4);
     show_word(b"word 1", 3, 1, 6);
@@ -867,4 +906,7 @@ fn main() {
     show_thresholds(4, 65);
     show_thresholds(4, 4);
     show_routes();
+    show_totals(row_report(2, 1, 2), row_report(1, 2, 1));
+    show_totals(row_report(2, 18446744073709551613, 2), row_report(1, 2, 1));
+    show_totals(row_report(2, 18446744073709551614, 2), row_report(1, 2, 1));
 }

@@ -1,6 +1,8 @@
 // dense_block.rs: `LinearOperator::apply` of `DenseBlockCsrOperator`, the product of blocks. Each value is read once.
 ghost use mathlib.Core.Path.{_≡_};
-ghost use Prim.Native.Nat.{_+_, _*_, _/_, _≤_, _<_, _^_};
+ghost use mathlib.Core.Bool.{cond, _&&_};
+ghost use Prim.Native.Nat.{_+_, _-_, _*_, _/_, _≤_, _<_, _^_};
+ghost use lib.Dec.{ltb};
 ghost use lib.ListN.{length, getD, take};
 ghost use lib.Ieee.{nan, binary64, add};
 ghost use Rattle.hybit_core.specs.Answer.{accepted};

@@ -15,7 +15,7 @@ use dense_block::RatioAnswer;
 use hybit_core::HybitError;
 use hybit_core::Verdict;
 
-// The scans below keep a flag and never leave early, as those of csr32 do.
+// The scan of a row keeps a flag and never leaves early, as those of csr32 do.
 fn also(holds: bool, test: bool) -> bool
     ensures { λ r. ⌜ r ≡ (holds && test) ⌝ }
 {

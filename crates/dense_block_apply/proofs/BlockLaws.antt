@@ -39,7 +39,7 @@ pub row-under : {w : ℕ} → Width w → (R i : ℕ) → i < w → (w * R + i) 
 row-under three R i h = omega arith
 row-under six R i h = omega arith
 
-row-full : {w : ℕ} → Width w → (R n : ℕ) → w * R + w ≤ n → R < blocksFor w n
+pub row-full : {w : ℕ} → Width w → (R n : ℕ) → w * R + w ≤ n → R < blocksFor w n
 row-full three R n h = omega arith
 row-full six R n h = omega arith
 
@@ -90,6 +90,7 @@ pub record Ready (b : Blocks) (x : List Float) : Type 0 where
   pub frame : Framed (blocksFor (b .width) (b .rows)) (b .ptr) (length (b .col))
   pub values : length (b .vals) ≡ length (b .col) * (b .width * b .width)
   pub columns : every (λ C. ltb C (blocksFor (b .width) (b .cols))) (b .col) ≡ true
+  pub climb : rowsClimb b ≡ true
   pub x-long : length x ≡ b .cols
 
 module _ (b : Blocks) (x : List Float) (ny : ℕ) (e : applyBlocksAnswer b x ny ≡ accepted) where
@@ -133,6 +134,7 @@ module _ (b : Blocks) (x : List Float) (ny : ℕ) (e : applyBlocksAnswer b x ny 
         frame = framed-facts (blocksFor (b .width) (b .rows)) (b .ptr) n (accepted-frame b rules);
         values = eqb-true (length (b .vals)) (n * (b .width * b .width)) (and-right f v (and-left (f && v) c lists));
         columns = and-right (f && v) c lists;
+        climb = and-right (f && v && c) (rowsClimb b) rule;
         x-long = length-accepted (b .cols) (length x) (then-first (lengthIs (b .cols) (length x)) (lengthIs (b .rows) ny) lengths);
       }
 

@@ -17,6 +17,7 @@ use Rattle.word.proofs.BelowLaws.{between-split, between-none, between-cons}
 use Rattle.dense_block.specs.Blocks.{Blocks, inside}
 use Rattle.dense_block_apply.specs.Product.{products, termByTerm, asOne, blockTerms, addBlock, blockSum}
 use Rattle.dense_block_apply.proofs.BlockLaws.{Row, LastRow, row-over, row-under, last-over, last-under, last-short}
+use Rattle.dense_block_apply.proofs.FullLaws.{Fast, TailPlace, tail-place}
 
 -- ---- the places from a up to p
 
@@ -53,69 +54,79 @@ module _ (b : Blocks) (x : List Float) where
   unfolding blockTerms
   terms-are i p v c n e f g = rw (e, f, g)
 
-  -- ---- the rows of full block row R: the blocks up to place p are added
+  -- ---- the rows of full block row R: the blocks up to place p, all of them full, are added
 
-  pub record Sums (R from to p : ℕ) (sums : List Float) : Type 0 where
+  pub record Sums (R from to fast p : ℕ) (sums : List Float) : Type 0 where
     pub row : Row b x R from to
     pub full : b .width * R + b .width ≤ b .rows
+    pub ends : Fast b from to fast
     pub after : from ≤ p
-    pub within : p ≤ to
+    pub within : p ≤ fast
     pub is : sums ≡ each (λ i. sum-upto (b .width * R + i) from p) (b .width)
 
-  pub sums-none : (R from to : ℕ) → Row b x R from to → b .width * R + b .width ≤ b .rows → Sums R from to from (each (λ i. zero64) (b .width))
-  sums-none R from to r h = record {
+  pub sums-none : (R from to fast : ℕ) → Row b x R from to → b .width * R + b .width ≤ b .rows → Fast b from to fast → Sums R from to fast from (each (λ i. zero64) (b .width))
+  sums-none R from to fast r h f = record {
     row = r;
     full = h;
+    ends = f;
     after = le-refl from;
-    within = r .order;
+    within = f .after;
     is = each-cong (λ i. zero64) (λ i. sum-upto (b .width * R + i) from from) (b .width) (λ i l. sym (upto-none (b .width * R + i) from));
   }
 
-  module _ (R from to p : ℕ) (sums : List Float) (inv : Sums R from to p sums) where
+  module _ (R from to fast p : ℕ) (sums : List Float) (inv : Sums R from to fast p sums) where
     -- g is what the block makes of the number of row i
-    sums-more : (g : ℕ → Float → Float) → ((i : ℕ) (s : Float) → i < b .width → addBlock b x (b .width * R + i) s p ≡ g i s) → p < to → (new : List Float) → new ≡ each (λ i. g i (getD sums i nan)) (b .width) → Sums R from to (p + 1) new
-    sums-more g h l new e = record {
-      row = inv .row;
-      full = inv .full;
-      after = omega (arith, inv .after);
-      within = omega arith;
-      is = e ∙ each-cong (λ i. g i (getD sums i nan)) (λ i. sum-upto (b .width * R + i) from (p + 1)) (b .width) one;
-    }
+    sums-more : (g : ℕ → Float → Float) → ((i : ℕ) (s : Float) → i < b .width → addBlock b x (b .width * R + i) s p ≡ g i s) → each (λ i. g i (getD sums i nan)) (b .width) ≡ each (λ i. sum-upto (b .width * R + i) from (p + 1)) (b .width)
+    sums-more g h = each-cong (λ i. g i (getD sums i nan)) (λ i. sum-upto (b .width * R + i) from (p + 1)) (b .width) one
       where
         one : (i : ℕ) → i < b .width → g i (getD sums i nan) ≡ sum-upto (b .width * R + i) from (p + 1)
         one i k =
             ap (g i) (ap (λ (t : List Float). getD t i nan) (inv .is) ∙ getD-each (λ j. sum-upto (b .width * R + j) from p) (b .width) i nan k)
             ∙ sym (upto-more (b .width * R + i) from p (inv .after) ∙ h i (sum-upto (b .width * R + i) from p) k)
 
+    sums-all : (q : ℕ) → q ≡ to → each (λ i. sum-upto (b .width * R + i) from q) (b .width) ≡ each (λ i. blockSum b x (b .width * R + i)) (b .width)
+    sums-all q e =
+        each-cong (λ i. sum-upto (b .width * R + i) from q) (λ i. blockSum b x (b .width * R + i)) (b .width)
+        (λ i k. ap (sum-upto (b .width * R + i) from) e ∙ upto-all (b .width * R + i) R from to (row-over (inv .row .ready .width) R i k) (inv .row .starts) (inv .row .ends))
+
     -- v and c as the code has them: the place of the block's first value and its first column
-    module _ (v c : ℕ) (ev : v ≡ p * (b .width * b .width)) (ec : c ≡ b .width * getD (b .col) p 0) (l : p < to) (new : List Float) where
-      pub sums-full : c + b .width ≤ b .cols → new ≡ each (λ i. add binary64 (getD sums i nan) (asOne (products (b .vals) x (v + b .width * i) c (b .width)))) (b .width) → Sums R from to (p + 1) new
+    module _ (v c : ℕ) (ev : v ≡ p * (b .width * b .width)) (ec : c ≡ b .width * getD (b .col) p 0) (new : List Float) where
+      pub sums-full : p < fast → new ≡ each (λ i. add binary64 (getD sums i nan) (asOne (products (b .vals) x (v + b .width * i) c (b .width)))) (b .width) → Sums R from to fast (p + 1) new
       unfolding addBlock
-      sums-full h = sums-more (λ i s. add binary64 s (asOne (products (b .vals) x (v + b .width * i) c (b .width)))) one l new
+      sums-full l e = record {
+        row = inv .row;
+        full = inv .full;
+        ends = inv .ends;
+        after = omega (arith, inv .after);
+        within = omega arith;
+        is = e ∙ sums-more (λ i s. add binary64 s (asOne (products (b .vals) x (v + b .width * i) c (b .width)))) one;
+      }
         where
+          inside-all : b .width * getD (b .col) p 0 + b .width ≤ b .cols
+          inside-all = inv .ends .full p (inv .after) l
+
           one : (i : ℕ) (s : Float) → i < b .width → addBlock b x (b .width * R + i) s p ≡ add binary64 s (asOne (products (b .vals) x (v + b .width * i) c (b .width)))
           one i s k =
               let w = inv .row .ready .width in
-              rw (row-over w R i k, row-under w R i k, le-leb (b .width * R + b .width) (b .rows) (inv .full), le-leb (b .width * getD (b .col) p 0 + b .width) (b .cols) (omega arith))
-              (ap (λ (ts : List Float). add binary64 s (asOne ts)) (terms-are i p v c (b .width) ev ec (omega arith)))
+              rw (row-over w R i k, row-under w R i k, le-leb (b .width * R + b .width) (b .rows) (inv .full), le-leb (b .width * getD (b .col) p 0 + b .width) (b .cols) inside-all)
+              (ap (λ (ts : List Float). add binary64 s (asOne ts)) (terms-are i p v c (b .width) ev ec (omega (arith, inside-all))))
 
-      -- a column tail, n columns wide
-      pub sums-tail : (n : ℕ) → n ≡ b .cols - c → b .cols < c + b .width → new ≡ each (λ i. termByTerm (getD sums i nan) (products (b .vals) x (v + b .width * i) c n)) (b .width) → Sums R from to (p + 1) new
+      -- the last block is a column tail, n columns wide
+      pub sums-tail : fast ≤ p → (p ≡ to → ⊥) → (n : ℕ) → n ≡ b .cols - c → new ≡ each (λ i. termByTerm (getD sums i nan) (products (b .vals) x (v + b .width * i) c n)) (b .width) → new ≡ each (λ i. blockSum b x (b .width * R + i)) (b .width)
       unfolding addBlock
-      sums-tail n e h = sums-more (λ i s. termByTerm s (products (b .vals) x (v + b .width * i) c n)) one l new
+      sums-tail l u n en e = e ∙ sums-more (λ i s. termByTerm s (products (b .vals) x (v + b .width * i) c n)) one ∙ sums-all (p + 1) (q .last)
         where
+          q : TailPlace b to p
+          q = tail-place (inv .ends) p (inv .within) l u
+
           one : (i : ℕ) (s : Float) → i < b .width → addBlock b x (b .width * R + i) s p ≡ termByTerm s (products (b .vals) x (v + b .width * i) c n)
           one i s k =
               let w = inv .row .ready .width in
-              rw (row-over w R i k, row-under w R i k, le-leb (b .width * R + b .width) (b .rows) (inv .full), lt-leb (b .width * getD (b .col) p 0 + b .width) (b .cols) (omega arith))
-              (ap (termByTerm s) (terms-are i p v c n ev ec (omega arith)))
+              rw (row-over w R i k, row-under w R i k, le-leb (b .width * R + b .width) (b .rows) (inv .full), lt-leb (b .width * getD (b .col) p 0 + b .width) (b .cols) (q .tail))
+              (ap (termByTerm s) (terms-are i p v c n ev ec (omega (arith, q .tail))))
 
-    pub sums-done : to ≤ p → sums ≡ each (λ i. blockSum b x (b .width * R + i)) (b .width)
-    sums-done h =
-        let end : p ≡ to = omega (arith, inv .within) in
-        inv .is
-        ∙ each-cong (λ i. sum-upto (b .width * R + i) from p) (λ i. blockSum b x (b .width * R + i)) (b .width)
-        (λ i k. ap (sum-upto (b .width * R + i) from) end ∙ upto-all (b .width * R + i) R from to (row-over (inv .row .ready .width) R i k) (inv .row .starts) (inv .row .ends))
+    pub sums-done : p ≡ to → sums ≡ each (λ i. blockSum b x (b .width * R + i)) (b .width)
+    sums-done h = inv .is ∙ sums-all p h
 
   -- ---- a row r below the full block rows: the blocks up to place p are added
 

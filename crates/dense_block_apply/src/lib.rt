@@ -1,6 +1,8 @@
 // dense_block.rs: `LinearOperator::apply` of `DenseBlockCsrOperator`, the product of blocks. Each value is read once.
 ghost use mathlib.Core.Path.{_≡_};
-ghost use Prim.Native.Nat.{_+_, _*_, _/_, _≤_, _<_, _^_};
+ghost use mathlib.Core.Bool.{cond, _&&_};
+ghost use Prim.Native.Nat.{_+_, _-_, _*_, _/_, _≤_, _<_, _^_};
+ghost use lib.Dec.{ltb};
 ghost use lib.ListN.{length, getD, take};
 ghost use lib.Ieee.{nan, binary64, add};
 ghost use Rattle.hybit_core.specs.Answer.{accepted};
@@ -112,6 +114,19 @@ fn add_tail6(
     [a, b, c, d, e, f]
 }
 
+// Where the full blocks of a row end: of rising block columns only the last can reach past the frame.
+fn fast_end(width: usize, ncols: usize, col_idx: &[u32], start: usize, end: usize) -> usize
+    requires { ⌜ (start ≤ end) × (end ≤ length (now «col_idx»)) ⌝ ∗ ⌜ width ≤ 6 ⌝ }
+    ensures { λ r. ⌜ r ≡ cond (ltb start end && ltb ncols (width * getD (now («col_idx» .entry)) (end - 1) 0 + width)) (end - 1) end ⌝ }
+{
+    if start < end {
+        if width * hybit_core::wide(col_idx[end - 1]) + width > ncols {
+            return end - 1;
+        }
+    }
+    end
+}
+
 // The three rows of full block row `row` of accepted blocks.
 fn full_row3(
     nrows: usize,
@@ -125,21 +140,21 @@ fn full_row3(
     requires { ⌜ applyBlocksAnswer (asBlocks nrows ncols 3 (now «row_ptr») (now «col_idx») (now values)) (now x) nrows ≡ accepted ⌝ ∗ ⌜ 3 * row + 3 ≤ nrows ⌝ }
     ensures { λ r. ⌜ r ≡ each (λ i. blockSum (asBlocks nrows ncols 3 (now («row_ptr» .entry)) (now («col_idx» .entry)) (now (values .entry))) (now (x .entry)) (3 * row + i)) 3 ⌝ }
 {
+    let start = hybit_core::wide(row_ptr[row]);
     let end = hybit_core::wide(row_ptr[row + 1]);
+    let fast = fast_end(3, ncols, col_idx, start, end);
     let mut sums = [0.0f64; 3];
-    let mut p = hybit_core::wide(row_ptr[row]);
-    while p < end {
-        let col = 3 * hybit_core::wide(col_idx[p]);
-        if col + 3 <= ncols {
-            let full = add_full3(sums, values, 9 * p, x, col);
-            sums = full;
-        } else {
-            let tail = add_tail3(sums, ncols - col, values, 9 * p, x, col);
-            sums = tail;
-        }
+    let mut p = start;
+    while p < fast {
+        let full = add_full3(sums, values, 9 * p, x, 3 * hybit_core::wide(col_idx[p]));
+        sums = full;
         p += 1;
     }
-    sums
+    if p == end {
+        return sums;
+    }
+    let col = 3 * hybit_core::wide(col_idx[p]);
+    add_tail3(sums, ncols - col, values, 9 * p, x, col)
 }
 
 // The six rows of full block row `row`.
@@ -155,21 +170,21 @@ fn full_row6(
     requires { ⌜ applyBlocksAnswer (asBlocks nrows ncols 6 (now «row_ptr») (now «col_idx») (now values)) (now x) nrows ≡ accepted ⌝ ∗ ⌜ 6 * row + 6 ≤ nrows ⌝ }
     ensures { λ r. ⌜ r ≡ each (λ i. blockSum (asBlocks nrows ncols 6 (now («row_ptr» .entry)) (now («col_idx» .entry)) (now (values .entry))) (now (x .entry)) (6 * row + i)) 6 ⌝ }
 {
+    let start = hybit_core::wide(row_ptr[row]);
     let end = hybit_core::wide(row_ptr[row + 1]);
+    let fast = fast_end(6, ncols, col_idx, start, end);
     let mut sums = [0.0f64; 6];
-    let mut p = hybit_core::wide(row_ptr[row]);
-    while p < end {
-        let col = 6 * hybit_core::wide(col_idx[p]);
-        if col + 6 <= ncols {
-            let full = add_full6(sums, values, 36 * p, x, col);
-            sums = full;
-        } else {
-            let tail = add_tail6(sums, ncols - col, values, 36 * p, x, col);
-            sums = tail;
-        }
+    let mut p = start;
+    while p < fast {
+        let full = add_full6(sums, values, 36 * p, x, 6 * hybit_core::wide(col_idx[p]));
+        sums = full;
         p += 1;
     }
-    sums
+    if p == end {
+        return sums;
+    }
+    let col = 6 * hybit_core::wide(col_idx[p]);
+    add_tail6(sums, ncols - col, values, 36 * p, x, col)
 }
 
 // The rows of accepted blocks of width 3, the full block rows first.

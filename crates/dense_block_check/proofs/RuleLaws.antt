@@ -52,9 +52,6 @@ slots-fit n w h l = omega (arith, mul-le-mul-right (w * w) h, square-small w l)
 pub pointers-told : (h k n : ℕ) (ps : List ℕ) (t : Bool) → h ≡ k → t ≡ framed h ps n → t ≡ framed k ps n
 pointers-told h k n ps t e q = q ∙ ap (λ (j : ℕ). framed j ps n) e
 
-pub columns-told : (g k : ℕ) (cs : List ℕ) (t : Bool) → g ≡ k → t ≡ every (λ c. ltb c g) cs → t ≡ every (λ c. ltb c k) cs
-columns-told g k cs t e q = q ∙ ap (λ (j : ℕ). every (λ c. ltb c j) cs) e
-
 pub values-wrong : (w k n l : ℕ) → w ≡ k → (l ≡ n * (w * w) → ⊥) → false ≡ eqb l (n * (k * k))
 values-wrong w k n l e h = is-unequal l (n * (k * k)) (λ q. h (q ∙ ap (λ (j : ℕ). n * (j * j)) (sym e)))
 
@@ -83,16 +80,9 @@ module _ (b : Blocks) where
     rules-values e = ap₂ (λ (p v : Bool). p && v && columnsHold && rowsClimb b) f e
 
     module _ (v : true ≡ valuesHold) where
-      held : (k r : Bool) → (k && r) ≡ (pointersHold && valuesHold && k && r)
-      held k r = ap₂ (λ (p v : Bool). p && v && k && r) f v
-
-      pub rules-columns : false ≡ columnsHold → false ≡ blocksRules b
+      pub rules-rows : (r : Bool) → r ≡ (columnsHold && rowsClimb b) → r ≡ blocksRules b
       unfolding blocksRules
-      rules-columns e = ap (λ (k : Bool). k && rowsClimb b) e ∙ held columnsHold (rowsClimb b)
-
-      pub rules-rows : (r : Bool) → true ≡ columnsHold → r ≡ rowsClimb b → r ≡ blocksRules b
-      unfolding blocksRules
-      rules-rows r e q = q ∙ ap (λ (k : Bool). k && rowsClimb b) e ∙ held columnsHold (rowsClimb b)
+      rules-rows r q = q ∙ ap₂ (λ (p v : Bool). p && v && columnsHold && rowsClimb b) f v
 
 -- what accepted blocks are
 pub accepted-frame : (b : Blocks) → blocksAnswer b ≡ accepted → framed (blocksFor (b .width) (b .rows)) (b .ptr) (length (b .col)) ≡ true

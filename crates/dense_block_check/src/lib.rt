@@ -15,7 +15,7 @@ use dense_block::RatioAnswer;
 use hybit_core::HybitError;
 use hybit_core::Verdict;
 
-// The scans below keep a flag and never leave early, as those of csr32 do.
+// The scan of a row keeps a flag and never leaves early, as those of csr32 do.
 fn also(holds: bool, test: bool) -> bool
     ensures { λ r. ⌜ r ≡ (holds && test) ⌝ }
 {
@@ -25,20 +25,25 @@ fn also(holds: bool, test: bool) -> bool
     false
 }
 
-// Whether each block column of a row is above the one before it.
-fn row_climbs(cols: &[u32]) -> bool
-    ensures { λ r. ⌜ r ≡ climbs 0 (now (cols .entry)) ⌝ }
+// Whether each block column of a row is above the one before it, and the last below `limit`; then all are.
+fn row_holds(cols: &[u32], limit: u32) -> bool
+    ensures { λ r. ⌜ r ≡ (climbs 0 (now (cols .entry)) && every (λ c. ltb c limit) (now (cols .entry))) ⌝ }
 {
+    if cols.len() == 0 {
+        return true;
+    }
     let mut holds = true;
+    let mut before = cols[0];
     let mut i: usize = 1;
     while i < cols.len() {
-        holds = also(holds, cols[i - 1] < cols[i]);
+        holds = also(holds, before < cols[i]);
+        before = cols[i];
         i += 1;
     }
-    holds
+    also(holds, before < limit)
 }
 
-fn rows_climb(
+fn rows_hold(
     nrows: usize,
     ncols: usize,
     size: DenseBlockSize,
@@ -46,33 +51,21 @@ fn rows_climb(
     col_idx: &[u32],
     values: &[f64],
 ) -> bool
-    requires { ⌜ framed (blocksFor (widthOf size) nrows) (now «row_ptr») (length (now «col_idx»)) ≡ true ⌝ }
-    ensures { λ r. ⌜ r ≡ rowsClimb (asBlocks nrows ncols (widthOf size) (now («row_ptr» .entry)) (now («col_idx» .entry)) (now (values .entry))) ⌝ }
+    requires { ⌜ framed (blocksFor (widthOf size) nrows) (now «row_ptr») (length (now «col_idx»)) ≡ true ⌝ ∗ ⌜ ncols ≤ 2 ^ 20 ⌝ }
+    ensures { λ r. ⌜ r ≡ (every (λ C. ltb C (blocksFor (widthOf size) ncols)) (now («col_idx» .entry)) && rowsClimb (asBlocks nrows ncols (widthOf size) (now («row_ptr» .entry)) (now («col_idx» .entry)) (now (values .entry)))) ⌝ }
 {
     let rows = size.blocks_for(nrows);
+    let limit = hybit_core::narrow(size.blocks_for(ncols));
     let mut row: usize = 0;
     while row < rows {
         let start = hybit_core::wide(row_ptr[row]);
         let end = hybit_core::wide(row_ptr[row + 1]);
-        if !row_climbs(&col_idx[start..end]) {
+        if !row_holds(&col_idx[start..end], limit) {
             return false;
         }
         row += 1;
     }
     true
-}
-
-// In 32 bits, since there is no vector comparison of 64.
-fn columns_below(col_idx: &[u32], limit: u32) -> bool
-    ensures { λ r. ⌜ r ≡ every (λ c. ltb c limit) (now («col_idx» .entry)) ⌝ }
-{
-    let mut holds = true;
-    let mut i: usize = 0;
-    while i < col_idx.len() {
-        holds = also(holds, col_idx[i] < limit);
-        i += 1;
-    }
-    holds
 }
 
 // The rules that the Rust's private fields keep.
@@ -94,11 +87,7 @@ fn rules_hold(
     if values.len() != col_idx.len() * (width * width) {
         return false;
     }
-    let limit = hybit_core::narrow(size.blocks_for(ncols));
-    if !columns_below(col_idx, limit) {
-        return false;
-    }
-    rows_climb(nrows, ncols, size, row_ptr, col_idx, values)
+    rows_hold(nrows, ncols, size, row_ptr, col_idx, values)
 }
 
 pub fn check(

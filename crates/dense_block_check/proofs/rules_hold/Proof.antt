@@ -5,7 +5,7 @@ use lib.ListN.{length}
 use Rattle.hybit_core.proofs.BoolLaws.{flag-on, flag-off}
 use Rattle.dense_block.specs.Blocks.{asBlocks, widthOf}
 use Rattle.dense_block_check.proofs.FastLaws.{width-small}
-use Rattle.dense_block_check.proofs.RuleLaws.{square-small, slots-fit, pointers-told, limit-told, columns-told, values-wrong, values-right, rules-unframed, rules-values, rules-columns, rules-rows}
+use Rattle.dense_block_check.proofs.RuleLaws.{square-small, slots-fit, pointers-told, values-wrong, values-right, rules-unframed, rules-values, rules-rows}
 use borrow.Author.Needs.{needs}
 use Rattle.dense_block_check.proofs.rules_hold.Statement.{statement}
 use Rattle.dense_block_check.proofs.rules_hold.Tie as tie
@@ -35,33 +35,16 @@ returns-2 : tie.Need-returns-2
 returns-2 c =
     let a = c .before .before .before .before .before .before .before .before .args in
     let b = asBlocks (a .nrows) (a .ncols) (widthOf (a .size)) (a .row-ptr .now) (a .col-idx .now) (a .values .now) in
-    rules-values b (flag-on _ _ (pointers-told _ _ _ _ _ (c .before .before .before .before .blocks-for .ensures) (c .before .before .before .pointers-hold .ensures)) (c .before .before .if1 .left)) (values-wrong _ _ _ _ (c .before .width .ensures) (c .if2 .taken))
+    rules-values b (flag-on _ _ (pointers-told _ _ _ _ _ (c .before .before .before .before .blocks-for .ensures) (c .before .before .before .pointers-hold .ensures)) (c .before .before .if1 .left)) (values-wrong _ _ (length (a .col-idx .now)) (length (a .values .now)) (c .before .width .ensures) (omega arith))
 
-blocks-for-requires-2 : tie.Need-blocks-for-requires-2
-blocks-for-requires-2 c κs = search needs
-
-narrow-requires : tie.Need-narrow-requires
-narrow-requires c κs = search needs
-
-columns-below-requires : tie.Need-columns-below-requires
-columns-below-requires c κs = search needs
+rows-hold-requires : tie.Need-rows-hold-requires
+rows-hold-requires c κs = (sym (flag-on _ _ (pointers-told _ _ _ _ _ (c .before .before .before .before .blocks-for .ensures) (c .before .before .before .pointers-hold .ensures)) (c .before .before .if1 .left)), c .before .before .before .before .before .before .before .before .pre .1)
 
 returns-3 : tie.Need-returns-3
 returns-3 c =
-    let a = c .before .before .before .before .before .before .before .before .before .before .before .before .args in
-    let s = a .size in
+    let a = c .before .before .before .before .before .before .before .before .before .args in
     let b = asBlocks (a .nrows) (a .ncols) (widthOf (a .size)) (a .row-ptr .now) (a .col-idx .now) (a .values .now) in
-    rules-columns b (flag-on _ _ (pointers-told _ _ _ _ _ (c .before .before .before .before .before .before .before .before .blocks-for .ensures) (c .before .before .before .before .before .before .before .pointers-hold .ensures)) (c .before .before .before .before .before .before .if1 .left)) (values-right _ _ _ _ (c .before .before .before .before .before .width .ensures) (c .before .before .before .before .if2 .left)) (flag-off _ _ (columns-told _ _ _ _ (limit-told s _ _ _ (c .before .before .before .before .before .before .before .before .before .before .before .before .pre .1) (c .before .before .before .blocks-for2 .ensures) (c .before .before .narrow .ensures)) (c .before .columns-below .ensures)) (c .if3 .taken))
-
-rows-climb-requires : tie.Need-rows-climb-requires
-rows-climb-requires c κs = sym (flag-on _ _ (pointers-told _ _ _ _ _ (c .before .before .before .before .before .before .before .before .blocks-for .ensures) (c .before .before .before .before .before .before .before .pointers-hold .ensures)) (c .before .before .before .before .before .before .if1 .left))
-
-returns-4 : tie.Need-returns-4
-returns-4 c =
-    let a = c .before .before .before .before .before .before .before .before .before .before .before .before .before .args in
-    let s = a .size in
-    let b = asBlocks (a .nrows) (a .ncols) (widthOf (a .size)) (a .row-ptr .now) (a .col-idx .now) (a .values .now) in
-    rules-rows b (flag-on _ _ (pointers-told _ _ _ _ _ (c .before .before .before .before .before .before .before .before .before .blocks-for .ensures) (c .before .before .before .before .before .before .before .before .pointers-hold .ensures)) (c .before .before .before .before .before .before .before .if1 .left)) (values-right _ _ _ _ (c .before .before .before .before .before .before .width .ensures) (c .before .before .before .before .before .if2 .left)) _ (flag-on _ _ (columns-told _ _ _ _ (limit-told s _ _ _ (c .before .before .before .before .before .before .before .before .before .before .before .before .before .pre .1) (c .before .before .before .before .blocks-for2 .ensures) (c .before .before .before .narrow .ensures)) (c .before .before .columns-below .ensures)) (c .before .if3 .left)) (c .rows-climb .ensures)
+    rules-rows b (flag-on _ _ (pointers-told _ _ _ _ _ (c .before .before .before .before .before .blocks-for .ensures) (c .before .before .before .before .pointers-hold .ensures)) (c .before .before .before .if1 .left)) (values-right _ _ (length (a .col-idx .now)) (length (a .values .now)) (c .before .before .width .ensures) (omega arith)) _ (c .rows-hold .ensures)
 
 pub rules-hold-spec : {M : Type 1} → statement M
 rules-hold-spec =
@@ -74,9 +57,5 @@ rules-hold-spec =
     mul-if2
     mul-if2-2
     returns-2
-    blocks-for-requires-2
-    narrow-requires
-    columns-below-requires
-    returns-3
-    rows-climb-requires
-    returns-4)
+    rows-hold-requires
+    returns-3)

@@ -24,7 +24,7 @@ tens w = foldl (λ (v : ℕ) (b : ℕ). 10 * v + (b - 48)) 0 w
 unfoldable pub numeral : List ℕ → Bool
 numeral w = leb 1 (length w) && leb (length w) 15 && every digit w
 
-pub wholeOf : List ℕ → Whole
+unfoldable pub wholeOf : List ℕ → Whole
 wholeOf w = cond (numeral w) (whole.Value (tens w)) whole.Bad
 
 -- the place of the first byte b, or the length
@@ -43,7 +43,7 @@ alone a = cond (numeral a) (real.Value (ratioOf (tens a) 1)) real.Bad
 unfoldable pub unsignedOf : List ℕ → Real
 unsignedOf w = cond (eqb (placeOf 46 w) (length w)) (alone w) (parts (take (placeOf 46 w) w) (drop (suc (placeOf 46 w)) w))
 
-pub negated : Real → Real
+unfoldable pub negated : Real → Real
 negated (real.Value v) = real.Value (neg v)
 negated real.Bad = real.Bad
 

@@ -185,9 +185,10 @@ fn expand(significand: u64, exponent: usize, places: &mut [u64; PLACES]) {
     }
 }
 
-fn all_zero(places: &[u64]) -> bool {
-    let mut i: usize = 0;
-    while i < places.len() {
+// Whether all places from the tenth digit behind the point on are 0.
+fn all_zero(places: &[u64; PLACES]) -> bool {
+    let mut i: usize = BEFORE + 1;
+    while i < PLACES {
         if places[i] != 0 {
             return false;
         }
@@ -196,22 +197,22 @@ fn all_zero(places: &[u64]) -> bool {
     true
 }
 
-// Whether the digits behind the sixth round it up: more than half, or half and the sixth odd. `nine` are the first nine behind the
-// point, `behind` the places after them.
-fn rounds_up(nine: u64, behind: &[u64]) -> bool {
+// Whether the digits behind the sixth round it up: more than half, or half and the sixth odd.
+fn rounds_up(places: &[u64; PLACES]) -> bool {
+    let nine = places[BEFORE];
     let dropped = nine % 1000;
     if dropped != 500 {
         return dropped > 500;
     }
-    if !all_zero(behind) {
+    if !all_zero(places) {
         return true;
     }
     nine / 1000 % 2 == 1
 }
 
 // One more in the last place before the point.
-fn increase(places: &mut [u64]) {
-    let mut i = places.len();
+fn increase(places: &mut [u64; PLACES]) {
+    let mut i: usize = BEFORE;
     while i > 0 {
         i -= 1;
         let v = places[i] % BASE + 1;
@@ -238,16 +239,16 @@ fn write_digits(n: u64, count: usize) {
 }
 
 // The places before the point, without zeros in front.
-fn write_whole(places: &[u64]) {
+fn write_whole(places: &[u64; PLACES]) {
     let mut first: usize = 0;
-    while first + 1 < places.len() {
+    while first + 1 < BEFORE {
         if places[first] != 0 {
             break;
         }
         first += 1;
     }
     let mut i = first;
-    while i < places.len() {
+    while i < BEFORE {
         if i == first {
             io::print_decimal(1, places[i]);
         } else {
@@ -267,19 +268,18 @@ fn write_decimal(bits: u64) {
     } else {
         expand(fraction + 4503599627370496, exponent, &mut places);
     }
-    let nine = places[BEFORE];
-    let mut six = nine / 1000 % 1000000;
-    if rounds_up(nine, &places[BEFORE + 1..]) {
+    let mut six = places[BEFORE] / 1000 % 1000000;
+    if rounds_up(&places) {
         six += 1;
     }
     if six == 1000000 {
         six = 0;
-        increase(&mut places[..BEFORE]);
+        increase(&mut places);
     }
     if bits >= 9223372036854775808 {
         io::write_all(1, b"-");
     }
-    write_whole(&places[..BEFORE]);
+    write_whole(&places);
     io::write_all(1, b".");
     write_digits(six, 6);
 }

@@ -4,7 +4,7 @@
 // written before all lines are accepted.
 ghost use mathlib.Core.Path.{_≡_};
 ghost use mathlib.Core.List.{[], _∷_};
-ghost use Prim.Native.Nat.{_≤_, _%_, _^_};
+ghost use Prim.Native.Nat.{_≤_, _<_, _%_, _^_};
 ghost use lib.ListN.{length};
 ghost use Rattle.hybit_core.specs.Answer.{answers};
 ghost use Rattle.mask.specs.Mask.{asMask};
@@ -143,16 +143,14 @@ fn same(a: &[u8], b: &[u8]) -> bool {
 
 fn next_whole(block: &mut [u8], at: &mut usize, end: &mut usize, line: &mut usize) -> Whole {
     let mut room = [0u8; 32];
-    let word: &mut [u8] = &mut room;
-    let n = next_word(block, at, end, line, word);
-    text::read_whole(&word[..n])
+    let n = next_word(block, at, end, line, &mut room);
+    text::read_whole(&room[..n])
 }
 
 fn next_real(block: &mut [u8], at: &mut usize, end: &mut usize, line: &mut usize) -> Real {
     let mut room = [0u8; 32];
-    let word: &mut [u8] = &mut room;
-    let n = next_word(block, at, end, line, word);
-    text::read_real(&word[..n])
+    let n = next_word(block, at, end, line, &mut room);
+    text::read_real(&room[..n])
 }
 
 fn next_is(
@@ -163,9 +161,8 @@ fn next_is(
     expected: &[u8],
 ) -> bool {
     let mut room = [0u8; 32];
-    let word: &mut [u8] = &mut room;
-    let n = next_word(block, at, end, line, word);
-    same(&word[..n], expected)
+    let n = next_word(block, at, end, line, &mut room);
+    same(&room[..n], expected)
 }
 
 // ---- the parts of a trial
@@ -263,12 +260,11 @@ fn read_active(
     active: &mut [u64],
 ) -> Part {
     let mut room = [0u8; 32];
-    let word: &mut [u8] = &mut room;
-    let n = next_word(block, at, end, line, word);
-    if same(&word[..n], b"mask") {
+    let n = next_word(block, at, end, line, &mut room);
+    if same(&room[..n], b"mask") {
         return read_flags(block, at, end, line, plots, active);
     }
-    if same(&word[..n], b"moisture") {
+    if same(&room[..n], b"moisture") {
         return read_moisture(block, at, end, line, plots, active);
     }
     Part::Wrong(Wanted::MaskOrMoisture)
@@ -365,6 +361,36 @@ fn report(
     )
 }
 
+// The report of the first n entries.
+fn report_first(
+    n: usize,
+    plots: usize,
+    cols: &[u32],
+    values: &[f64],
+    active: &[u64],
+    yields: &[f64],
+    word_indices: &mut [u32],
+    bits: &mut [u64],
+    packed: &mut [f64],
+) -> Line {
+    let a = hybit_core::smaller(n, cols.len());
+    let b = hybit_core::smaller(n, values.len());
+    let d = report(
+        plots,
+        &cols[..a],
+        &values[..b],
+        active,
+        yields,
+        word_indices,
+        bits,
+        packed,
+    );
+    match d {
+        DotAnswer::Dot(r) => Line::Of(r),
+        DotAnswer::Refused(e) => Line::Refused(e),
+    }
+}
+
 // Reads a line and takes its report.
 fn next_line(
     block: &mut [u8],
@@ -374,34 +400,27 @@ fn next_line(
     plots: usize,
     active: &[u64],
     yields: &[f64],
-    cols: &mut [u32],
-    values: &mut [f64],
-    word_indices: &mut [u32],
-    bits: &mut [u64],
-    packed: &mut [f64],
+    cols: &mut [u32; ROOM],
+    values: &mut [f64; ROOM],
+    word_indices: &mut [u32; WORD_ROOM],
+    bits: &mut [u64; WORD_ROOM],
+    packed: &mut [f64; ROOM],
 ) -> Line {
     let p = read_line(block, at, end, line, cols, values);
     match p {
         Part::Wrong(w) => Line::Wrong(w),
         Part::Refused(e) => Line::Refused(e),
-        Part::Taken(n) => {
-            let a = hybit_core::smaller(n, cols.len());
-            let b = hybit_core::smaller(n, values.len());
-            let d = report(
-                plots,
-                &cols[..a],
-                &values[..b],
-                active,
-                yields,
-                word_indices,
-                bits,
-                packed,
-            );
-            match d {
-                DotAnswer::Dot(r) => Line::Of(r),
-                DotAnswer::Refused(e) => Line::Refused(e),
-            }
-        }
+        Part::Taken(n) => report_first(
+            n,
+            plots,
+            cols,
+            values,
+            active,
+            yields,
+            word_indices,
+            bits,
+            packed,
+        ),
     }
 }
 
@@ -415,19 +434,68 @@ fn no_counts() -> AbtmProductPruningStats {
     }
 }
 
+// The counts of all lines so far with those of one more line.
+fn with_line(all: AbtmProductPruningStats, l: Line) -> All {
+    match l {
+        Line::Wrong(w) => All::Wrong(w),
+        Line::Refused(e) => All::Refused(e),
+        Line::Of(r) => {
+            let TotalsAnswer::Totals(t) = all.accumulate(r.counts()) else {
+                return All::Refused(HybitError::SizeOverflow);
+            };
+            All::Of(t)
+        }
+    }
+}
+
+// Notes what is to be written of line i.
+fn note(
+    l: Line,
+    i: usize,
+    sums: &mut [f64; ROOM],
+    executed: &mut [usize; ROOM],
+    skipped: &mut [usize; ROOM],
+)
+    requires { ⌜ i < 65536 ⌝ }
+{
+    let Line::Of(r) = l else {
+        return;
+    };
+    sums[i] = r.sum;
+    executed[i] = r.executed_products;
+    skipped[i] = r.skipped_products;
+}
+
+// Nothing may follow the last line.
+fn all_read(
+    block: &mut [u8],
+    at: &mut usize,
+    end: &mut usize,
+    line: &mut usize,
+    all: AbtmProductPruningStats,
+) -> All {
+    if next_is(block, at, end, line, b"") {
+        return All::Of(all);
+    }
+    All::Wrong(Wanted::Nothing)
+}
+
 // Reads all lines and notes what is to be written of each; answers the counts of all together.
 fn read_lines(
     block: &mut [u8],
     at: &mut usize,
     end: &mut usize,
     line: &mut usize,
+    lines: usize,
     plots: usize,
     active: &[u64],
     yields: &[f64],
-    sums: &mut [f64],
-    executed: &mut [usize],
-    skipped: &mut [usize],
-) -> All {
+    sums: &mut [f64; ROOM],
+    executed: &mut [usize; ROOM],
+    skipped: &mut [usize; ROOM],
+) -> All
+    requires { ⌜ lines ≤ 65536 ⌝ }
+{
     let mut cols = [0u32; ROOM];
     let mut values = [0.0f64; ROOM];
     let mut word_indices = [0u32; WORD_ROOM];
@@ -435,7 +503,7 @@ fn read_lines(
     let mut packed = [0.0f64; ROOM];
     let mut all = no_counts();
     let mut i: usize = 0;
-    while i < sums.len() {
+    while i < lines {
         let l = next_line(
             block,
             at,
@@ -450,28 +518,15 @@ fn read_lines(
             &mut bits,
             &mut packed,
         );
-        if let Line::Wrong(w) = l {
-            return All::Wrong(w);
-        }
-        if let Line::Refused(e) = l {
-            return All::Refused(e);
-        }
-        let Line::Of(r) = l else {
-            return All::Refused(HybitError::BadStore);
-        };
-        let TotalsAnswer::Totals(t) = all.accumulate(r.counts()) else {
-            return All::Refused(HybitError::SizeOverflow);
+        let a = with_line(all, l);
+        let All::Of(t) = a else {
+            return a;
         };
         all = t;
-        sums[i] = r.sum;
-        executed[i] = r.executed_products;
-        skipped[i] = r.skipped_products;
+        note(l, i, sums, executed, skipped);
         i += 1;
     }
-    if next_is(block, at, end, line, b"") {
-        return All::Of(all);
-    }
-    All::Wrong(Wanted::Nothing)
+    all_read(block, at, end, line, all)
 }
 
 // The lines' reports, and the output.
@@ -494,18 +549,19 @@ fn totals(
         at,
         end,
         line,
+        n,
         plots,
         active,
         yields,
-        &mut sums[..n],
-        &mut executed[..n],
-        &mut skipped[..n],
+        &mut sums,
+        &mut executed,
+        &mut skipped,
     );
     match a {
         All::Wrong(w) => complain(w, *line),
         All::Refused(e) => refuse(e, *line),
         All::Of(t) => {
-            write_lines(&sums[..n], &executed[..n], &skipped[..n]);
+            write_lines(n, &sums, &executed, &skipped);
             write_all_lines(t);
         }
     }
@@ -568,11 +624,11 @@ fn write_line(line: usize, sum: f64, executed: usize, skipped: usize) {
     write(b"\n");
 }
 
-fn write_lines(sums: &[f64], executed: &[usize], skipped: &[usize])
-    requires { ⌜ (length (now executed) ≡ length (now sums)) × (length (now skipped) ≡ length (now sums)) ⌝ }
+fn write_lines(lines: usize, sums: &[f64; ROOM], executed: &[usize; ROOM], skipped: &[usize; ROOM])
+    requires { ⌜ lines ≤ 65536 ⌝ }
 {
     let mut i: usize = 0;
-    while i < sums.len() {
+    while i < lines {
         write_line(i, sums[i], executed[i], skipped[i]);
         i += 1;
     }

@@ -1,9 +1,7 @@
 // Numbers as text, for the program trial: whole numbers and decimals are read, and a float is written as its bits and as a decimal
 // of six places.
 ghost use mathlib.Core.Path.{_≡_};
-ghost use mathlib.Core.Bool.{cond};
-ghost use Prim.Native.Nat.{_+_, _*_, _≤_, _<_, _^_};
-ghost use lib.ListN.{length};
+ghost use Prim.Native.Nat.{_≤_, _^_};
 ghost use Rattle.text.specs.Numbers.{digit, wholeOf, placeOf, alone, parts, unsignedOf, negated, realOf};
 
 pub enum Whole {

@@ -19,7 +19,6 @@ use metadata_first::DotAnswer;
 use metadata_first::TotalsAnswer;
 use text::Real;
 use text::Whole;
-use topology::TopologyAnswer;
 
 // The plots, the lines, and the entries of a line that the lists below have room for.
 const ROOM: usize = 65536;

@@ -18,7 +18,7 @@ returns : tie.Need-returns Inv-loop μ-loop
 returns c = search (whole-none, needs)
 
 returns-2 : tie.Need-returns-2 Inv-loop μ-loop
-returns-2 c = search (whole-long, needs)
+returns-2 c = whole-long _ (omega arith)
 
 loop-holds : tie.Need-loop-holds Inv-loop μ-loop
 loop-holds c = reading-none _

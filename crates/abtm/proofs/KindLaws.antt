@@ -1,5 +1,5 @@
 -- Kinds, places and thresholds, as the code tests them. Assumes nothing.
-use mathlib.Core.Path.{_≡_, refl, sym, ap, _∙_}
+use mathlib.Core.Path.{_≡_, sym, ap, _∙_}
 use mathlib.Core.Bool.{Bool, true, false, cond, _&&_}
 use Prim.Native.Nat.{ℕ, _≤_, _<_}
 use native.Mathlib.Omega.{arith}
@@ -9,6 +9,7 @@ use Rattle.hybit_core.specs.Answer.{gives, refuses, refused, accepted, plain, a
 use Rattle.hybit_core.proofs.BoolLaws.{and-first, and-next, is-equal, is-unequal, is-below, is-not-below, is-within, is-above}
 use Rattle.hybit_core.proofs.AnswerLaws.{last-fails, last-passes}
 use Rattle.word.specs.Bits.{has, below, count, members}
+use Rattle.word.proofs.BelowLaws.{all-places}
 use Rattle.word.proofs.OpLaws.{members-count}
 use Rattle.abtm.specs.declared.AbtmConfig.{AbtmConfig}
 use Rattle.abtm.specs.Tiles.{kindIn, placesOf, places, thresholdRules, kindOf}
@@ -22,10 +23,6 @@ dense-places kind mask e = ap (λ (b : Bool). cond b (below (λ i. true) 64) (me
 pub compact-places : (kind mask : ℕ) → (kind ≡ 2 → ⊥) → placesOf kind mask ≡ members mask
 unfolding placesOf
 compact-places kind mask e = ap (λ (b : Bool). cond b (below (λ i. true) 64) (members mask)) (sym (is-unequal kind 2 e))
-
-all-places : length (below (λ i. true) 64) ≡ 64
-unfolding below Rattle.word.specs.Bits.from
-all-places = refl
 
 pub dense-count : (k mask meta : ℕ) → k ≡ kindIn meta → k ≡ 2 → 64 ≡ length (places mask meta)
 dense-count k mask meta e d = sym (ap length (dense-places (kindIn meta) mask (sym e ∙ d)) ∙ all-places)

@@ -1,7 +1,7 @@
 -- The product of accepted tiles, row after row. Assumes nothing.
 use mathlib.Core.Bool.{true}
 use mathlib.Core.List.{List, map, zip}
-use mathlib.Core.Path.{_≡_, sym, ap, _∙_}
+use mathlib.Core.Path.{_≡_, ap, _∙_}
 use Prim.Native.Nat.{ℕ, _+_, _-_, _≤_, _<_, _^_}
 use native.Mathlib.Omega.{arith}
 use lib.ListN.{length, getD, take, drop, set}
@@ -9,24 +9,14 @@ use lib.Ieee.{Float}
 use Rattle.hybit_core.specs.Answer.{accepted, lengthIs, _andThen_}
 use Rattle.hybit_core.proofs.BoolLaws.{and-both}
 use Rattle.hybit_core.proofs.AnswerLaws.{then-first, then-second, length-accepted}
-use Rattle.lent.specs.Lists.{part, every}
-use Rattle.lent.proofs.ListLaws.{part-lent, every-by}
+use Rattle.lent.specs.Lists.{every}
+use Rattle.lent.proofs.ListLaws.{every-by}
 use Rattle.lent.proofs.LentLaws.{Filled, filled-none, filled-length, filled-more, filled-done}
-use Rattle.csr32.proofs.FrameLaws.{RowIn}
 use Rattle.topology.specs.Words.{wordRule}
 use Rattle.abtm.specs.Tiles.{Tiles, Listed, wordIn, tileAt, rowTiles, tilesAnswer}
-use Rattle.abtm_check.proofs.TilesLaws.{AcceptedTiles, tiles-facts, slotsInside, rowListed, masks-row, metas-row, offsets-row, metas-same, offsets-same, row-inside, row-words}
+use Rattle.abtm_check.proofs.TilesLaws.{AcceptedTiles, tiles-facts, slotsInside, rowListed, row-inside, row-words, lent-listed}
 use Rattle.abtm_apply.specs.Product.{sumTiles, tilesProduct, applyTilesAnswer}
 use Rattle.abtm_apply.specs.Ready.{tileInside}
-
--- row r of the lists, from a up to b
-pub record RowPlaces (t : Tiles) (r a b : ℕ) : Type 0 where
-  pub here : r < length (t .ptr)
-  pub next : r + 1 < length (t .ptr)
-  pub order : a ≤ b
-  pub in-masks : b ≤ length (t .mask)
-  pub in-offsets : b ≤ length (t .offset)
-  pub in-metas : b ≤ length (t .meta)
 
 -- y with its first rows written
 pub record Rows (t : Tiles) (x old : List Float) (row : ℕ) (y : List Float) : Type 0 where
@@ -37,7 +27,7 @@ pub rows-none : (t : Tiles) (x old : List Float) → Rows t x old 0 old
 rows-none t x old = record { inside = omega arith; filled = filled-none (λ r. sumTiles (t .cols) x (rowTiles t r)) old }
 
 module _ (t : Tiles) (x : List Float) (ny : ℕ) (e : applyTilesAnswer t x ny ≡ accepted) where
-  tiles-good : AcceptedTiles t
+  pub tiles-good : AcceptedTiles t
   unfolding applyTilesAnswer
   tiles-good = tiles-facts t (then-first (tilesAnswer t) (lengthIs (t .cols) (length x) andThen lengthIs (t .rows) ny) e)
 
@@ -56,32 +46,6 @@ module _ (t : Tiles) (x : List Float) (ny : ℕ) (e : applyTilesAnswer t x ny �
 
   -- ---- a row by its two pointers, as the code reads them
   module _ (r a b : ℕ) (h : r < t .rows) (ea : a ≡ getD (t .ptr) r 0) (eb : b ≡ getD (t .ptr) (r + 1) 0) where
-    pub row-places : RowPlaces t r a b
-    row-places =
-        let m : RowIn (t .ptr) (length (t .mask)) r = masks-row t tiles-good r h in
-        let o : RowIn (t .ptr) (length (t .offset)) r = offsets-row t tiles-good r h in
-        let k : RowIn (t .ptr) (length (t .meta)) r = metas-row t tiles-good r h in
-        record {
-          here = m .here;
-          next = m .next;
-          order = omega (arith, m .order);
-          in-masks = omega (arith, m .inside);
-          in-offsets = omega (arith, o .inside);
-          in-metas = omega (arith, k .inside);
-        }
-
-    lent-row : {A : Type 0} (l : List A) → take (b - a) (drop a l) ≡ part (t .ptr) l r
-    lent-row l = part-lent (t .ptr) l r a b ea eb
-
-    pub lent-offsets : length (take (b - a) (drop a (t .offset))) ≡ length (take (b - a) (drop a (t .mask)))
-    lent-offsets = ap length (lent-row (t .offset)) ∙ offsets-same t tiles-good r h ∙ sym (ap length (lent-row (t .mask)))
-
-    pub lent-metas : length (take (b - a) (drop a (t .meta))) ≡ length (take (b - a) (drop a (t .mask)))
-    lent-metas = ap length (lent-row (t .meta)) ∙ metas-same t tiles-good r h ∙ sym (ap length (lent-row (t .mask)))
-
-    lent-listed : zip (take (b - a) (drop a (t .mask))) (zip (take (b - a) (drop a (t .offset))) (take (b - a) (drop a (t .meta)))) ≡ rowListed t r
-    lent-listed = λ i. zip (lent-row (t .mask) i) (zip (lent-row (t .offset) i) (lent-row (t .meta) i))
-
     tiles-inside : every (tileInside (length (t .vals)) (t .cols)) (rowListed t r) ≡ true
     unfolding tileInside
     tiles-inside =
@@ -89,11 +53,11 @@ module _ (t : Tiles) (x : List Float) (ny : ℕ) (e : applyTilesAnswer t x ny �
         (λ e p q. and-both (slotsInside (length (t .vals)) e) (wordRule (t .cols) (wordIn (e .1 .1), e .0)) p q) (row-inside t tiles-good r h) (row-words t tiles-good r h)
 
     pub lent-inside : every (tileInside (length (t .vals)) (length x)) (zip (take (b - a) (drop a (t .mask))) (zip (take (b - a) (drop a (t .offset))) (take (b - a) (drop a (t .meta))))) ≡ true
-    lent-inside = ap (λ (n : ℕ). every (tileInside (length (t .vals)) n) (zip (take (b - a) (drop a (t .mask))) (zip (take (b - a) (drop a (t .offset))) (take (b - a) (drop a (t .meta)))))) x-long ∙ ap (every (tileInside (length (t .vals)) (t .cols))) lent-listed ∙ tiles-inside
+    lent-inside = ap (λ (n : ℕ). every (tileInside (length (t .vals)) n) (zip (take (b - a) (drop a (t .mask))) (zip (take (b - a) (drop a (t .offset))) (take (b - a) (drop a (t .meta)))))) x-long ∙ ap (every (tileInside (length (t .vals)) (t .cols))) (lent-listed t tiles-good r a b h ea eb) ∙ tiles-inside
 
     pub row-number : (s : Float) → s ≡ sumTiles (length x) x (map (tileAt (t .vals)) (zip (take (b - a) (drop a (t .mask))) (zip (take (b - a) (drop a (t .offset))) (take (b - a) (drop a (t .meta)))))) → s ≡ sumTiles (t .cols) x (rowTiles t r)
     unfolding rowTiles
-    row-number s q = q ∙ (λ i. sumTiles (x-long i) x (map (tileAt (t .vals)) (lent-listed i)))
+    row-number s q = q ∙ (λ i. sumTiles (x-long i) x (map (tileAt (t .vals)) (lent-listed t tiles-good r a b h ea eb i)))
 
   -- ---- y on the way
   module _ (old : List Float) (o : length old ≡ ny) (row : ℕ) (y : List Float) (inv : Rows t x old row y) where

@@ -1,18 +1,16 @@
 -- A row's number on the way, tile after tile. Assumes nothing.
 use mathlib.Core.Bool.{true}
-use mathlib.Core.List.{List, _∷_, map, zip, foldl}
+use mathlib.Core.List.{List, map, zip, foldl}
 use mathlib.Core.Path.{_≡_, refl, sym, ap, _∙_}
 use Prim.Native.Nat.{ℕ, _+_, _≤_, _<_}
-use native.Mathlib.Numerals.{add-one}
 use native.Mathlib.Omega.{arith}
-use lib.ListN.{length, getD, drop, drop-of-length-le}
-use lib.Seq.{drop-cons}
+use lib.ListN.{length, getD, drop}
 use lib.Ieee.{Float}
 use Rattle.hybit_core.specs.Floats.{zero64}
 use Rattle.lent.specs.Lists.{every}
 use Rattle.lent.proofs.ListLaws.{every-getD}
 use Rattle.abtm.specs.Tiles.{Listed, tileAt}
-use Rattle.lent.proofs.PartLaws.{getD-zip, length-zip}
+use Rattle.abtm_check.proofs.TilesLaws.{length-listed, listed-at, rest-listed, none-listed}
 use Rattle.abtm_apply.specs.Product.{addTile, sumTiles}
 use Rattle.abtm_apply.specs.Ready.{tileInside}
 
@@ -26,37 +24,21 @@ module _ (masks offs metas : List ℕ) (vals x : List Float) where
   summing-none = record { is = refl }
 
 module _ (masks offs metas : List ℕ) (vals x : List Float) (eo : length offs ≡ length masks) (em : length metas ≡ length masks) where
-  pairs-long : length (zip offs metas) ≡ length masks
-  pairs-long = length-zip offs metas (em ∙ sym eo) ∙ eo
-
-  listed-long : length (zip masks (zip offs metas)) ≡ length masks
-  listed-long = length-zip masks (zip offs metas) pairs-long
-
-  -- a tile as the code reads it: o is its offset
-  listed-at : (i o : ℕ) → i < length masks → o ≡ getD offs i 0 → getD (zip masks (zip offs metas)) i (0, (0, 0)) ≡ (getD masks i 0, (o, getD metas i 0))
-  listed-at i o h e =
-      getD-zip masks (zip offs metas) i 0 (0, 0) h (omega (arith, pairs-long))
-      ∙ ap (λ (t : ℕ × ℕ). (getD masks i 0, t)) (getD-zip offs metas i 0 0 (omega arith) (omega arith) ∙ ap (λ (k : ℕ). (k, getD metas i 0)) (sym e))
-
   pub tile-in : every (tileInside (length vals) (length x)) (zip masks (zip offs metas)) ≡ true → (i o : ℕ) → i < length masks → o ≡ getD offs i 0 → tileInside (length vals) (length x) (getD masks i 0, (o, getD metas i 0)) ≡ true
   tile-in a i o h e =
-      sym (ap (tileInside (length vals) (length x)) (listed-at i o h e))
-      ∙ every-getD (tileInside (length vals) (length x)) (zip masks (zip offs metas)) i (0, (0, 0)) a (omega (arith, listed-long))
+      sym (ap (tileInside (length vals) (length x)) (listed-at masks offs metas eo em i o h e))
+      ∙ every-getD (tileInside (length vals) (length x)) (zip masks (zip offs metas)) i (0, (0, 0)) a (omega (arith, length-listed masks offs metas eo em))
 
   module _ (i : ℕ) (s : Float) (inv : Summing masks offs metas vals x i s) where
     pub summing-more : (o : ℕ) (r : Float) → i < length masks → o ≡ getD offs i 0 → r ≡ addTile (length x) x s (tileAt vals (getD masks i 0, (o, getD metas i 0))) → Summing masks offs metas vals x (i + 1) r
     summing-more o r h e q =
         let l : List Listed = zip masks (zip offs metas) in
-        let step : drop i l ≡ (getD masks i 0, (o, getD metas i 0)) ∷ drop (i + 1) l =
-        drop-cons l i (0, (0, 0)) (omega (arith, listed-long)) ∙ ap (λ (k : ℕ). getD l i (0, (0, 0)) ∷ drop k l) (sym (add-one i)) ∙ ap (λ (t : Listed). t ∷ drop (i + 1) l) (listed-at i o h e) in
         record {
           is =
               ap (λ (t : Float). foldl (addTile (length x) x) t (map (tileAt vals) (drop (i + 1) l))) q
-              ∙ sym (ap (λ (t : List Listed). foldl (addTile (length x) x) s (map (tileAt vals) t)) step) ∙ inv .is;
+              ∙ sym (ap (λ (t : List Listed). foldl (addTile (length x) x) s (map (tileAt vals) t)) (rest-listed masks offs metas eo em i o h e)) ∙ inv .is;
         }
 
     pub summing-done : length masks ≤ i → s ≡ sumTiles (length x) x (map (tileAt vals) (zip masks (zip offs metas)))
     summing-done h =
-        let l : List Listed = zip masks (zip offs metas) in
-        let past : length l ≤ i = omega (arith, listed-long) in
-        sym (ap (λ (t : List Listed). foldl (addTile (length x) x) s (map (tileAt vals) t)) (drop-of-length-le l past)) ∙ inv .is
+        sym (ap (λ (t : List Listed). foldl (addTile (length x) x) s (map (tileAt vals) t)) (none-listed masks offs metas eo em i h)) ∙ inv .is

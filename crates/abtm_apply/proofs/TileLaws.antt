@@ -1,7 +1,7 @@
 -- One tile by its place in the lists: its values are there, its columns have an x, and what it adds. Assumes nothing.
 use mathlib.Core.Bool.{Bool, true, false, cond, not}
-use mathlib.Core.List.{List, [], _∷_, map, zip}
-use mathlib.Core.Path.{_≡_, refl, sym, ap, ap₂, _∙_}
+use mathlib.Core.List.{List, map, zip}
+use mathlib.Core.Path.{_≡_, sym, ap, ap₂, _∙_}
 use Prim.Native.Nat.{ℕ, _+_, _-_, _*_, _≤_, _<_, _^_}
 use native.Mathlib.Omega.{arith}
 use lib.Dec.{eqb, leb, ltb}
@@ -11,8 +11,8 @@ use lib.Ieee.{Float, binary64, add}
 use borrow.Author.Tests.{leb-true, ltb-true, eqb-false, not-true}
 use Rattle.hybit_core.specs.Floats.{zero64}
 use Rattle.hybit_core.proofs.BoolLaws.{and-left, and-right, is-equal, is-unequal}
-use Rattle.lent.specs.Lists.{part, only, every}
-use Rattle.lent.proofs.ListLaws.{part-lent, every-getD}
+use Rattle.lent.specs.Lists.{only, every}
+use Rattle.lent.proofs.ListLaws.{every-getD, slice-lent}
 use Rattle.word.specs.Bits.{below, members}
 use Rattle.word.proofs.WalkLaws.{some-members}
 use Rattle.csr32.specs.Csr.{Entry, rowProduct}
@@ -22,11 +22,6 @@ use Rattle.abtm.specs.Tiles.{wordIn, kindIn, places, stored, tileAt}
 use Rattle.abtm.proofs.KindLaws.{dense-places, compact-places, dense-count}
 use Rattle.abtm_apply.specs.Product.{denseEntries, addTile}
 use Rattle.abtm_apply.specs.Ready.{columnsInside, tileInside}
-
--- the places from a up to b, as a part of a lent list has them
-slice-lent : {A : Type 0} (a b : ℕ) (l : List A) → take (b - a) (drop a l) ≡ slice a b l
-unfolding part
-slice-lent a b l = part-lent (a ∷ b ∷ []) l 0 a b refl refl
 
 -- w is the tile's word as the code has it, n how many values it takes
 module _ (nv nx mask offset meta w n : ℕ) (e : tileInside nv nx (mask, (offset, meta)) ≡ true) (ew : w ≡ wordIn meta) (en : n ≡ length (places mask meta)) where

@@ -7,7 +7,7 @@ use native.Mathlib.Nat.{mod-eq-of-lt}
 use native.Mathlib.Numerals.{add-one}
 use native.Mathlib.Omega.{arith}
 use native.Mathlib.Decide.{decLt}
-use borrow.Author.Tests.{le-leb, lt-leb, ltb-true, ltb-false}
+use borrow.Author.Tests.{le-leb, ltb-true, ltb-false}
 use lib.Dec.{leb, ltb}
 use lib.Ieee.{Float}
 use lib.ListN.{length, take, drop, set, length-append, length-set, length-take, length-drop, length-map}
@@ -19,7 +19,7 @@ use Rattle.hybit_core.specs.declared.Verdict.{Verdict}
 use Rattle.hybit_core.specs.declared.Verdict.the-variants.{Accepted, Refused}
 use Rattle.hybit_core.specs.declared.HybitError.{HybitError}
 use Rattle.hybit_core.specs.declared.HybitError.the-variants.{ShortList}
-use Rattle.hybit_core.proofs.BoolLaws.{and-both, not-both}
+use Rattle.hybit_core.proofs.BoolLaws.{and-both, not-both, and-first, and-second, is-above}
 use Rattle.hybit_core.proofs.AnswerLaws.{accepted-by, refused-by, demand-accepted, then-first, then-second}
 use Rattle.lent.specs.Lists.{joined, each, starts, spread}
 use Rattle.lent.specs.Lent.{padded, built}
@@ -69,15 +69,6 @@ chain-refusal : (a b c d : Answer) (t : Told) → (c ≡ refused t → d ≡ ref
 chain-refusal accepted accepted c d t h e = h e
 chain-refusal accepted (refused u) c d t h e = e
 chain-refusal (refused u) b c d t h e = e
-
--- ---- five tests
-
-pick : (a b : Bool) → b ≡ false → (a && b) ≡ false
-pick true b h = h
-pick false b h = refl
-
-cut : (a b : Bool) → a ≡ false → (a && b) ≡ false
-cut a b h = ap (λ (x : Bool). x && b) h
 
 -- ---- the lists of the tiles
 
@@ -131,10 +122,10 @@ module _ (m : Csr) (h : AbtmConfig) where
     unfolding fitsTiles
     no-pointers l =
         let t : Tiles = tilesFrom m h in
-        cut (leb (length (t .ptr)) np && leb (length (t .mask)) nm && leb (length (t .offset)) nf && leb (length (t .meta)) nk) (leb (length (t .vals)) nv)
-        (cut (leb (length (t .ptr)) np && leb (length (t .mask)) nm && leb (length (t .offset)) nf) (leb (length (t .meta)) nk)
-        (cut (leb (length (t .ptr)) np && leb (length (t .mask)) nm) (leb (length (t .offset)) nf)
-        (cut (leb (length (t .ptr)) np) (leb (length (t .mask)) nm) (lt-leb (length (t .ptr)) np (omega (arith, ptr-long))))))
+        sym (and-first (leb (length (t .ptr)) np && leb (length (t .mask)) nm && leb (length (t .offset)) nf && leb (length (t .meta)) nk) (leb (length (t .vals)) nv)
+        (and-first (leb (length (t .ptr)) np && leb (length (t .mask)) nm && leb (length (t .offset)) nf) (leb (length (t .meta)) nk)
+        (and-first (leb (length (t .ptr)) np && leb (length (t .mask)) nm) (leb (length (t .offset)) nf)
+        (and-first (leb (length (t .ptr)) np) (leb (length (t .mask)) nm) (is-above (length (t .ptr)) np (omega (arith, ptr-long)))))))
 
     no-tiles : (min (min nm nf) nk) < length ts → fitting ≡ false
     unfolding fitsTiles
@@ -143,25 +134,25 @@ module _ (m : Csr) (h : AbtmConfig) where
         first : Dec (nm < length ts) → Dec (nf < length ts) → fitting ≡ false
         first (yes d) o =
             let t : Tiles = tilesFrom m h in
-            cut (leb (length (t .ptr)) np && leb (length (t .mask)) nm && leb (length (t .offset)) nf && leb (length (t .meta)) nk) (leb (length (t .vals)) nv)
-            (cut (leb (length (t .ptr)) np && leb (length (t .mask)) nm && leb (length (t .offset)) nf) (leb (length (t .meta)) nk)
-            (cut (leb (length (t .ptr)) np && leb (length (t .mask)) nm) (leb (length (t .offset)) nf)
-            (pick (leb (length (t .ptr)) np) (leb (length (t .mask)) nm) (lt-leb (length (t .mask)) nm (omega (arith, mask-long))))))
+            sym (and-first (leb (length (t .ptr)) np && leb (length (t .mask)) nm && leb (length (t .offset)) nf && leb (length (t .meta)) nk) (leb (length (t .vals)) nv)
+            (and-first (leb (length (t .ptr)) np && leb (length (t .mask)) nm && leb (length (t .offset)) nf) (leb (length (t .meta)) nk)
+            (and-first (leb (length (t .ptr)) np && leb (length (t .mask)) nm) (leb (length (t .offset)) nf)
+            (and-second (leb (length (t .ptr)) np) (leb (length (t .mask)) nm) (is-above (length (t .mask)) nm (omega (arith, mask-long)))))))
         first (no d) (yes o) =
             let t : Tiles = tilesFrom m h in
-            cut (leb (length (t .ptr)) np && leb (length (t .mask)) nm && leb (length (t .offset)) nf && leb (length (t .meta)) nk) (leb (length (t .vals)) nv)
-            (cut (leb (length (t .ptr)) np && leb (length (t .mask)) nm && leb (length (t .offset)) nf) (leb (length (t .meta)) nk)
-            (pick (leb (length (t .ptr)) np && leb (length (t .mask)) nm) (leb (length (t .offset)) nf) (lt-leb (length (t .offset)) nf (omega (arith, offset-long)))))
+            sym (and-first (leb (length (t .ptr)) np && leb (length (t .mask)) nm && leb (length (t .offset)) nf && leb (length (t .meta)) nk) (leb (length (t .vals)) nv)
+            (and-first (leb (length (t .ptr)) np && leb (length (t .mask)) nm && leb (length (t .offset)) nf) (leb (length (t .meta)) nk)
+            (and-second (leb (length (t .ptr)) np && leb (length (t .mask)) nm) (leb (length (t .offset)) nf) (is-above (length (t .offset)) nf (omega (arith, offset-long))))))
         first (no d) (no o) =
             let t : Tiles = tilesFrom m h in
-            cut (leb (length (t .ptr)) np && leb (length (t .mask)) nm && leb (length (t .offset)) nf && leb (length (t .meta)) nk) (leb (length (t .vals)) nv)
-            (pick (leb (length (t .ptr)) np && leb (length (t .mask)) nm && leb (length (t .offset)) nf) (leb (length (t .meta)) nk) (lt-leb (length (t .meta)) nk (omega (arith, meta-long))))
+            sym (and-first (leb (length (t .ptr)) np && leb (length (t .mask)) nm && leb (length (t .offset)) nf && leb (length (t .meta)) nk) (leb (length (t .vals)) nv)
+            (and-second (leb (length (t .ptr)) np && leb (length (t .mask)) nm && leb (length (t .offset)) nf) (leb (length (t .meta)) nk) (is-above (length (t .meta)) nk (omega (arith, meta-long)))))
 
     no-slots : nv < length (slotsOf ts) → fitting ≡ false
     unfolding fitsTiles
     no-slots l =
         let t : Tiles = tilesFrom m h in
-        pick (leb (length (t .ptr)) np && leb (length (t .mask)) nm && leb (length (t .offset)) nf && leb (length (t .meta)) nk) (leb (length (t .vals)) nv) (lt-leb (length (t .vals)) nv (omega (arith, vals-long)))
+        sym (and-second (leb (length (t .ptr)) np && leb (length (t .mask)) nm && leb (length (t .offset)) nf && leb (length (t .meta)) nk) (leb (length (t .vals)) nv) (is-above (length (t .vals)) nv (omega (arith, vals-long))))
 
     has-room : m .rows < np → length ts ≤ nm → length ts ≤ nf → length ts ≤ nk → length (slotsOf ts) ≤ nv → fitting ≡ true
     unfolding fitsTiles

@@ -24,7 +24,6 @@ use Rattle.abtm.specs.Tiles.{Tile, placesOf, places, kindOf, metaOf, tileOf, la
 use Rattle.abtm_build.specs.declared.Cursor.{Cursor}
 use Rattle.abtm_build.specs.Window.{maskAt, hitAt, tilesBetween, windowValue, Marked}
 use Rattle.abtm_build.specs.Written.{Laid, Wrote, Bounded, Lists}
-use Rattle.abtm.proofs.PlaceLaws.{places-few}
 use Rattle.abtm_build.proofs.RowsLaws.{slots-few}
 use Rattle.abtm_build.proofs.WroteLaws.{wrote-none, wrote-join, wrote-as, tiles-split, tiles-skip, tiles-cong}
 
@@ -62,11 +61,6 @@ module _ (e : Tile) (at next : Cursor) where
     metas-are = appended-one (at .tiles) (next .tiles) ks meta (e .meta) d (c .tiles-next) m;
     vals-are = subst (λ (new : List Float). Appended new (at .slots) (next .slots) vs out) (sym (append-nil (e .slots))) w;
   }
-
--- ---- the kind in a meta
-
-pub slots-small : (mask meta r : ℕ) → r ≡ length (places mask meta) → r ≤ 64
-slots-small mask meta r e = omega (arith, e, places-few (meta / 2 ^ 30) mask)
 
 -- ---- the tile of word n, whose mask is that of its 64 sums
 

@@ -13,7 +13,7 @@ use borrow.Author.Tests.{ne-eqb}
 use Rattle.lent.specs.Lists.{joined, part, only, some, spread}
 use Rattle.lent.proofs.ListLaws.{length-only, joined-le, spread-append}
 use Rattle.word.specs.Bits.{below, count, wordsOf, maskOf}
-use Rattle.word.proofs.BelowLaws.{below-zero, below-cong, below-trim, length-below-suc, length-below-parts, length-below-or}
+use Rattle.word.proofs.BelowLaws.{below-zero, below-cong, length-below-suc, length-below-parts, length-below-or, none-counted, byte-le}
 use Rattle.word.proofs.BitLaws.{words-le}
 use Rattle.csr32.specs.Csr.{Csr, Entry, entries, present}
 use Rattle.csr32.proofs.CsrLaws.{Valid}
@@ -28,20 +28,13 @@ use Rattle.abtm_build.proofs.RowsLaws.{slots-few}
 
 -- ---- columns that have an entry
 
-none-counted : (q : ℕ → Bool) (n : ℕ) → ((i : ℕ) → i < n → q i ≡ false) → length (below q n) ≡ 0
-none-counted q n h = ap length (below-trim q 0 n zero-le (λ i l u. h i u) ∙ below-zero q)
-
 single : (d n : ℕ) → length (below (λ c. eqb d c) n) ≤ 1
 single d zero = omega (arith, ap length (below-zero (λ c. eqb d c)))
 single d (suc n) = go (decLt d n) (single d n)
   where
     go : Dec (d < n) → length (below (λ c. eqb d c) n) ≤ 1 → length (below (λ c. eqb d c) (suc n)) ≤ 1
     go (yes l) k = omega (arith, length-below-suc (λ c. eqb d c) n, ap boolByte (ne-eqb d n (λ e. absurd (omega arith))), k)
-    go (no l) k = omega (arith, length-below-suc (λ c. eqb d c) n, none-counted (λ c. eqb d c) n (λ i u. ne-eqb d i (λ e. absurd (omega arith))), byte (eqb d n))
-      where
-        byte : (t : Bool) → boolByte t ≤ 1
-        byte true = omega arith
-        byte false = omega arith
+    go (no l) k = omega (arith, length-below-suc (λ c. eqb d c) n, none-counted (λ c. eqb d c) n (λ i u. ne-eqb d i (λ e. absurd (omega arith))), byte-le (eqb d n))
 
 present-few : (es : List Entry) (n : ℕ) → length (below (present es) n) ≤ length es
 unfolding present some

@@ -14,19 +14,17 @@ use Rattle.hybit_core.specs.Floats.{zero64}
 use Rattle.lent.specs.Lists.{consIf, each, every, only, some}
 use Rattle.lent.proofs.ListLaws.{length-each, getD-each, every-at, zeros-front}
 use Rattle.csr32.specs.Csr.{Entry, ofColumn, present}
+use Rattle.csr32.specs.Window.{Outside}
 use Rattle.csr32.proofs.CsrLaws.{present-columns}
 use Rattle.csr32.proofs.MergedLaws.{merged-absent}
 use Rattle.abtm.specs.declared.AbtmConfig.{AbtmConfig}
 use Rattle.abtm.specs.Values.{isZero, mergedNonzero}
 use Rattle.abtm.specs.Tiles.{rowTilesOf}
 use Rattle.abtm_build.specs.declared.Cursor.{Cursor}
-use Rattle.abtm_build.specs.Window.{tilesBetween, windowValue, Sized, Next, Outside}
+use Rattle.abtm_build.specs.Window.{tilesBetween, windowValue, Sized, Next}
 use Rattle.abtm_build.specs.Written.{Wrote}
 use Rattle.abtm_build.proofs.WroteLaws.{wrote-as, tiles-row}
 use Rattle.abtm_build.proofs.EmitLaws.{Emitting, emitting-skip, emitting-more}
-
-pub zeros-as : (sums : List Float) (m n : ℕ) → sums ≡ replicate m zero64 → m ≡ n → sums ≡ replicate n zero64
-zeros-as sums m n e h = e ∙ ap (λ (k : ℕ). replicate k zero64) h
 
 -- ---- columns without an entry
 

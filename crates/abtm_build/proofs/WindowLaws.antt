@@ -1,24 +1,22 @@
--- Laws of a window of a row: marks, its sums entry after entry without the stored zeros, clearing it. Assumes nothing.
-use mathlib.Core.Bool.{Bool, true, false, not, _&&_, _||_, and-false}
+-- Laws of a window of a row: marks, its sums entry after entry without the stored zeros. Assumes nothing.
+use mathlib.Core.Bool.{Bool, true, false, not, _&&_, and-false}
 use mathlib.Core.List.{List, [], _∷_, _++_, zip, zipWith, append-nil}
-use mathlib.Core.Path.{_≡_, refl, sym, ap, ap₂, subst, _∙_}
-use Prim.Native.Nat.{ℕ, zero, suc, min, _+_, _-_, _/_, _≤_, _<_}
-use native.Mathlib.Nat.{not-suc-le-zero}
-use native.Mathlib.Numerals.{add-one}
+use mathlib.Core.Path.{_≡_, sym, ap, ap₂, subst, _∙_}
+use Prim.Native.Nat.{ℕ, min, _+_, _-_, _/_, _≤_, _<_}
 use native.Mathlib.Decide.{decLt}
 use native.Mathlib.Omega.{arith}
 use lib.Dec.{eqb}
-use lib.ListN.{length, getD, take, drop, set, replicate, length-set, length-replicate, getD-replicate, drop-of-length-le}
-use lib.Seq.{ext-getD, getD-set-same, getD-set-other, drop-cons}
+use lib.ListN.{length, getD, take, set, replicate, length-set, length-replicate, getD-replicate}
+use lib.Seq.{getD-set-same, getD-set-other}
 use lib.Ieee.{Float, nan, binary64, add}
 use borrow.Author.Tests.{eq-eqb, ne-eqb}
 use Rattle.hybit_core.specs.Floats.{zero64}
-use Rattle.lent.specs.Lists.{consIf, each, only, some}
-use Rattle.lent.proofs.ListLaws.{getD-each, each-set, each-cong, each-is, only-append, some-none}
+use Rattle.lent.specs.Lists.{consIf, each, only}
+use Rattle.lent.proofs.ListLaws.{getD-each, each-set, each-cong, each-is, only-append}
 use Rattle.csr32.specs.Csr.{Entry, merged}
-use Rattle.csr32.proofs.MergedLaws.{addIf, merged-none, merged-snoc, firsts-all}
+use Rattle.csr32.proofs.MergedLaws.{addIf, merged-none, merged-snoc, firsts-all, zip-snoc}
 use Rattle.abtm.specs.Values.{isZero, mergedNonzero}
-use Rattle.abtm_build.specs.Window.{Marked, Sized, Next, Outside}
+use Rattle.abtm_build.specs.Window.{Marked, Sized, Next}
 
 -- ---- sizes and marks
 
@@ -63,19 +61,11 @@ nonzero-snoc : (es : List Entry) (d : ℕ) (v : Float) (c : ℕ) → mergedNonze
 unfolding mergedNonzero only
 nonzero-snoc es d v c = ap (λ (l : List Entry). merged l c) (only-append nonzero es ((d, v) ∷ [])) ∙ kept-snoc es d v c (not (isZero v))
 
-zip-snoc : (cs : List ℕ) (vs : List Float) (k : ℕ) → k < length cs → k < length vs → zip (take (suc k) cs) (take (suc k) vs) ≡ zip (take k cs) (take k vs) ++ ((getD cs k 0, getD vs k nan) ∷ [])
-unfolding zip zipWith
-zip-snoc [] vs k h l = absurd (not-suc-le-zero h)
-zip-snoc (c ∷ cs) [] k h l = absurd (not-suc-le-zero l)
-zip-snoc (c ∷ cs) (v ∷ vs) zero h l = refl
-zip-snoc (c ∷ cs) (v ∷ vs) (suc k) h l = ap (λ (t : List Entry). (c, v) ∷ t) (zip-snoc cs vs k (omega arith) (omega arith))
-
 -- d is the column and v the value of entry k, as the code reads them
 nonzero-more : (cs : List ℕ) (vs : List Float) (k d c : ℕ) (v : Float) → k < length cs → length vs ≡ length cs → d ≡ getD cs k 0 → v ≡ getD vs k nan
     → mergedNonzero (zip (take (k + 1) cs) (take (k + 1) vs)) c ≡ addIf (not (isZero v) && eqb d c) (mergedNonzero (zip (take k cs) (take k vs)) c) v
 nonzero-more cs vs k d c v h l e f =
-    ap (λ (n : ℕ). mergedNonzero (zip (take n cs) (take n vs)) c) (add-one k)
-    ∙ ap (λ (es : List Entry). mergedNonzero es c) (zip-snoc cs vs k h (omega arith))
+    ap (λ (es : List Entry). mergedNonzero es c) (zip-snoc cs vs k h (omega arith))
     ∙ nonzero-snoc (zip (take k cs) (take k vs)) (getD cs k 0) (getD vs k nan) c
     ∙ ap₂ (λ (n : ℕ) (x : Float). addIf (not (isZero x) && eqb n c) (mergedNonzero (zip (take k cs) (take k vs)) c) x) (sym e) (sym f)
 
@@ -152,32 +142,3 @@ module _ (cs : List ℕ) (vs : List Float) (base width : ℕ) where
               ap (λ (s : Float). add binary64 s v)
               (ap (λ (s : List Float). getD s (c - base) nan) (inv .is) ∙ getD-each (λ i. mergedNonzero (zip (take k cs) (take k vs)) (base + i)) width (c - base) nan g)
               ∙ sym (more true (base + (c - base)) (ap₂ (λ (r s : Bool). not r && s) z (eq-eqb c (base + (c - base)) (omega arith))))
-
--- ---- clearing: 0.0 but at the columns from place k on
-
-module _ (cs : List ℕ) (base k : ℕ) (sums : List Float) (inv : Outside (drop k cs) base sums) where
-  pub outside-done : (n : ℕ) → length sums ≡ n → length cs ≤ k → sums ≡ replicate n zero64
-  outside-done n e h =
-      ext-getD nan sums (replicate n zero64) (e ∙ sym (length-replicate n zero64))
-      (λ i b. inv .zeros i b (ap (some (λ c. eqb c (base + i))) (drop-of-length-le cs h) ∙ some-none (λ c. eqb c (base + i))) ∙ sym (getD-replicate n i zero64 nan (omega arith)))
-
-  module _ (c : ℕ) (h : k < length cs) (e : c ≡ getD cs k 0) where
-    left : (i : ℕ) → (c ≡ base + i → ⊥) → some (λ d. eqb d (base + i)) (drop (k + 1) cs) ≡ false → some (λ d. eqb d (base + i)) (drop k cs) ≡ false
-    unfolding some
-    left i f s =
-        ap (some (λ d. eqb d (base + i))) (drop-cons cs k 0 h)
-        ∙ ap₂ (λ (r t : Bool). r || t) (ap (λ (d : ℕ). eqb d (base + i)) (sym e) ∙ ne-eqb c (base + i) f) (ap (λ (n : ℕ). some (λ d. eqb d (base + i)) (drop n cs)) (sym (add-one k)) ∙ s)
-
-    pub outside-before : c < base → Outside (drop (k + 1) cs) base sums
-    outside-before b = record { zeros = λ i q s. inv .zeros i q (left i (λ x. omega arith) s) }
-
-    pub outside-past : base ≤ c → length sums ≤ c - base → Outside (drop (k + 1) cs) base sums
-    outside-past b g = record { zeros = λ i q s. inv .zeros i q (left i (λ x. omega arith) s) }
-
-    pub outside-more : base ≤ c → c - base < length sums → Outside (drop (k + 1) cs) base (set sums (c - base) zero64)
-    outside-more b g = record { zeros = λ i q s. go i (decLt i (c - base)) (decLt (c - base) i) (omega (arith, length-set sums (c - base) zero64)) s }
-      where
-        go : (i : ℕ) → Dec (i < c - base) → Dec (c - base < i) → i < length sums → some (λ d. eqb d (base + i)) (drop (k + 1) cs) ≡ false → getD (set sums (c - base) zero64) i nan ≡ zero64
-        go i (yes x) y q s = getD-set-other sums (c - base) i zero64 nan (λ z. omega arith) ∙ inv .zeros i q (left i (λ z. omega arith) s)
-        go i (no x) (yes y) q s = getD-set-other sums (c - base) i zero64 nan (λ z. omega arith) ∙ inv .zeros i q (left i (λ z. omega arith) s)
-        go i (no x) (no y) q s = let z : i ≡ c - base = omega arith in ap (λ (j : ℕ). getD (set sums (c - base) zero64) j nan) z ∙ getD-set-same sums (c - base) zero64 nan g

@@ -2,7 +2,7 @@
 use mathlib.Core.Bool.{Bool, true, false, not, cond, _&&_, _||_, or-false, and-true, and-false}
 use mathlib.Core.List.{List, [], _∷_, _++_, map, map-append}
 use mathlib.Core.Path.{_≡_, refl, sym, ap, ap₂, subst, _∙_}
-use Prim.Native.Nat.{ℕ, zero, suc, _+_, _≤_, _<_}
+use Prim.Native.Nat.{ℕ, _+_, _≤_, _<_}
 use native.Mathlib.Numerals.{add-one}
 use native.Mathlib.Decide.{decLt}
 use native.Mathlib.Omega.{arith}
@@ -11,11 +11,10 @@ use lib.ListN.{length, getD, set, length-map}
 use lib.Ieee.{Float, nan}
 use borrow.Author.Tests.{lt-ltb, le-ltb, eq-eqb, ne-eqb}
 use Rattle.hybit_core.specs.Floats.{zero64}
-use Rattle.lent.specs.Lists.{consIf}
 use Rattle.lent.specs.Lent.{Appended}
 use Rattle.lent.proofs.LentLaws.{appended-none, appended-snoc}
 use Rattle.word.specs.Bits.{has, below, members, wordOf}
-use Rattle.word.proofs.BelowLaws.{below-snoc, below-zero}
+use Rattle.word.proofs.BelowLaws.{below-snoc, below-zero, map-below, all-places}
 use Rattle.word.proofs.WalkLaws.{Walking, walking-done}
 use Rattle.word.proofs.OpLaws.{has-word, word-cong}
 use Rattle.abtm.specs.Values.{isZero}
@@ -95,27 +94,9 @@ walked f w from old b at out inv z =
 
 -- ---- the values of a tile
 
--- two functions that agree where the test holds
-map-kept : {A : Type 0} (f g : ℕ → A) (p : ℕ → Bool) (n : ℕ) → ((i : ℕ) → i < n → p i ≡ true → f i ≡ g i) → map f (below p n) ≡ map g (below p n)
-map-kept f g p zero h = ap (map f) (below-zero p) ∙ sym (ap (map g) (below-zero p))
-map-kept {A} f g p (suc n) h =
-    ap (map f) (below-snoc p n)
-    ∙ map-append f (below p n) (consIf (p n) n [])
-    ∙ ap₂ (λ (l r : List A). l ++ r) (map-kept f g p n (λ i b. h i (omega arith))) (last (p n) refl)
-    ∙ sym (map-append g (below p n) (consIf (p n) n []))
-    ∙ ap (map g) (sym (below-snoc p n))
-  where
-    last : (t : Bool) → p n ≡ t → map f (consIf t n []) ≡ map g (consIf t n [])
-    last true e = ap (λ (a : A). a ∷ []) (h n (omega arith) e)
-    last false e = refl
-
-all-length : length (below (λ i. true) 64) ≡ 64
-unfolding below Rattle.word.specs.Bits.from
-all-length = refl
-
 module _ (kind mask : ℕ) where
   pub dense-length : kind ≡ 2 → length (placesOf kind mask) ≡ 64
-  dense-length d = ap length (dense-places kind mask d) ∙ all-length
+  dense-length d = ap length (dense-places kind mask d) ∙ all-places
 
   pub compact-length : (kind ≡ 2 → ⊥) → length (placesOf kind mask) ≡ length (members mask)
   compact-length d = ap length (compact-places kind mask d)
@@ -133,7 +114,7 @@ module _ (kind mask : ℕ) where
         → Appended (map (λ i. cond (has mask i) (getD sums i nan) zero64) (placesOf kind mask)) from (from + length (placesOf kind mask)) old out
     slots-dense d m =
         as-places (λ i. cond (not (isZero (getD sums i nan))) (getD sums i nan) zero64) (below (λ i. true) 64) (from + 64) (sym (dense-places kind mask d)) (ap (λ (n : ℕ). from + n) (sym (dense-length d)))
-        (map-kept (λ i. cond (not (isZero (getD sums i nan))) (getD sums i nan) zero64) (λ i. cond (has mask i) (getD sums i nan) zero64) (λ i. true) 64
+        (map-below (λ i. cond (not (isZero (getD sums i nan))) (getD sums i nan) zero64) (λ i. cond (has mask i) (getD sums i nan) zero64) (λ i. true) 64
         (λ i b t. ap (λ (s : Bool). cond s (getD sums i nan) zero64) (sym (ap (λ (w : ℕ). has w i) m ∙ has-word (λ i. not (isZero (getD sums i nan))) i b))))
 
     pub slots-compact : (kind ≡ 2 → ⊥) → Appended (map (λ i. getD sums i nan) (members mask)) from (from + length (members mask)) old out
@@ -141,4 +122,4 @@ module _ (kind mask : ℕ) where
     unfolding members
     slots-compact d =
         as-places (λ i. getD sums i nan) (members mask) (from + length (members mask)) (sym (compact-places kind mask d)) (ap (λ (n : ℕ). from + n) (sym (compact-length d)))
-        (map-kept (λ i. getD sums i nan) (λ i. cond (has mask i) (getD sums i nan) zero64) (has mask) 64 (λ i b t. ap (λ (s : Bool). cond s (getD sums i nan) zero64) (sym t)))
+        (map-below (λ i. getD sums i nan) (λ i. cond (has mask i) (getD sums i nan) zero64) (has mask) 64 (λ i b t. ap (λ (s : Bool). cond s (getD sums i nan) zero64) (sym t)))

@@ -2,7 +2,7 @@
 use mathlib.Core.Bool.{Bool, true, false, not, cond, _&&_}
 use mathlib.Core.List.{List, [], _∷_, _++_, map, map-append}
 use mathlib.Core.Path.{_≡_, refl, sym, ap, _∙_, subst}
-use Prim.Native.Nat.{ℕ, _+_, _-_, _*_, _/_, _^_, _≤_, _<_}
+use Prim.Native.Nat.{ℕ, _+_, _*_, _/_, _^_, _≤_, _<_}
 use native.Mathlib.Nat.{add-zero}
 use native.Mathlib.Omega.{arith}
 use lib.Dec.{eqb, ltb, leb}
@@ -15,14 +15,14 @@ use Rattle.lent.specs.Lent.{Appended}
 use Rattle.lent.proofs.ListLaws.{spread-append}
 use Rattle.lent.proofs.LentLaws.{appended-none, appended-join}
 use Rattle.word.specs.Bits.{has, from, below, between, number, within, maskOf, hit, wordsOf, ceil64}
-use Rattle.word.proofs.BelowLaws.{below-between, below-cong, below-trim, between-split, between-none, between-cong}
+use Rattle.word.proofs.BelowLaws.{below-between, below-cong, below-trim, between-split, between-none, between-cong, map-between, map-below}
 use Rattle.word.proofs.OpLaws.{word-cong}
 use Rattle.topology.specs.Words.{setBits}
 use Rattle.topology.proofs.ScanLaws.{bits-append}
 use Rattle.abtm.specs.declared.AbtmConfig.{AbtmConfig}
 use Rattle.abtm.specs.Values.{isZero}
 use Rattle.abtm.specs.Tiles.{Tile, metaOf, tileOf, rowTilesOf, laid, masksOf, metasOf, offsetsOf, slotsOf}
-use Rattle.abtm.proofs.PlaceLaws.{map-between, map-below, map-places}
+use Rattle.abtm.proofs.PlaceLaws.{map-places}
 use Rattle.abtm.proofs.ZeroLaws.{zero-is-zero}
 use Rattle.abtm_build.specs.declared.Cursor.{Cursor}
 use Rattle.abtm_build.specs.Window.{maskAt, hitAt, tilesBetween}

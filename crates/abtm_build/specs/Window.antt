@@ -1,14 +1,13 @@
 -- A window of a row: so many columns from a word on, each with the sum of its nonzero values. What the private functions that
--- sum, write and clear one require and ensure.
+-- sum and write one require and ensure.
 use Prim.Native.Nat.{ℕ, _+_, _-_, _*_, _/_, _≤_, _<_}
-use mathlib.Core.Bool.{Bool, not, false}
+use mathlib.Core.Bool.{Bool, not}
 use mathlib.Core.List.{List, map}
 use mathlib.Core.Path.{_≡_}
 use lib.Dec.{eqb}
 use lib.ListN.{length, getD}
 use lib.Ieee.{Float, nan}
 use Rattle.hybit_core.specs.Floats.{zero64}
-use Rattle.lent.specs.Lists.{some}
 use Rattle.word.specs.Bits.{between, wordOf}
 use Rattle.csr32.specs.Csr.{Entry}
 use Rattle.abtm.specs.declared.AbtmConfig.{AbtmConfig}
@@ -45,7 +44,3 @@ pub record Sized (sums words blocks : ℕ) : Type 0 where
 pub record Next (es : List Entry) (limit r : ℕ) : Type 0 where
   pub after : limit ≤ r
   pub none : (c : ℕ) → limit ≤ c → c < r → mergedNonzero es c ≡ zero64
-
--- the window is 0.0 but at the columns of cs
-pub record Outside (cs : List ℕ) (base : ℕ) (sums : List Float) : Type 0 where
-  pub zeros : (i : ℕ) → i < length sums → some (λ c. eqb c (base + i)) cs ≡ false → getD sums i nan ≡ zero64

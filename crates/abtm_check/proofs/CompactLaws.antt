@@ -10,12 +10,11 @@ use lib.ListN.{length, getD}
 use lib.Seq.{take-all}
 use lib.Ieee.{Float}
 use borrow.Author.Tests.{eqb-true, leb-true, le-leb}
-use Rattle.hybit_core.proofs.BoolLaws.{and-left, and-right, and-first, and-next, is-equal, is-unequal}
+use Rattle.hybit_core.proofs.BoolLaws.{and-left, and-right, and-first, and-second, and-next, is-equal, is-unequal}
 use Rattle.lent.specs.Lists.{every}
 use Rattle.lent.proofs.ListLaws.{every-by, every-getD}
 use Rattle.word.specs.Bits.{has, count, members}
 use Rattle.csr32.proofs.ScanLaws.{Passed, passed-none, passed-more, passed-done}
-use Rattle.word.proofs.BelowLaws.{length-below-le}
 use Rattle.word.proofs.OpLaws.{members-count}
 use Rattle.topology.specs.Words.{setBits}
 use Rattle.topology.proofs.ScanLaws.{bits-append, bits-one}
@@ -25,7 +24,7 @@ use Rattle.abtm.specs.Values.{solid}
 use Rattle.abtm.specs.Tiles.{kindIn, places, gapless, slotRules}
 use Rattle.abtm.proofs.KindLaws.{compact-places, compact-count}
 use Rattle.abtm_check.proofs.OffsetLaws.{Following, follow-empty, follow-none, follow-more, follow-done}
-use Rattle.abtm_check.proofs.RuleLaws.{and-second, first-held, second-held, third-held}
+use Rattle.abtm_check.proofs.RuleLaws.{first-held, second-held, third-held}
 use Rattle.abtm_check.proofs.RunLaws.{Tested, tested-none, tested-compact, tested-done, valuesOf, kindHolds, slots-apart, slots-kind, slots-values}
 
 -- Sparse or Bitmap
@@ -67,9 +66,6 @@ none-left p (x ∷ l) e = absurd (omega arith)
 pub next-is : (h s k r : Bool) (m x o p next : ℕ) → s ≡ (h && nonzero m) → k ≡ (s && compactKind x) → p ≡ count (has m) 64 → r ≡ (k && eqb (o + p) next)
     → r ≡ (((h && nonzero m) && compactKind x) && eqb (o + count (has m) 64) next)
 next-is h s k r m x o p next es ek ep er = er ∙ ap₂ (λ (b : Bool) (l : ℕ). b && eqb (o + l) next) (ek ∙ ap (λ (b : Bool). b && compactKind x) es) ep
-
-pub ones-few : (m p : ℕ) → p ≡ count (has m) 64 → p ≤ 64
-ones-few m p e = omega (arith, e, length-below-le (has m) 64)
 
 module _ (ms os ks : List ℕ) (n : ℕ) where
   -- the three tests of an accepted pass

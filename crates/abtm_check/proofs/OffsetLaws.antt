@@ -3,45 +3,15 @@ use mathlib.Core.Bool.{Bool, true, false, _&&_, and-assoc}
 use mathlib.Core.List.{List, [], _∷_, zip, zipWith}
 use mathlib.Core.Path.{_≡_, refl, sym, ap, ap₂, _∙_}
 use Prim.Native.Nat.{ℕ, _+_, _-_, _≤_, _<_}
-use native.Mathlib.Numerals.{add-one}
 use native.Mathlib.Omega.{arith}
 use lib.Dec.{eqb}
-use lib.ListN.{length, getD, drop, drop-of-length-le}
-use lib.Seq.{drop-cons}
+use lib.ListN.{length, getD, drop}
 use borrow.Author.Tests.{eqb-true, eq-eqb}
-use Rattle.hybit_core.proofs.BoolLaws.{same-test}
-use Rattle.abtm.specs.Tiles.{Listed, kindIn, places, slotCount, gapless}
-use Rattle.abtm.proofs.PlaceLaws.{places-few}
-use Rattle.lent.proofs.PartLaws.{getD-zip, length-zip}
-
--- ---- a tile takes at most 64 values
-
-pub slots-few : (mask meta n : ℕ) → n ≡ length (places mask meta) → n ≤ 64
-slots-few mask meta n e = omega (arith, e, places-few (kindIn meta) mask)
-
--- ---- the tile at place i of the three lists
-
-module _ (ms os ks : List ℕ) (so : length os ≡ length ms) (sk : length ks ≡ length ms) where
-  pub length-listed : length (zip ms (zip os ks)) ≡ length ms
-  length-listed = length-zip ms (zip os ks) (length-zip os ks (sk ∙ sym so) ∙ so)
-
-  pub listed : (i : ℕ) → i < length ms → drop i (zip ms (zip os ks)) ≡ (getD ms i 0, (getD os i 0, getD ks i 0)) ∷ drop (i + 1) (zip ms (zip os ks))
-  listed i h =
-      let sz : length (zip os ks) ≡ length os = length-zip os ks (sk ∙ sym so) in
-      drop-cons (zip ms (zip os ks)) i (0, (0, 0)) (omega (arith, length-listed, h))
-      ∙ ap₂ (λ (e : Listed) (j : ℕ). e ∷ drop j (zip ms (zip os ks)))
-      (getD-zip ms (zip os ks) i 0 (0, 0) h (omega (arith, sz, so, h)) ∙ ap (λ (e : ℕ × ℕ). (getD ms i 0, e)) (getD-zip os ks i 0 0 (omega (arith, so, h)) (omega (arith, sk, h))))
-      (sym (add-one i))
-
-  pub none-listed : (i : ℕ) → length ms ≤ i → drop i (zip ms (zip os ks)) ≡ []
-  none-listed i h =
-      let over : length (zip ms (zip os ks)) ≤ i = omega (arith, length-listed, h) in
-      drop-of-length-le (zip ms (zip os ks)) over
+use Rattle.hybit_core.proofs.BoolLaws.{eqb-turned}
+use Rattle.abtm.specs.Tiles.{Listed, places, slotCount, gapless}
+use Rattle.abtm_check.proofs.TilesLaws.{listed, none-listed}
 
 -- ---- the tiles from place i - 1 on are still to be tested, but for the offset of the first of them
-
-turned : (a b : ℕ) → eqb a b ≡ eqb b a
-turned a b = same-test (eqb a b) (eqb b a) (λ e. eq-eqb b a (sym (eqb-true a b e))) (λ e. eq-eqb a b (sym (eqb-true b a e)))
 
 -- the test of the first offset, apart
 first-apart : (k n : ℕ) (e : Listed) (l : List Listed) → gapless k n (e ∷ l) ≡ (eqb (e .1 .0) k && gapless (e .1 .0) n (e ∷ l))
@@ -66,7 +36,7 @@ pub record Following (ms os ks : List ℕ) (n : ℕ) (holds : Bool) (i : ℕ) : 
 
 pub follow-empty : (ms os ks : List ℕ) (n : ℕ) → length ms ≡ 0 → eqb n 0 ≡ gapless 0 n (zip ms (zip os ks))
 unfolding gapless zip zipWith
-follow-empty [] os ks n e = turned n 0
+follow-empty [] os ks n e = eqb-turned n 0
 follow-empty (m ∷ ms) os ks n e = absurd (omega arith)
 
 module _ (ms os ks : List ℕ) (n : ℕ) where
@@ -111,7 +81,7 @@ module _ (ms os ks : List ℕ) (n : ℕ) where
               ∙ ap₂ (λ (m j : ℕ). gapless (o + m) n (drop j all)) (sym ec) up
               ∙ ap (gapless (o + c) n) here
               ∙ first-apart (o + c) n (getD ms i 0, (getD os i 0, getD ks i 0)) (drop (i + 1) all)
-              ∙ ap₂ (λ (t : Bool) (l : List Listed). t && gapless (getD os i 0) n l) (turned (getD os i 0) (o + c) ∙ ap (eqb (o + c)) (sym en)) (sym here))
+              ∙ ap₂ (λ (t : Bool) (l : List Listed). t && gapless (getD os i 0) n l) (eqb-turned (getD os i 0) (o + c) ∙ ap (eqb (o + c)) (sym en)) (sym here))
               ∙ sym (and-assoc holds (eqb (o + c) next) (gapless (getD os i 0) n (drop i all)))
               ∙ ap₂ (λ (t : Bool) (j : ℕ). t && gapless (getD os j 0) n (drop j all)) (sym er) (sym down);
         }

@@ -1,9 +1,9 @@
 -- The record of a membership and values: its words are those of the membership, its tiles can be read back, it is accepted, and
 -- its rows list exactly the columns of the membership with their values. Assumes nothing.
-use mathlib.Core.Bool.{Bool, true, false, cond, _&&_, _||_}
+use mathlib.Core.Bool.{Bool, true, false, cond, _&&_}
 use mathlib.Core.List.{List, [], _∷_, _++_, map, zip, zipWith, map-map, map-append, append-assoc}
 use mathlib.Core.Path.{_≡_, refl, sym, ap, ap₂, _∙_}
-use Prim.Native.Nat.{ℕ, zero, suc, _+_, _-_, _*_, _/_, _%_, _^_, _≤_, _<_}
+use Prim.Native.Nat.{ℕ, suc, _+_, _*_, _/_, _%_, _^_, _≤_, _<_}
 use native.Mathlib.Nat.{add-zero}
 use native.Mathlib.Omega.{arith}
 use lib.Dec.{eqb, leb, ltb}
@@ -15,11 +15,11 @@ use Rattle.hybit_core.specs.Answer.{accepted, demand, _andThen_}
 use Rattle.hybit_core.specs.Domain.{sizesFit, few, many}
 use Rattle.hybit_core.specs.Floats.{zero64}
 use Rattle.hybit_core.proofs.BoolLaws.{and-left, and-right, and-both, and-four}
-use Rattle.lent.specs.Lists.{joined, each, starts, part, consIf, only, every, some, spread}
+use Rattle.lent.specs.Lists.{joined, starts, part, only, every, some, spread}
 use Rattle.lent.proofs.PartLaws.{part-map}
-use Rattle.lent.proofs.ListLaws.{only-map, map-joined, joined-lengths, part-joined, every-map, every-joined, zip-maps, spread-map, map-id, every-all, each-cong, joined-cong}
+use Rattle.lent.proofs.ListLaws.{only-map, map-joined, joined-lengths, part-joined, every-map, every-joined, zip-maps, spread-map, map-id, every-all, each-cong, joined-cong, some-map}
 use Rattle.word.specs.Bits.{has, below, count, within, members, maskOf, hit, wordsOf, ceil64}
-use Rattle.word.proofs.BelowLaws.{below-cong}
+use Rattle.word.proofs.BelowLaws.{below-cong, map-below}
 use Rattle.word.proofs.BitLaws.{has-mask-of, has-mask-at, has-listed, every-below, some-below}
 use Rattle.word.proofs.WordLaws.{columnsIn, by-words, below-only}
 use Rattle.csr32.specs.Csr.{Entry}
@@ -28,7 +28,7 @@ use Rattle.topology.proofs.TopologyLaws.{topology-accepted}
 use Rattle.abtm.specs.declared.AbtmConfig.{AbtmConfig}
 use Rattle.abtm.specs.Values.{solid, plusZero}
 use Rattle.abtm.specs.Tiles.{Tile, Tiles, Listed, wordIn, kindIn, isDense, placesOf, places, stored, kindOf, metaOf, tileOf, rowTilesOf, laid, masksOf, metasOf, offsetsOf, slotsOf, tilesOf, tileAt, listedTiles, rowTiles, inTile, inTiles, tileEntries, tileWords, tileSizes, valueRule, tileRule, gapless, slotRules, tilesRules, tilesAnswer}
-use Rattle.abtm.proofs.PlaceLaws.{map-below, kind-small, laid-long}
+use Rattle.abtm.proofs.PlaceLaws.{kind-small, laid-long}
 use Rattle.abtm_check.proofs.TilesLaws.{row-listed}
 
 -- ---- lists
@@ -45,11 +45,6 @@ map-spread : {A B C : Type 0} (f : B → C) (g : A → List B) (l : List A) → 
 unfolding spread
 map-spread f g [] = refl
 map-spread {C = C} f g (a ∷ l) = map-append f (g a) (spread g l) ∙ ap (λ (m : List C). map f (g a) ++ m) (map-spread f g l)
-
-some-map : {A B : Type 0} (q : B → Bool) (f : A → B) (l : List A) → some q (map f l) ≡ some (λ a. q (f a)) l
-unfolding some
-some-map q f [] = refl
-some-map q f (a ∷ l) = ap (λ (b : Bool). q (f a) || b) (some-map q f l)
 
 some-cong : (f g : ℕ → Bool) (p : ℕ → Bool) (n : ℕ) → ((i : ℕ) → i < n → p i ≡ true → f i ≡ g i) → some f (below p n) ≡ some g (below p n)
 some-cong f g p n h = sym (some-map (λ (b : Bool). b) f (below p n)) ∙ ap (some (λ (b : Bool). b)) (map-below f g p n h) ∙ some-map (λ (b : Bool). b) g (below p n)

@@ -1,5 +1,5 @@
 -- The rules of a record of tiles at each return of the code that tests them. Assumes nothing.
-use mathlib.Core.Bool.{Bool, true, false, not, _&&_, and-true, and-false}
+use mathlib.Core.Bool.{Bool, true, false, not, _&&_, and-true}
 use mathlib.Core.List.{List, map, zip}
 use mathlib.Core.Path.{_≡_, refl, sym, ap, ap₂, _∙_}
 use Prim.Native.Nat.{ℕ, _^_, _≤_, _<_}
@@ -8,7 +8,7 @@ use lib.ListN.{length, length-map}
 use lib.Ieee.{Float}
 use borrow.Author.Tests.{leb-true, not-false}
 use Rattle.hybit_core.specs.Domain.{few, many, sizesFit}
-use Rattle.hybit_core.proofs.BoolLaws.{and-left, and-right, and-first, is-equal, is-unequal}
+use Rattle.hybit_core.proofs.BoolLaws.{and-left, and-right, and-first, and-second, is-equal, is-unequal}
 use Rattle.lent.specs.Lists.{part, every}
 use Rattle.lent.proofs.ListLaws.{every-joined}
 use Rattle.word.proofs.BitLaws.{every-below-at}
@@ -24,9 +24,6 @@ unfolding sizesFit
 sizes-few a b c d r e h =
     leb-true c (2 ^ 24)
     (and-right (few a && few b) (many c) (and-left (few a && few b && many c) (many d) (sym e ∙ not-false r h)))
-
-pub and-second : (a b : Bool) → false ≡ b → false ≡ (a && b)
-and-second a b e = sym (ap (λ (t : Bool). a && t) (sym e) ∙ and-false a)
 
 -- the tests of one pass, each alone
 module _ (a b c : Bool) (e : true ≡ ((a && b) && c)) where

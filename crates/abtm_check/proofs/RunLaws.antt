@@ -10,22 +10,16 @@ use lib.Seq.{slice, slice-empty, length-slice, length-take-le, take-take, drop-a
 use lib.Ieee.{Float, nan}
 use borrow.Author.Tests.{eqb-true}
 use Rattle.hybit_core.proofs.BoolLaws.{and-left, and-right, and-first}
-use Rattle.lent.specs.Lists.{part, every}
-use Rattle.lent.proofs.ListLaws.{part-lent}
+use Rattle.lent.specs.Lists.{every}
+use Rattle.lent.proofs.ListLaws.{every-join, slice-lent}
 use Rattle.word.specs.Bits.{has, below}
 use Rattle.abtm.specs.Values.{solid, plusZero}
 use Rattle.abtm.specs.Tiles.{Listed, kindIn, places, stored, valueRule, tileAt, tileRule, gapless, slotRules}
 use Rattle.abtm.proofs.KindLaws.{dense-count}
-use Rattle.abtm_check.proofs.TilesLaws.{gapless-le}
+use Rattle.abtm_check.proofs.TilesLaws.{listed, none-listed, gapless-le}
 use Rattle.abtm_check.proofs.SlotLaws.{tileWith, dense-rule, compact-rule}
-use Rattle.abtm_check.proofs.OffsetLaws.{listed, none-listed}
 
 -- ---- parts that follow one another
-
-every-joins : {A : Type 0} (p : A → Bool) (l m : List A) → every p (l ++ m) ≡ (every p l && every p m)
-unfolding every
-every-joins p [] m = refl
-every-joins p (a ∷ l) m = ap (λ (t : Bool). p a && t) (every-joins p l m) ∙ sym (and-assoc (p a) (every p l) (every p m))
 
 slice-joins : {A : Type 0} (a b c : ℕ) (l : List A) → a ≤ b → b ≤ c → c ≤ length l → slice a b l ++ slice b c l ≡ slice a c l
 slice-joins {A} a b c l h k n =
@@ -34,11 +28,6 @@ slice-joins {A} a b c l h k n =
     sym (drop-append-le a (take b l) (drop b (take c l)) (omega (arith, s, h)))
     ∙ ap (λ (m : List A). drop a (m ++ drop b (take c l))) (sym t)
     ∙ ap (drop a) (take-append-drop b (take c l))
-
--- a part as the code lends it
-part-is-slice : {A : Type 0} (a b : ℕ) (l : List A) → take (b - a) (drop a l) ≡ slice a b l
-unfolding part
-part-is-slice a b l = part-lent (a ∷ b ∷ []) l 0 a b refl refl
 
 -- ---- the tiles from place i on are still to be tested; before them, the values from place `from` on
 
@@ -124,7 +113,7 @@ module _ (ms os ks : List ℕ) (vals : List Float) where
                 ∙ sym (and-assoc (every solid (slice from (inv .start) vals)) itsRule others)
                 ∙ ap (λ (t : Bool). t && others)
                 (ap (λ (t : Bool). every solid (slice from (inv .start) vals) && t) (sym (compact-rule (getD ms i 0) (getD ks i 0) itsSlots sized k e d))
-                ∙ sym (every-joins solid (slice from (inv .start) vals) itsSlots)
+                ∙ sym (every-join solid (slice from (inv .start) vals) itsSlots)
                 ∙ ap (every solid) (slice-joins from (inv .start) (inv .start + size) vals (inv .before) (omega arith) ends));
           }
 
@@ -143,10 +132,10 @@ module _ (ms os ks : List ℕ) (vals : List Float) where
         dense-lent = length-take-le (at + 64 - at) (drop at vals) (omega (arith, length-drop at vals, dense-inside)) ∙ omega arith
 
         before-lent : take (at - from) (drop from vals) ≡ slice from (inv .start) vals
-        before-lent = part-is-slice from at vals ∙ ap (λ (b : ℕ). slice from b vals) (ea ∙ starts)
+        before-lent = slice-lent from at vals ∙ ap (λ (b : ℕ). slice from b vals) (ea ∙ starts)
 
         slots-lent : take (at + 64 - at) (drop at vals) ≡ itsSlots
-        slots-lent = part-is-slice at (at + 64) vals ∙ ap₂ (λ (a n : ℕ). slice a (a + n) vals) (ea ∙ starts) long
+        slots-lent = slice-lent at (at + 64) vals ∙ ap₂ (λ (a n : ℕ). slice a (a + n) vals) (ea ∙ starts) long
 
         pub run-fails : false ≡ every solid (take (at - from) (drop from vals)) → false ≡ every (valuesOf vals) (zip ms (zip os ks))
         run-fails f = sym (step ∙ ap (λ (t : Bool). t && (itsRule && others)) (sym (f ∙ ap (every solid) before-lent)))
@@ -183,7 +172,7 @@ module _ (ms os ks : List ℕ) (vals : List Float) where
     tested-done h r e =
         let none : drop i all ≡ [] = none-listed ms os ks (inv .offsets-long) (inv .metas-long) i h in
         let end : inv .start ≡ length vals = eqb-true (inv .start) (length vals) (sym (ap (gapless (inv .start) (length vals)) none) ∙ inv .rest) in
-        e ∙ ap (every solid) (part-is-slice from (length vals) vals)
+        e ∙ ap (every solid) (slice-lent from (length vals) vals)
         ∙ sym (inv .is
         ∙ ap₂ (λ (b : ℕ) (l : List Listed). every solid (slice from b vals) && every (valuesOf vals) l) end none
         ∙ and-true (every solid (slice from (length vals) vals)))

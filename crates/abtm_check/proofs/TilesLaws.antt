@@ -1,18 +1,20 @@
 -- What an accepted record of tiles says: of its lists, of each row and of each listed tile. Assumes nothing.
 use mathlib.Core.Bool.{Bool, true, _&&_}
 use mathlib.Core.List.{List, [], _∷_, map, zip, zipWith}
-use mathlib.Core.Path.{_≡_, refl, sym, ap, _∙_}
-use Prim.Native.Nat.{ℕ, _+_, _^_, _≤_, _<_}
+use mathlib.Core.Path.{_≡_, refl, sym, ap, ap₂, _∙_}
+use Prim.Native.Nat.{ℕ, _+_, _-_, _^_, _≤_, _<_}
+use native.Mathlib.Numerals.{add-one}
 use native.Mathlib.Omega.{arith}
 use lib.Dec.{eqb, leb}
-use lib.ListN.{length, getD, length-map}
+use lib.ListN.{length, getD, take, drop, length-map, drop-of-length-le}
+use lib.Seq.{drop-cons}
 use borrow.Author.Tests.{le-leb, leb-true, eqb-true}
 use Rattle.hybit_core.specs.Answer.{accepted, demand}
 use Rattle.hybit_core.specs.Domain.{few, many, sizesFit}
 use Rattle.hybit_core.proofs.BoolLaws.{and-left, and-right, and-both}
 use Rattle.hybit_core.proofs.AnswerLaws.{demand-accepted, then-first, then-second}
 use Rattle.lent.specs.Lists.{part, every, climbs}
-use Rattle.lent.proofs.ListLaws.{every-part, every-getD}
+use Rattle.lent.proofs.ListLaws.{part-lent, every-part, every-getD}
 use Rattle.word.proofs.BitLaws.{every-below-at}
 use Rattle.csr32.specs.Csr.{framedLists}
 use Rattle.csr32.proofs.FrameLaws.{RowIn, row-right, lists-sides, part-lengths}
@@ -20,6 +22,35 @@ use Rattle.topology.specs.Words.{Words, wordRule, rowRule, rowRules, setBits, w
 use Rattle.topology.proofs.TopologyLaws.{Accepted}
 use Rattle.abtm.specs.Tiles.{Tiles, Listed, wordIn, kindIn, places, slotCount, stored, valueRule, tileAt, listedTiles, tileWords, tileSizes, tileRule, gapless, slotRules, tilesRules, tilesAnswer}
 use Rattle.lent.proofs.PartLaws.{part-zip, part-map, getD-zip, length-zip}
+
+-- ---- the tile at place i of three lists
+
+module _ (ms os ks : List ℕ) (so : length os ≡ length ms) (sk : length ks ≡ length ms) where
+  pairs-long : length (zip os ks) ≡ length ms
+  pairs-long = length-zip os ks (sk ∙ sym so) ∙ so
+
+  pub length-listed : length (zip ms (zip os ks)) ≡ length ms
+  length-listed = length-zip ms (zip os ks) pairs-long
+
+  -- o is its offset, as the code reads it
+  module _ (i o : ℕ) (h : i < length ms) (e : o ≡ getD os i 0) where
+    pub listed-at : getD (zip ms (zip os ks)) i (0, (0, 0)) ≡ (getD ms i 0, (o, getD ks i 0))
+    listed-at =
+        getD-zip ms (zip os ks) i 0 (0, 0) h (omega (arith, pairs-long))
+        ∙ ap (λ (p : ℕ × ℕ). (getD ms i 0, p)) (getD-zip os ks i 0 0 (omega arith) (omega arith) ∙ ap (λ (n : ℕ). (n, getD ks i 0)) (sym e))
+
+    pub rest-listed : drop i (zip ms (zip os ks)) ≡ (getD ms i 0, (o, getD ks i 0)) ∷ drop (i + 1) (zip ms (zip os ks))
+    rest-listed =
+        drop-cons (zip ms (zip os ks)) i (0, (0, 0)) (omega (arith, length-listed))
+        ∙ ap₂ (λ (x : Listed) (j : ℕ). x ∷ drop j (zip ms (zip os ks))) listed-at (sym (add-one i))
+
+  pub listed : (i : ℕ) → i < length ms → drop i (zip ms (zip os ks)) ≡ (getD ms i 0, (getD os i 0, getD ks i 0)) ∷ drop (i + 1) (zip ms (zip os ks))
+  listed i h = rest-listed i (getD os i 0) h refl
+
+  pub none-listed : (i : ℕ) → length ms ≤ i → drop i (zip ms (zip os ks)) ≡ []
+  none-listed i h =
+      let over : length (zip ms (zip os ks)) ≤ i = omega (arith, length-listed, h) in
+      drop-of-length-le (zip ms (zip os ks)) over
 
 -- ---- the facts of a record
 
@@ -123,6 +154,15 @@ words-listed p (m ∷ ms) (o ∷ os) (k ∷ ks) e =
     and-both (p (wordIn k, m)) (every (λ (e : Listed). p (wordIn (e .1 .1), e .0)) (zip ms (zip os ks)))
     (and-left (p (wordIn k, m)) (every p (zip (map wordIn ks) ms)) e) (words-listed p ms os ks (and-right (p (wordIn k, m)) (every p (zip (map wordIn ks) ms)) e))
 
+-- row r of the lists, from b up to z
+pub record RowPlaces (t : Tiles) (r b z : ℕ) : Type 0 where
+  pub here : r < length (t .ptr)
+  pub next : r + 1 < length (t .ptr)
+  pub order : b ≤ z
+  pub in-masks : z ≤ length (t .mask)
+  pub in-offsets : z ≤ length (t .offset)
+  pub in-metas : z ≤ length (t .meta)
+
 -- what holds of every tile, of the row's
 of-row : (t : Tiles) (p : Listed → Bool) (r : ℕ) → every p (listedTiles t) ≡ true → every p (rowListed t r) ≡ true
 of-row t p r e = sym (ap (every p) (row-listed t r)) ∙ every-part p (t .ptr) (listedTiles t) r e
@@ -140,14 +180,12 @@ module _ (t : Tiles) (a : AcceptedTiles t) where
   -- its place in the lists
   pub tile-listed : (k : ℕ) → k < length (t .mask) → getD (listedTiles t) k (0, (0, 0)) ≡ (getD (t .mask) k 0, (getD (t .offset) k 0, getD (t .meta) k 0))
   unfolding listedTiles
-  tile-listed k h =
-      getD-zip (t .mask) (zip (t .offset) (t .meta)) k 0 (0, 0) h (omega (arith, h, length-zip (t .offset) (t .meta) (a .metas-long ∙ sym (a .offsets-long)), a .offsets-long))
-      ∙ ap (λ (e : ℕ × ℕ). (getD (t .mask) k 0, e)) (getD-zip (t .offset) (t .meta) k 0 0 (omega (arith, h, a .offsets-long)) (omega (arith, h, a .metas-long)))
+  tile-listed k h = listed-at (t .mask) (t .offset) (t .meta) (a .offsets-long) (a .metas-long) k (getD (t .offset) k 0) h refl
 
   module _ (k : ℕ) (h : k < length (t .mask)) where
     long : k < length (listedTiles t)
     unfolding listedTiles
-    long = omega (arith, h, length-zip (t .mask) (zip (t .offset) (t .meta)) (length-zip (t .offset) (t .meta) (a .metas-long ∙ sym (a .offsets-long)) ∙ a .offsets-long))
+    long = omega (arith, h, length-listed (t .mask) (t .offset) (t .meta) (a .offsets-long) (a .metas-long))
 
     pub tile-inside : getD (t .offset) k 0 + length (places (getD (t .mask) k 0) (getD (t .meta) k 0)) ≤ length (t .vals)
     tile-inside =
@@ -197,3 +235,29 @@ module _ (t : Tiles) (a : AcceptedTiles t) where
     row-words =
         words-listed (wordRule (t .cols)) (part (t .ptr) (t .mask) r) (part (t .ptr) (t .offset) r) (part (t .ptr) (t .meta) r)
         (and-right (climbs 0 (map wordIn (part (t .ptr) (t .meta) r))) (every (wordRule (t .cols)) (zip (map wordIn (part (t .ptr) (t .meta) r)) (part (t .ptr) (t .mask) r))) row-climbs)
+
+  -- a row by its two pointers, as the code reads them
+  module _ (r b z : ℕ) (h : r < t .rows) (eb : b ≡ getD (t .ptr) r 0) (ez : z ≡ getD (t .ptr) (r + 1) 0) where
+    pub row-places : RowPlaces t r b z
+    row-places =
+        let m : RowIn (t .ptr) (length (t .mask)) r = masks-row r h in
+        record {
+          here = m .here;
+          next = m .next;
+          order = omega (arith, m .order);
+          in-masks = omega (arith, m .inside);
+          in-offsets = omega (arith, m .inside, a .offsets-long);
+          in-metas = omega (arith, m .inside, a .metas-long);
+        }
+
+    pub lent-row : {A : Type 0} (l : List A) → take (z - b) (drop b l) ≡ part (t .ptr) l r
+    lent-row l = part-lent (t .ptr) l r b z eb ez
+
+    pub lent-offsets : length (take (z - b) (drop b (t .offset))) ≡ length (take (z - b) (drop b (t .mask)))
+    lent-offsets = ap length (lent-row (t .offset)) ∙ offsets-same r h ∙ sym (ap length (lent-row (t .mask)))
+
+    pub lent-metas : length (take (z - b) (drop b (t .meta))) ≡ length (take (z - b) (drop b (t .mask)))
+    lent-metas = ap length (lent-row (t .meta)) ∙ metas-same r h ∙ sym (ap length (lent-row (t .mask)))
+
+    pub lent-listed : zip (take (z - b) (drop b (t .mask))) (zip (take (z - b) (drop b (t .offset))) (take (z - b) (drop b (t .meta)))) ≡ rowListed t r
+    lent-listed = λ i. zip (lent-row (t .mask) i) (zip (lent-row (t .offset) i) (lent-row (t .meta) i))

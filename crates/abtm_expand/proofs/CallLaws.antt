@@ -1,7 +1,7 @@
 -- The checks of an expansion at each return of the code, and the mask that it leaves. Assumes nothing.
 use mathlib.Core.Bool.{Bool, true, false, _&&_}
 use mathlib.Core.List.{List, _++_}
-use mathlib.Core.Path.{_≡_, refl, sym, ap, _∙_}
+use mathlib.Core.Path.{_≡_, sym, ap, _∙_}
 use Prim.Native.Nat.{ℕ, _≤_, _<_}
 use native.Mathlib.Omega.{arith}
 use lib.Dec.{eqb, leb}
@@ -14,7 +14,7 @@ use Rattle.hybit_core.specs.declared.Verdict.{Verdict}
 use Rattle.hybit_core.specs.declared.Verdict.the-variants.{Accepted, Refused}
 use Rattle.hybit_core.specs.declared.HybitError.{HybitError}
 use Rattle.hybit_core.proofs.BoolLaws.{is-equal, is-unequal, is-within, is-above, and-first}
-use Rattle.hybit_core.proofs.AnswerLaws.{test-fails, test-passes, last-fails, last-passes, length-wrong, length-right, call-refused, call-accepted}
+use Rattle.hybit_core.proofs.AnswerLaws.{test-fails, test-passes, last-fails, last-passes, length-wrong, length-right, call-refused, call-accepted, by-records}
 use Rattle.lent.specs.Lent.{padded}
 use Rattle.lent.specs.Lists.{each}
 use Rattle.lent.proofs.LentLaws.{cleared-front}
@@ -29,12 +29,6 @@ use Rattle.abtm_expand.specs.Expand.{expandAnswer}
 abbrev own-checks : Tiles → ℕ → ℕ → Answer
 own-checks t n room = demand (eqb (t .rows) (t .cols)) 10 andThen lengthIs (t .rows) n andThen demand (leb (ceil64 n) room) 13
 
--- 1 of the mask has found nothing: the tiles' own checks are next, then the mask's
-by-records : (f s r m : Bool) (rest : Answer) → true ≡ f → demand (f && s) 1 andThen demand r 12 andThen demand m 5 andThen rest ≡ (demand s 1 andThen demand r 12) andThen ((demand f 1 andThen demand m 5) andThen rest)
-by-records true true r m rest e = refl
-by-records true false r m rest e = refl
-by-records false s r m rest e = cc
-
 module _ (t : Tiles) (n : ℕ) (ws : List ℕ) (room : ℕ) where
   pub mask-large : false ≡ few n → refused (plain 1) ≡ expandAnswer t (asMask n ws) room
   unfolding expandAnswer
@@ -43,7 +37,7 @@ module _ (t : Tiles) (n : ℕ) (ws : List ℕ) (room : ℕ) where
   module _ (small : true ≡ few n) where
     expand-is : expandAnswer t (asMask n ws) room ≡ tilesAnswer t andThen (maskAnswer (asMask n ws) andThen own-checks t n room)
     unfolding expandAnswer tilesAnswer maskAnswer
-    expand-is = by-records (few n) (tileSizes t) (tilesRules t) (maskRules (asMask n ws)) (own-checks t n room) small
+    expand-is = by-records (few n) (tileSizes t) (maskRules (asMask n ws)) (demand (tilesRules t) 12) (own-checks t n room) small
 
     pub tiles-refused : (v : Verdict) (e : HybitError) → told v ≡ tilesAnswer t → v ≡ Refused e → refused (paper e) ≡ expandAnswer t (asMask n ws) room
     tiles-refused v e h k = call-refused (tilesAnswer t) (maskAnswer (asMask n ws) andThen own-checks t n room) v e h k ∙ sym expand-is

@@ -1,6 +1,6 @@
 -- A mask with the columns of its first rows joined in: what the code holds row after row. Assumes nothing.
 use mathlib.Core.Bool.{Bool, true, false, not, _&&_, _||_, or-false, true≢false}
-use mathlib.Core.List.{List, [], _∷_, map, zip, zipWith}
+use mathlib.Core.List.{List, [], _∷_, zip, zipWith}
 use mathlib.Core.Path.{_≡_, refl, sym, ap, ap₂, _∙_}
 use Prim.Native.Nat.{ℕ, _+_, _-_, _*_, _/_, _%_, _≤_, _<_, _^_}
 use native.Mathlib.Numerals.{add-one}
@@ -13,18 +13,18 @@ use Rattle.hybit_core.specs.Domain.{few}
 use Rattle.hybit_core.proofs.BoolLaws.{and-left, and-right, and-both}
 use Rattle.hybit_core.proofs.AnswerLaws.{demand-accepted, then-first, then-second, length-accepted}
 use Rattle.lent.specs.Lists.{each, part, every, some}
-use Rattle.lent.proofs.ListLaws.{part-lent, each-cong, every-part, some-every, some-none, some-snoc}
-use Rattle.word.specs.Bits.{has, below, within, members, wordOf, maskOf, ceil64}
+use Rattle.lent.proofs.ListLaws.{each-cong, every-part, some-every, some-none, some-snoc, some-map}
+use Rattle.word.specs.Bits.{has, below, within, members, maskOf, ceil64}
 use Rattle.word.proofs.BelowLaws.{below-snoc, below-zero}
-use Rattle.word.proofs.BitLaws.{within-cong, has-mask-of, every-below-at}
+use Rattle.word.proofs.BitLaws.{has-mask-of, every-below-at}
 use Rattle.word.proofs.OpLaws.{word-cong}
 use Rattle.mask.specs.Mask.{Mask, asMask, active, maskWords, maskRules}
+use Rattle.mask.proofs.CallLaws.{words-cong}
 use Rattle.mask.proofs.MaskLaws.{Valid, rules-valid, words-are, length-words, word-of-words}
-use Rattle.csr32.proofs.FrameLaws.{RowIn}
 use Rattle.topology.specs.Words.{wordRule}
 use Rattle.topology.proofs.RowLaws.{small, small-is, word-inside}
 use Rattle.abtm.specs.Tiles.{Tiles, Listed, wordIn, tileAt, rowTiles, inTile, inTiles, tileSizes, tilesRules}
-use Rattle.abtm_check.proofs.TilesLaws.{AcceptedTiles, rules-facts, rowListed, masks-row, metas-row, metas-same, offsets-same, row-words}
+use Rattle.abtm_check.proofs.TilesLaws.{AcceptedTiles, rules-facts, rowListed, metas-same, offsets-same, row-words, lent-row}
 use Rattle.abtm_expand.specs.Expand.{reached, expanded, expandAnswer}
 use Rattle.abtm_expand.proofs.JoinLaws.{inWord, joinedTo}
 
@@ -67,12 +67,6 @@ expand-used t n ws room used e u =
     let fit : leb (ceil64 n) used ≡ leb (ceil64 n) room = le-leb (ceil64 n) used (omega (arith, f .mask .counted)) ∙ sym (le-leb (ceil64 n) room (f .room-in)) in
     ap (λ (b : Bool). demand (few n && tileSizes t) 1 andThen demand (tilesRules t) 12 andThen demand (maskRules (asMask n ws)) 5 andThen demand (eqb (t .rows) (t .cols)) 10 andThen lengthIs (t .rows) n andThen demand b 13) fit ∙ e
 
--- ---- words of a membership that is said in two ways
-
-words-cong : (p q : ℕ → Bool) (n : ℕ) → ((c : ℕ) → c < n → p c ≡ q c) → maskWords p n ≡ maskWords q n
-unfolding maskWords maskOf
-words-cong p q n h = ap (λ (f : ℕ → Bool). each (λ w. wordOf (λ i. f (64 * w + i))) (ceil64 n)) (within-cong n p q h)
-
 -- ---- one row more
 
 reached-more : (t : Tiles) (a : Mask) (r c : ℕ) → reached t a (r + 1) c ≡ (reached t a r c || (active a r && inTiles t r c))
@@ -87,11 +81,6 @@ unfolding reached
 reached-none t a c = ap (some (λ r. active a r && inTiles t r c)) (below-zero (λ r. true)) ∙ some-none (λ r. active a r && inTiles t r c)
 
 -- ---- a row's tiles, as its masks and metas alone have them
-
-some-map : {A B : Type 0} (p : B → Bool) (f : A → B) (l : List A) → some p (map f l) ≡ some (λ a. p (f a)) l
-unfolding some
-some-map p f [] = refl
-some-map p f (a ∷ l) = ap (λ (t : Bool). p (f a) || t) (some-map p f l)
 
 some-listed : (q : ℕ × ℕ → Bool) (ms os ks : List ℕ) → length os ≡ length ms → length ks ≡ length ms → some (λ (e : Listed). q (e .0, e .1 .1)) (zip ms (zip os ks)) ≡ some q (zip ms ks)
 unfolding some zip zipWith
@@ -136,14 +125,6 @@ module _ (t : Tiles) (a : AcceptedTiles t) (r : ℕ) (h : r < t .rows) where
       ∙ ap₂ (λ (v j : ℕ). some (λ (e : Listed). eqb (wordIn (e .1 .1)) v && has (e .0) j) (rowListed t r)) p q
       ∙ some-listed (λ (e : ℕ × ℕ). eqb (wordIn (e .1)) w && has (e .0) i) (part (t .ptr) (t .mask) r) (part (t .ptr) (t .offset) r) (part (t .ptr) (t .meta) r) (offsets-same t a r h) (metas-same t a r h))
 
--- row r of the lists, from b up to z
-pub record RowPlaces (t : Tiles) (r b z : ℕ) : Type 0 where
-  pub here : r < length (t .ptr)
-  pub next : r + 1 < length (t .ptr)
-  pub order : b ≤ z
-  pub in-masks : z ≤ length (t .mask)
-  pub in-metas : z ≤ length (t .meta)
-
 -- the mask with the columns of its first rows
 pub record Expanding (t : Tiles) (n : ℕ) (ws : List ℕ) (next : ℕ) (out : List ℕ) : Type 0 where
   pub inside : next ≤ t .rows
@@ -165,17 +146,8 @@ module _ (t : Tiles) (n : ℕ) (ws : List ℕ) (room : ℕ) (ok : expandAnswer t
 
   -- ---- a row by its two pointers, as the code reads them
   module _ (r b z : ℕ) (h : r < t .rows) (eb : b ≡ getD (t .ptr) r 0) (ez : z ≡ getD (t .ptr) (r + 1) 0) where
-    pub row-places : RowPlaces t r b z
-    row-places =
-        let m : RowIn (t .ptr) (length (t .mask)) r = masks-row t (facts .tiles) r h in
-        let k : RowIn (t .ptr) (length (t .meta)) r = metas-row t (facts .tiles) r h in
-        record { here = m .here; next = m .next; order = omega (arith, m .order); in-masks = omega (arith, m .inside); in-metas = omega (arith, k .inside) }
-
-    lent-row : (l : List ℕ) → take (z - b) (drop b l) ≡ part (t .ptr) l r
-    lent-row l = part-lent (t .ptr) l r b z eb ez
-
-    pub lent-metas : length (take (z - b) (drop b (t .meta))) ≡ length (take (z - b) (drop b (t .mask)))
-    lent-metas = ap length (lent-row (t .meta)) ∙ metas-same t (facts .tiles) r h ∙ sym (ap length (lent-row (t .mask)))
+    lent : (l : List ℕ) → take (z - b) (drop b l) ≡ part (t .ptr) l r
+    lent = lent-row t (facts .tiles) r b z h eb ez
 
     module _ (out : List ℕ) (inv : Expanding t n ws r out) where
       out-long : length out ≡ ceil64 n
@@ -183,7 +155,7 @@ module _ (t : Tiles) (n : ℕ) (ws : List ℕ) (room : ℕ) (ok : expandAnswer t
 
       pub lent-words : ((k : ℕ) → getD (t .mask) k 0 < 2 ^ 64) → every (λ m. ltb (wordIn m) (length out)) (take (z - b) (drop b (t .meta))) ≡ true
       lent-words fits =
-          ap₂ (λ (k : ℕ) (l : List ℕ). every (λ m. ltb (wordIn m) k) l) (out-long ∙ ap ceil64 (facts .size ∙ facts .square)) (lent-row (t .meta))
+          ap₂ (λ (k : ℕ) (l : List ℕ). every (λ m. ltb (wordIn m) k) l) (out-long ∙ ap ceil64 (facts .size ∙ facts .square)) (lent (t .meta))
           ∙ words-low (t .cols) (part (t .ptr) (t .mask) r) (part (t .ptr) (t .offset) r) (part (t .ptr) (t .meta) r) (offsets-same t (facts .tiles) r h) (metas-same t (facts .tiles) r h)
           (every-part (λ m. ltb m (2 ^ 64)) (t .ptr) (t .mask) r (small-is (t .mask) fits)) (row-words t (facts .tiles) r h)
 
@@ -196,7 +168,7 @@ module _ (t : Tiles) (n : ℕ) (ws : List ℕ) (room : ℕ) (ok : expandAnswer t
           let c : ℕ = 64 * w + i in
           ap₂ (λ (s u : Bool). s || u)
           (ap (λ (o : List ℕ). has (getD o w 0) i) (inv .is) ∙ ap (λ (v : ℕ). has v i) (word-of-words p n w l) ∙ has-mask-of p n w i k)
-          (ap₂ (λ (x y : List ℕ). inWord (zip x y) w i) (lent-row (t .mask)) (lent-row (t .meta)) ∙ row-bit t (facts .tiles) r h w i k)
+          (ap₂ (λ (x y : List ℕ). inWord (zip x y) w i) (lent (t .mask)) (lent (t .meta)) ∙ row-bit t (facts .tiles) r h w i k)
           ∙ frame-or (ltb c n) (active a c) (reached t a r c) (inTiles t r c) (λ u. ap (ltb c) (facts .size ∙ facts .square) ∙ row-within t (facts .tiles) r h c u)
           ∙ sym (ap (λ (u : Bool). ltb c n && (active a c || u)) (reached-more t a r c ∙ ap (λ (s : Bool). reached t a r c || (s && inTiles t r c)) (sym m)))
 

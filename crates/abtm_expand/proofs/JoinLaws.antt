@@ -3,11 +3,10 @@ use mathlib.Core.Bool.{Bool, true, false, _&&_, _||_, or-false}
 use mathlib.Core.List.{List, [], _∷_, _++_, zip}
 use mathlib.Core.Path.{_≡_, refl, sym, ap, _∙_}
 use Prim.Native.Nat.{ℕ, _+_, _≤_, _<_, _^_}
-use native.Mathlib.Numerals.{add-one}
 use native.Mathlib.Omega.{arith}
 use lib.Dec.{eqb, ltb}
 use lib.ListN.{length, getD, take, set}
-use lib.Seq.{take-suc, take-all}
+use lib.Seq.{take-all}
 use borrow.Author.Tests.{ltb-true, eq-eqb, ne-eqb}
 use Rattle.lent.specs.Lists.{each, every, some}
 use Rattle.lent.proofs.ListLaws.{length-each, getD-each, each-is, each-set, every-getD, some-none, some-snoc}
@@ -15,7 +14,7 @@ use Rattle.lent.proofs.LentLaws.{Filled, filled-none, filled-length, filled-mor
 use Rattle.word.specs.Bits.{has, wordOf}
 use Rattle.word.proofs.OpLaws.{word-is, has-word, word-cong}
 use Rattle.abtm.specs.Tiles.{wordIn}
-use Rattle.lent.proofs.PartLaws.{getD-zip, length-zip}
+use Rattle.lent.proofs.PartLaws.{length-zip, zip-suc}
 
 -- ---- words copied: the first k
 
@@ -70,10 +69,7 @@ module _ (masks metas old : List ℕ) where
             omega (arith, joined-long)
 
         one-more : take (k + 1) (zip masks metas) ≡ take k (zip masks metas) ++ ((getD masks k 0, getD metas k 0) ∷ [])
-        one-more =
-            ap (λ (n : ℕ). take n (zip masks metas)) (add-one k)
-            ∙ take-suc (zip masks metas) k (0, 0) (omega (arith, length-zip masks metas e))
-            ∙ ap (λ (t : ℕ × ℕ). take k (zip masks metas) ++ (t ∷ [])) (getD-zip masks metas k 0 0 h (omega arith))
+        one-more = zip-suc masks metas k 0 0 h (omega arith)
 
         bit-more : (w i : ℕ) → inWord (take (k + 1) (zip masks metas)) w i ≡ (inWord (take k (zip masks metas)) w i || (eqb index w && has (getD masks k 0) i))
         bit-more w i =

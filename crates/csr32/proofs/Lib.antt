@@ -4,3 +4,4 @@ pub mod CsrLaws
 pub mod SumLaws
 pub mod MergedLaws
 pub mod MadeLaws
+pub mod WindowLaws

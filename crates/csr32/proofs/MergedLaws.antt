@@ -1,10 +1,8 @@
 -- Laws of merged values: one entry more, and columns without an entry. Assumes nothing.
 use mathlib.Core.Bool.{Bool, true, false}
-use mathlib.Core.List.{List, [], _∷_, _++_, zip, zipWith, foldl, foldl-append}
+use mathlib.Core.List.{List, [], _∷_, _++_, zip, foldl, foldl-append}
 use mathlib.Core.Path.{_≡_, refl, sym, ap, ap₂, _∙_}
-use Prim.Native.Nat.{ℕ, zero, suc, _+_, _≤_, _<_}
-use native.Mathlib.Nat.{not-suc-le-zero}
-use native.Mathlib.Numerals.{add-one}
+use Prim.Native.Nat.{ℕ, _+_, _≤_, _<_}
 use native.Mathlib.Omega.{arith}
 use lib.Dec.{eqb}
 use lib.ListN.{length, getD, take}
@@ -13,6 +11,7 @@ use lib.Ieee.{Float, nan, binary64, add}
 use Rattle.hybit_core.specs.Floats.{zero64}
 use Rattle.lent.specs.Lists.{consIf, only}
 use Rattle.lent.proofs.ListLaws.{only-append, only-none}
+use Rattle.lent.proofs.PartLaws.{take-zip, zip-suc}
 use Rattle.csr32.specs.Csr.{Entry, ofColumn, present, merged}
 
 -- ---- one entry more
@@ -39,12 +38,8 @@ merged-snoc es d v c =
 
 -- the first k entries of two lists side by side, and one more
 
-zip-snoc : (cs : List ℕ) (vs : List Float) (k : ℕ) → k < length cs → k < length vs → zip (take (suc k) cs) (take (suc k) vs) ≡ zip (take k cs) (take k vs) ++ ((getD cs k 0, getD vs k nan) ∷ [])
-unfolding zip zipWith
-zip-snoc [] vs k h l = absurd (not-suc-le-zero h)
-zip-snoc (c ∷ cs) [] k h l = absurd (not-suc-le-zero l)
-zip-snoc (c ∷ cs) (v ∷ vs) zero h l = refl
-zip-snoc (c ∷ cs) (v ∷ vs) (suc k) h l = ap (λ (t : List Entry). (c, v) ∷ t) (zip-snoc cs vs k (omega arith) (omega arith))
+pub zip-snoc : (cs : List ℕ) (vs : List Float) (k : ℕ) → k < length cs → k < length vs → zip (take (k + 1) cs) (take (k + 1) vs) ≡ zip (take k cs) (take k vs) ++ ((getD cs k 0, getD vs k nan) ∷ [])
+zip-snoc cs vs k h l = sym (take-zip (k + 1) cs vs) ∙ zip-suc cs vs k 0 nan h l ∙ ap (λ (t : List Entry). t ++ ((getD cs k 0, getD vs k nan) ∷ [])) (take-zip k cs vs)
 
 pub firsts-all : (cs : List ℕ) (vs : List Float) (k : ℕ) → length cs ≤ k → length vs ≡ length cs → zip (take k cs) (take k vs) ≡ zip cs vs
 firsts-all cs vs k h l = ap₂ (λ (s : List ℕ) (t : List Float). zip s t) (take-all k cs h) (take-all k vs (omega arith))
@@ -53,8 +48,7 @@ firsts-all cs vs k h l = ap₂ (λ (s : List ℕ) (t : List Float). zip s t) (ta
 pub merged-more : (cs : List ℕ) (vs : List Float) (k d c : ℕ) → k < length cs → length vs ≡ length cs → d ≡ getD cs k 0
     → merged (zip (take (k + 1) cs) (take (k + 1) vs)) c ≡ addIf (eqb d c) (merged (zip (take k cs) (take k vs)) c) (getD vs k nan)
 merged-more cs vs k d c h l e =
-    ap (λ (n : ℕ). merged (zip (take n cs) (take n vs)) c) (add-one k)
-    ∙ ap (λ (es : List Entry). merged es c) (zip-snoc cs vs k h (omega arith))
+    ap (λ (es : List Entry). merged es c) (zip-snoc cs vs k h (omega arith))
     ∙ merged-snoc (zip (take k cs) (take k vs)) (getD cs k 0) (getD vs k nan) c
     ∙ ap (λ (n : ℕ). addIf (eqb n c) (merged (zip (take k cs) (take k vs)) c) (getD vs k nan)) (sym e)
 

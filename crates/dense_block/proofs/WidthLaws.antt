@@ -1,8 +1,14 @@
 -- The width of a block: 3 or 6, and division by it. Assumes nothing.
-use Prim.Native.Nat.{ℕ, _/_, _%_}
+use Prim.Native.Nat.{ℕ, _/_, _%_, _≤_}
 use mathlib.Core.Path.{_≡_, sym, ap, _∙_}
+use native.Mathlib.Omega.{arith}
 use Rattle.dense_block.specs.Blocks.{widthOf, blocksFor}
 use Rattle.dense_block.specs.declared.DenseBlockSize.{DenseBlockSize}
+use Rattle.dense_block.specs.declared.DenseBlockSize.the-variants.{B3, B6}
+
+pub width-six : (s : DenseBlockSize) → widthOf s ≤ 6
+width-six B3 = omega arith
+width-six B6 = omega arith
 
 -- what is said of a variant's width, said of the size that is at it
 pub full-at : (s v : DenseBlockSize) (n r : ℕ) → s ≡ v → r ≡ n / widthOf v → r ≡ n / widthOf s

@@ -2,21 +2,20 @@
 use mathlib.Core.Bool.{Bool, true, false, cond}
 use mathlib.Core.List.{List, [], _∷_, _++_, zip, zipWith, foldl-append}
 use mathlib.Core.Path.{_≡_, refl, sym, ap, ap₂, _∙_}
-use Prim.Native.Nat.{ℕ, suc, _+_, _-_, _%_, _≤_, _<_, zero-le}
+use Prim.Native.Nat.{ℕ, _+_, _%_, _≤_, _<_, zero-le}
 use native.Mathlib.Nat.{mod-lt}
-use native.Mathlib.Numerals.{add-one}
 use native.Mathlib.Decide.{decLt}
 use native.Mathlib.Omega.{arith}
 use lib.Dec.{eqb}
 use lib.ListN.{length, getD, take, drop, set, length-set}
-use lib.Seq.{take-suc, take-add, getD-set-same, getD-set-other}
+use lib.Seq.{take-add, getD-set-same, getD-set-other}
 use lib.Ieee.{Float, nan, binary64, add}
 use borrow.Author.Tests.{eq-eqb, ne-eqb}
 use Rattle.lent.specs.Lists.{each, only, consIf}
 use Rattle.lent.proofs.ListLaws.{each-cong, only-append}
-use Rattle.lent.proofs.PartLaws.{take-zip, drop-zip, getD-zip, length-zip}
+use Rattle.lent.proofs.PartLaws.{take-zip, drop-zip}
 use Rattle.csr32.specs.Csr.{Entry}
-use Rattle.csr32.proofs.MergedLaws.{firsts-all}
+use Rattle.csr32.proofs.MergedLaws.{firsts-all, zip-snoc}
 use Rattle.dense_block_build.specs.Making.{addValues, inLine}
 
 -- ---- two lists side by side, in two parts
@@ -24,12 +23,6 @@ use Rattle.dense_block_build.specs.Making.{addValues, inLine}
 pub zip-split : (cs : List ℕ) (vs : List Float) (k d : ℕ) → zip (take (k + d) cs) (take (k + d) vs) ≡ zip (take k cs) (take k vs) ++ zip (take d (drop k cs)) (take d (drop k vs))
 zip-split cs vs k d =
     sym (take-zip (k + d) cs vs) ∙ take-add k d (zip cs vs) ∙ ap₂ (λ (s t : List Entry). s ++ t) (take-zip k cs vs) (ap (take d) (drop-zip k cs vs) ∙ take-zip d (drop k cs) (drop k vs))
-
--- the first k entries, and one more
-zip-next : (cs : List ℕ) (vs : List Float) (k : ℕ) → length vs ≡ length cs → k < length cs → zip (take (k + 1) cs) (take (k + 1) vs) ≡ zip (take k cs) (take k vs) ++ ((getD cs k 0, getD vs k nan) ∷ [])
-zip-next cs vs k l h =
-    ap (λ (n : ℕ). zip (take n cs) (take n vs)) (add-one k) ∙ sym (take-zip (suc k) cs vs) ∙ take-suc (zip cs vs) k (0, nan) (omega (arith, length-zip cs vs l))
-    ∙ ap₂ (λ (s : List Entry) (x : Entry). s ++ x ∷ []) (take-zip k cs vs) (getD-zip cs vs k 0 nan h (omega arith))
 
 -- ---- values added in stored order
 
@@ -85,7 +78,7 @@ module _ (w : ℕ) (cs : List ℕ) (vs old : List Float) where
         next : (i : ℕ) (t : Bool) → eqb j i ≡ t
             → addValues (getD old i nan) (only (atPlace w i) (zip (take (k + 1) cs) (take (k + 1) vs))) ≡ cond t (add binary64 (addValues (getD old i nan) (only (atPlace w i) es)) (getD vs k nan)) (addValues (getD old i nan) (only (atPlace w i) es))
         next i t q =
-            ap (λ (l : List Entry). addValues (getD old i nan) (only (atPlace w i) l)) (zip-next cs vs k same h)
+            ap (λ (l : List Entry). addValues (getD old i nan) (only (atPlace w i) l)) (zip-snoc cs vs k h (omega arith))
             ∙ add-snoc (atPlace w i) (getD old i nan) es (getD cs k 0) (getD vs k nan) t (ap (λ (n : ℕ). eqb n i) (sym e) ∙ q)
 
         places : (i : ℕ) → i < w → getD (set line j new) i nan ≡ addValues (getD old i nan) (only (atPlace w i) (zip (take (k + 1) cs) (take (k + 1) vs)))

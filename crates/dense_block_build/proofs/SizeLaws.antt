@@ -7,10 +7,7 @@ use native.Mathlib.Omega.{arith}
 use Rattle.dense_block.specs.Blocks.{widthOf}
 use Rattle.dense_block.specs.declared.DenseBlockSize.{DenseBlockSize}
 use Rattle.dense_block.specs.declared.DenseBlockSize.the-variants.{B3, B6}
-
-pub width-six : (s : DenseBlockSize) → widthOf s ≤ 6
-width-six B3 = omega arith
-width-six B6 = omega arith
+use Rattle.dense_block.proofs.WidthLaws.{width-six}
 
 pub width-pos : (s : DenseBlockSize) → 0 < widthOf s
 width-pos B3 = omega arith

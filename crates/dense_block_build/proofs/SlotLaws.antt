@@ -19,7 +19,7 @@ use Rattle.word.proofs.BitLaws.{every-below}
 use Rattle.csr32.specs.Csr.{Csr, csrAnswer}
 use Rattle.csr32.proofs.CsrLaws.{valid}
 use Rattle.dense_block_columns.proofs.BandLaws.{band-in, blocks-most}
-use Rattle.dense_block_build.proofs.SizeLaws.{width-six}
+use Rattle.dense_block.proofs.WidthLaws.{width-six}
 
 -- ---- sums
 

@@ -10,14 +10,14 @@ use lib.ListN.{length, getD, take, set}
 use lib.Seq.{take-all}
 use Rattle.lent.specs.Lists.{every, some}
 use Rattle.word.specs.Bits.{has, below, count, wordOf, ceil64}
-use Rattle.word.proofs.BelowLaws.{byte-le, length-below-le}
+use Rattle.word.proofs.BelowLaws.{byte-le, length-below-le, none-counted}
 use Rattle.word.proofs.BitLaws.{within-in}
 use Rattle.mask.specs.Mask.{bitAt, maskWords}
 use Rattle.mask.specs.Calls.{listed}
 use Rattle.mask.proofs.MaskLaws.{length-words, bit-of-words}
 use Rattle.csr32.proofs.CsrLaws.{column-below}
 use Rattle.levels.specs.Levels.{zeroed}
-use Rattle.levels.proofs.LevelLaws.{mark-is, none-counted, count-more, listed-more}
+use Rattle.levels.proofs.LevelLaws.{mark-is, count-more, listed-more}
 use Rattle.levels.proofs.ClearLaws.{forgotten}
 
 -- the first k of the columns are in the bitmap, and `found` of them are distinct

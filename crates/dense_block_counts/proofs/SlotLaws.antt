@@ -6,11 +6,11 @@ use Prim.Native.Nat.{ℕ, _+_, _-_, _*_, _^_, _≤_, _<_}
 use native.Mathlib.Nat.{le-refl}
 use native.Mathlib.Numerals.{add-one}
 use native.Mathlib.Omega.{arith}
-use lib.Dec.{eqb, ltb}
+use lib.Dec.{ltb}
 use lib.ListN.{length, getD, take, drop, replicate, length-append, length-replicate, take-append-drop}
 use lib.Seq.{length-take-le}
-use borrow.Author.Tests.{eq-eqb, ne-eqb, eqb-true, eqb-false}
 use Rattle.hybit_core.specs.Answer.{accepted}
+use Rattle.hybit_core.proofs.BoolLaws.{eqb-turned}
 use Rattle.lent.specs.Lists.{joined, part, every, some}
 use Rattle.lent.proofs.ListLaws.{part-lent, zeros-front}
 use Rattle.word.specs.Bits.{below, count, ceil64}
@@ -37,13 +37,6 @@ pub record Summed (m : Csr) (row slots : ℕ) (bits : List ℕ) : Type 0 where
 pub summed-none : (m : Csr) → csrAnswer m ≡ accepted → Summed m 0 0 (replicate 16384 0)
 unfolding joined
 summed-none m e = record { good = valid m e; few = le-refl 0; is = refl; zeros = refl }
-
-turned : (c d : ℕ) → eqb c d ≡ eqb d c
-turned c d = go (eqb d c) refl
-  where
-    go : (t : Bool) → eqb d c ≡ t → eqb c d ≡ t
-    go true e = eq-eqb c d (sym (eqb-true d c e))
-    go false e = ne-eqb c d (λ q. eqb-false d c e (sym q))
 
 -- ---- the front of an array of zeros is an empty bitmap
 
@@ -84,7 +77,7 @@ module _ (m : Csr) (row slots : ℕ) (bits : List ℕ) (inv : Summed m row slots
       row-is =
           g ∙ ap (λ (l : List ℕ). count (listed l) (m .cols)) (part-lent (m .ptr) (m .col) row a z p q)
           ∙ ap length (below-same (listed (part (m .ptr) (m .col) row)) (present (entries m row)) (m .cols)
-          (λ c. ap (λ (t : ℕ → Bool). some t (part (m .ptr) (m .col) row)) (λ i d. turned c d i) ∙ sym (present-row (inv .good) row c)))
+          (λ c. ap (λ (t : ℕ → Bool). some t (part (m .ptr) (m .col) row)) (λ i d. eqb-turned c d i) ∙ sym (present-row (inv .good) row c)))
 
       pub summed-fits : row < m .rows → slots + r < 2 ^ 64
       summed-fits h = omega (arith, inv .few, inv .good .rows-in, inv .good .cols-in, g, length-below-le (listed (take (z - a) (drop a (m .col)))) (m .cols))

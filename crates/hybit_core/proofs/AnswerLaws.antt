@@ -1,10 +1,10 @@
 -- Laws of answers: a chain of checks at each return of the code that runs it, and what an accepted chain says. Assumes nothing.
 use mathlib.Core.Path.{_≡_, refl, sym, _∙_, ap}
-use mathlib.Core.Bool.{Bool, true, false, not}
+use mathlib.Core.Bool.{Bool, true, false, not, _&&_}
 use Prim.Native.Nat.{ℕ, _≤_, _^_}
 use lib.Dec.{eqb}
 use borrow.Author.Tests.{eq-eqb, ne-eqb, leb-true, eqb-true, not-false}
-use Rattle.hybit_core.specs.Answer.{Told, plain, lengthsDiffer, Answer, accepted, refused, demand, demandLength, lengthIs, _andThen_, numberIn, Given, gives, refuses, answers}
+use Rattle.hybit_core.specs.Answer.{plain, lengthsDiffer, Answer, accepted, refused, demand, demandLength, lengthIs, _andThen_, numberIn, gives, refuses, answers}
 use Rattle.hybit_core.specs.Domain.{few}
 use Rattle.hybit_core.specs.Table.{paper, told}
 use Rattle.hybit_core.specs.declared.Verdict.{Verdict}
@@ -68,6 +68,12 @@ call-refused a b v e h k = let is : a ≡ refused (paper e) = sym h ∙ ap told 
 
 pub call-accepted : (a b c : Answer) (v : Verdict) → told v ≡ a → v ≡ Accepted → c ≡ b → c ≡ a andThen b
 call-accepted a b c v h k r = let is : a ≡ accepted = sym h ∙ ap told k in rw is r
+
+-- 1 of the mask has found nothing: the checks of the record beside it are next, then the mask's
+pub by-records : (f s m : Bool) (r rest : Answer) → true ≡ f → demand (f && s) 1 andThen r andThen demand m 5 andThen rest ≡ (demand s 1 andThen r) andThen ((demand f 1 andThen demand m 5) andThen rest)
+by-records true true m r rest e = refl
+by-records true false m r rest e = refl
+by-records false s m r rest e = cc
 
 pub ruleset checks = (test-fails, test-passes, last-fails, last-passes, call-refused, call-accepted, length-wrong, length-right, last-length-wrong, last-length-right)
 

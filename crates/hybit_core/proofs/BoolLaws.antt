@@ -1,9 +1,9 @@
 -- Laws of tests. Assumes nothing.
-use mathlib.Core.Path.{_≡_, refl, sym, _∙_}
-use mathlib.Core.Bool.{Bool, true, false, not, _&&_, _||_, true≢false, false≢true}
+use mathlib.Core.Path.{_≡_, refl, sym, ap, _∙_}
+use mathlib.Core.Bool.{Bool, true, false, not, _&&_, and-false, true≢false, false≢true}
 use Prim.Native.Nat.{ℕ, _≤_, _<_}
 use lib.Dec.{eqb, leb, ltb}
-use borrow.Author.Tests.{eq-eqb, ne-eqb, le-leb, lt-leb, lt-ltb, le-ltb, not-true, not-false}
+use borrow.Author.Tests.{eq-eqb, ne-eqb, eqb-true, le-leb, lt-leb, lt-ltb, le-ltb, not-true, not-false}
 
 pub and-left : (s t : Bool) → (s && t) ≡ true → s ≡ true
 and-left true t e = refl
@@ -26,6 +26,9 @@ same-test true t f g = sym (f refl)
 same-test false true f g = g refl
 same-test false false f g = refl
 
+pub eqb-turned : (m n : ℕ) → eqb m n ≡ eqb n m
+eqb-turned m n = same-test (eqb m n) (eqb n m) (λ e. eq-eqb n m (sym (eqb-true m n e))) (λ e. eq-eqb m n (sym (eqb-true n m e)))
+
 pub not-both : (t : Bool) {A : Type 0} → t ≡ true → t ≡ false → A
 not-both t p q = absurd (true≢false (sym p ∙ q))
 
@@ -42,6 +45,9 @@ flag-on b r e h = sym (not-false r h) ∙ e
 pub and-first : (a b : Bool) → false ≡ a → false ≡ (a && b)
 and-first true b e = cc
 and-first false b e = refl
+
+pub and-second : (a b : Bool) → false ≡ b → false ≡ (a && b)
+and-second a b e = sym (ap (λ (t : Bool). a && t) (sym e) ∙ and-false a)
 
 pub and-next : (a b c : Bool) → true ≡ a → c ≡ b → c ≡ (a && b)
 and-next true b c e k = k

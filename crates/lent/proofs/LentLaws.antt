@@ -15,7 +15,7 @@ use Rattle.hybit_core.specs.declared.HybitError.{HybitError}
 use Rattle.hybit_core.proofs.AnswerLaws.{accepted-by, refused-by}
 use Rattle.lent.specs.Lists.{joined, each}
 use Rattle.lent.specs.Lent.{padded, built, kept, handed, Appended}
-use Rattle.lent.proofs.ListLaws.{length-each, part-mid, zeros-front}
+use Rattle.lent.proofs.ListLaws.{each-suc, length-each, part-mid, zeros-front}
 
 -- ---- padded
 
@@ -118,16 +118,12 @@ module _ {A : Type 0} (f : ℕ → A) (old : List A) where
     pub filled-length : r ≤ length old → length new ≡ length old
     filled-length h = ap length (inv .is) ∙ simp (length-append, length-each, length-drop) (omega arith)
 
-    each-suc : each f (r + 1) ≡ each f r ++ (f r ∷ [])
-    unfolding each joined
-    each-suc = ap (each f) (add-one r)
-
     pub filled-more : (v : A) → v ≡ f r → r < length old → Filled f old (r + 1) (set new r v)
     filled-more v e h =
         let front : List A = each f r in
         let rest : List A = drop (suc r) old in
         let was : new ≡ front ++ getD old r v ∷ rest = inv .is ∙ rw (drop-cons old r v) in
-        let then : each f (r + 1) ++ drop (r + 1) old ≡ front ++ v ∷ rest = rw (each-suc, add-one, append-snoc, ← e) in
+        let then : each f (r + 1) ++ drop (r + 1) old ≡ front ++ v ∷ rest = rw (each-suc f r, add-one, append-snoc, ← e) in
         record { is = ap (λ (t : List A). set t r v) was ∙ set-at front (getD old r v) rest v r (length-each f r) ∙ sym then }
 
     -- the next place is as it was

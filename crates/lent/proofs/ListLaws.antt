@@ -1,5 +1,5 @@
 -- Laws of lists made row after row, and of tests over lists. Assumes nothing.
-use mathlib.Core.Bool.{Bool, true, false, not, _&&_, _||_, or-false, or-true, true≢false, false≢true}
+use mathlib.Core.Bool.{Bool, true, false, not, _&&_, _||_, and-assoc, or-false, or-true, true≢false, false≢true}
 use mathlib.Core.List.{List, [], _∷_, _++_, map, zip, zipWith, foldl, append-assoc, append-nil, map-append}
 use mathlib.Core.Path.{_≡_, refl, sym, ap, ap₂, _∙_}
 use Prim.Native.Nat.{ℕ, zero, suc, _+_, _-_, _≤_, _<_}
@@ -12,7 +12,7 @@ use lib.ListN.{length, getD, take, drop, set, replicate, length-set, length-repl
 use lib.Seq.{ext-getD, getD-set-same, getD-set-other, drop-cons, slice, take-at, drop-at, getD-append-add}
 use borrow.Author.Tests.{eqb-true, eq-eqb}
 use Rattle.hybit_core.proofs.BoolLaws.{and-left, and-right, and-both}
-use Rattle.lent.specs.Lists.{joined, each, starts, part, consIf, only, every, some, first, rises, spread}
+use Rattle.lent.specs.Lists.{joined, each, starts, part, consIf, only, every, some, rises, spread}
 
 module _ {A : Type 0} where
   slice-mid : (a b c : List A) (i j : ℕ) → i ≡ length a → j ≡ length a + length b → slice i j ((a ++ b) ++ c) ≡ b
@@ -31,6 +31,10 @@ module _ {A : Type 0} where
   unfolding joined
   joined-at f r n h = joined-split f (suc r) n h
 
+  pub joined-suc : (f : ℕ → List A) (r : ℕ) → joined f (r + 1) ≡ joined f r ++ f r
+  unfolding joined
+  joined-suc f r = ap (joined f) (add-one r)
+
   pub length-joined-suc : (f : ℕ → List A) (r : ℕ) → length (joined f (suc r)) ≡ length (joined f r) + length (f r)
   unfolding joined
   length-joined-suc f r = length-append (joined f r) (f r)
@@ -45,6 +49,10 @@ module _ {A : Type 0} where
   length-joined-le f r n h = let s = joined-split f r n h in omega (arith, ap length (s .1), length-append (joined f r) (s .0))
 
   -- f 0, f 1, ..
+
+  pub each-suc : (f : ℕ → A) (r : ℕ) → each f (r + 1) ≡ each f r ++ (f r ∷ [])
+  unfolding each
+  each-suc f r = joined-suc (λ k. f k ∷ []) r
 
   pub length-each : (f : ℕ → A) (n : ℕ) → length (each f n) ≡ n
   unfolding each joined
@@ -144,6 +152,11 @@ module _ {A : Type 0} where
   every-append p [] m d e = e
   every-append p (a ∷ l) m d e = and-both (p a) (every p (l ++ m)) (and-left (p a) (every p l) d) (every-append p l m (and-right (p a) (every p l) d) e)
 
+  pub every-join : (p : A → Bool) (l m : List A) → every p (l ++ m) ≡ (every p l && every p m)
+  unfolding every
+  every-join p [] m = refl
+  every-join p (a ∷ l) m = ap (λ (t : Bool). p a && t) (every-join p l m) ∙ sym (and-assoc (p a) (every p l) (every p m))
+
   pub every-joined : (p : A → Bool) (f : ℕ → List A) (n : ℕ) → ((r : ℕ) → r < n → every p (f r) ≡ true) → every p (joined f n) ≡ true
   unfolding every joined
   every-joined p f zero h = refl
@@ -153,6 +166,11 @@ pub every-map : {A B : Type 0} (p : B → Bool) (f : A → B) (l : List A) → e
 unfolding every
 every-map p f [] = refl
 every-map p f (a ∷ l) = ap (λ (t : Bool). p (f a) && t) (every-map p f l)
+
+pub some-map : {A B : Type 0} (p : B → Bool) (f : A → B) (l : List A) → some p (map f l) ≡ some (λ a. p (f a)) l
+unfolding some
+some-map p f [] = refl
+some-map p f (a ∷ l) = ap (λ (t : Bool). p (f a) || t) (some-map p f l)
 
 pub every-getD : {A : Type 0} (p : A → Bool) (l : List A) (k : ℕ) (d : A) → every p l ≡ true → k < length l → p (getD l k d) ≡ true
 unfolding every
@@ -186,20 +204,21 @@ pub every-part : {A : Type 0} (p : A → Bool) (ptr : List ℕ) (l : List A) (r 
 unfolding part
 every-part p ptr l r e = every-drop p (getD ptr r 0) (take (getD ptr (r + 1) 0) l) (every-take p (getD ptr (r + 1) 0) l e)
 
--- row r, as a part of a lent list has it: from a, its pointer, up to b, the next one
-pub part-lent : {A : Type 0} (ptr : List ℕ) (l : List A) (r a b : ℕ) → a ≡ getD ptr r 0 → b ≡ getD ptr (r + 1) 0 → take (b - a) (drop a l) ≡ part ptr l r
-unfolding part
-part-lent {A} ptr l r a b p q = go a b l ∙ ap₂ (λ (i j : ℕ). slice i j l) p q
+-- the places from a up to b, as a part of a lent list has them
+pub slice-lent : {A : Type 0} (a b : ℕ) (l : List A) → take (b - a) (drop a l) ≡ slice a b l
+slice-lent zero b l = ap (λ (n : ℕ). take n l) (sub-zero b)
+slice-lent (suc a) zero l = let e : 0 - suc a ≡ 0 = omega arith in ap (λ (n : ℕ). take n (drop (suc a) l)) e
+slice-lent {A} (suc a) (suc b) [] = none (suc b - suc a)
   where
     none : (n : ℕ) → _≡_ {A = List A} (take n []) []
     none zero = refl
     none (suc n) = refl
+slice-lent (suc a) (suc b) (x ∷ l) = let e : suc b - suc a ≡ b - a = omega arith in ap (λ (n : ℕ). take n (drop a l)) e ∙ slice-lent a b l
 
-    go : (a b : ℕ) (l : List A) → take (b - a) (drop a l) ≡ slice a b l
-    go zero b l = ap (λ (n : ℕ). take n l) (sub-zero b)
-    go (suc a) zero l = let e : 0 - suc a ≡ 0 = omega arith in ap (λ (n : ℕ). take n (drop (suc a) l)) e
-    go (suc a) (suc b) [] = none (suc b - suc a)
-    go (suc a) (suc b) (x ∷ l) = let e : suc b - suc a ≡ b - a = omega arith in ap (λ (n : ℕ). take n (drop a l)) e ∙ go a b l
+-- row r, from a, its pointer, up to b, the next one
+pub part-lent : {A : Type 0} (ptr : List ℕ) (l : List A) (r a b : ℕ) → a ≡ getD ptr r 0 → b ≡ getD ptr (r + 1) 0 → take (b - a) (drop a l) ≡ part ptr l r
+unfolding part
+part-lent ptr l r a b p q = slice-lent a b l ∙ ap₂ (λ (i j : ℕ). slice i j l) p q
 
 pub every-zip : {A B : Type 0} (p : A → Bool) (q : B → Bool) (l : List A) (m : List B) → every p l ≡ true → every q m ≡ true → every (λ (e : A × B). p (e .0) && q (e .1)) (zip l m) ≡ true
 unfolding every zip zipWith
@@ -222,6 +241,11 @@ only-append p (a ∷ l) m = go (p a) (only-append p l m)
     go : (t : Bool) → only p (l ++ m) ≡ only p l ++ only p m → consIf t a (only p (l ++ m)) ≡ consIf t a (only p l) ++ only p m
     go true e = ap (λ (s : List _). a ∷ s) e
     go false e = e
+
+-- t is the test of the last element, as the code finds it
+pub only-snoc : {A : Type 0} (p : A → Bool) (l : List A) (a : A) (t : Bool) → t ≡ p a → only p (l ++ (a ∷ [])) ≡ only p l ++ consIf t a []
+unfolding only
+only-snoc {A} p l a t e = only-append p l (a ∷ []) ∙ ap (λ (s : Bool). only p l ++ consIf s a []) (sym e)
 
 pub only-map : {A B : Type 0} (q : B → Bool) (f : A → B) (l : List A) → only q (map f l) ≡ map f (only (λ a. q (f a)) l)
 unfolding only

@@ -1,8 +1,9 @@
 -- Parts of lists that are mapped or stand side by side. Assumes nothing.
-use mathlib.Core.List.{List, [], _∷_, map, zip, zipWith}
+use mathlib.Core.List.{List, [], _∷_, _++_, map, zip, zipWith}
 use mathlib.Core.Path.{_≡_, refl, sym, ap, _∙_}
 use Prim.Native.Nat.{ℕ, zero, suc, _+_, _<_}
 use native.Mathlib.Nat.{not-suc-le-zero}
+use native.Mathlib.Numerals.{add-one}
 use native.Mathlib.Omega.{arith}
 use lib.ListN.{length, getD, take, drop}
 use Rattle.lent.specs.Lists.{part}
@@ -55,6 +56,17 @@ module _ {A B : Type 0} where
   getD-zip (x ∷ l) [] k a b h g = absurd (not-suc-le-zero g)
   getD-zip (x ∷ l) (y ∷ m) zero a b h g = refl
   getD-zip (x ∷ l) (y ∷ m) (suc k) a b h g = getD-zip l m k a b (omega arith) (omega arith)
+
+  -- one place more
+  pub zip-suc : (l : List A) (m : List B) (k : ℕ) (a : A) (b : B) → k < length l → k < length m → take (k + 1) (zip l m) ≡ take k (zip l m) ++ ((getD l k a, getD m k b) ∷ [])
+  unfolding zip zipWith
+  zip-suc l m k a b h g = ap (λ (n : ℕ). take n (zip l m)) (add-one k) ∙ go l m k h g
+    where
+      go : (l : List A) (m : List B) (k : ℕ) → k < length l → k < length m → take (suc k) (zip l m) ≡ take k (zip l m) ++ ((getD l k a, getD m k b) ∷ [])
+      go [] m k h g = absurd (not-suc-le-zero h)
+      go (x ∷ l) [] k h g = absurd (not-suc-le-zero g)
+      go (x ∷ l) (y ∷ m) zero h g = refl
+      go (x ∷ l) (y ∷ m) (suc k) h g = ap (λ (t : List (A × B)). (x, y) ∷ t) (go l m k (omega arith) (omega arith))
 
   pub length-zip : (l : List A) (m : List B) → length m ≡ length l → length (zip l m) ≡ length l
   unfolding zip zipWith

@@ -50,9 +50,6 @@ module _ (ws : List ℕ) where
     pub counted-done : length ws ≤ k → n ≡ count (bitAt ws) (64 * length ws)
     counted-done h = let e : k ≡ length ws = omega (arith, inv .inside) in inv .is ∙ ap (λ (m : ℕ). count (bitAt ws) (64 * m)) e
 
-pub ones-small : (w r : ℕ) → r ≡ count (has w) 64 → r ≤ 64
-ones-small w r e = omega (arith, length-below-le (has w) 64)
-
 -- of a valid mask they are its members
 pub ones-are : (n : ℕ) (ws : List ℕ) (r : ℕ) → Valid n ws → r ≡ count (bitAt ws) (64 * length ws) → r ≡ count (active (asMask n ws)) n
 ones-are n ws r ok e = e ∙ sym (ap length (members-are n ws ok))

@@ -6,13 +6,12 @@ use Prim.Native.Nat.{ℕ, suc, _+_, _-_, _%_, _^_, _≤_, _<_, zero-le}
 use native.Mathlib.Nat.{mod-eq-of-lt, sub-zero}
 use native.Mathlib.Numerals.{add-one}
 use native.Mathlib.Omega.{arith}
-use lib.Dec.{eqb, ltb}
+use lib.Dec.{ltb}
 use lib.ListN.{length, getD, take, drop, set, replicate, length-set, length-map, length-append, length-replicate, replicate-append-replicate}
 use lib.Seq.{take-suc-set, take-all, take-at, drop-at}
 use lib.Ieee.{Float}
-use borrow.Author.Tests.{eq-eqb, eqb-true}
 use Rattle.hybit_core.specs.Floats.{zero64}
-use Rattle.hybit_core.proofs.BoolLaws.{same-test}
+use Rattle.hybit_core.proofs.BoolLaws.{eqb-turned}
 use Rattle.lent.specs.Lists.{joined, each, starts, part, every, some}
 use Rattle.lent.proofs.ListLaws.{joined-lengths, joined-le, length-joined-le, length-joined-suc, part-lent, part-mid}
 use Rattle.word.specs.Bits.{below, count, maskOf, wordsOf, ceil64}
@@ -63,15 +62,12 @@ module _ (m : Csr) where
       let f : Framed (m .rows) (m .ptr) (length (m .col)) = subst (λ (k : ℕ). Framed (m .rows) (m .ptr) k) (sym (v .sides)) (v .frame) in
       omega (arith, joined-le (columnsAt m) (part (m .ptr) (m .col)) (m .rows) (λ r h. row-few r), ap length (parts-all (m .rows) (m .ptr) (m .col) f), v .entries-in)
     where
-      turned : (c d : ℕ) → eqb d c ≡ eqb c d
-      turned c d = same-test (eqb d c) (eqb c d) (λ e. eq-eqb c d (sym (eqb-true d c e))) (λ e. eq-eqb d c (sym (eqb-true c d e)))
-
       row-few : (r : ℕ) → length (columnsAt m r) ≤ length (part (m .ptr) (m .col) r)
       row-few r =
           omega (
             arith,
             columns-few (part (m .ptr) (m .col) r) (m .cols),
-            ap length (below-same (present (entries m r)) (listed (part (m .ptr) (m .col) r)) (m .cols) (λ c. present-row v r c ∙ ap (λ (q : ℕ → Bool). some q (part (m .ptr) (m .col) r)) (λ j d. turned c d j))),
+            ap length (below-same (present (entries m r)) (listed (part (m .ptr) (m .col) r)) (m .cols) (λ c. present-row v r c ∙ ap (λ (q : ℕ → Bool). some q (part (m .ptr) (m .col) r)) (λ j d. eqb-turned d c j))),
           )
 
 -- ---- the first r rows are packed, `at` values

@@ -1,25 +1,26 @@
--- Laws of a window of a row: its sums entry after entry, the test of its sums, clearing it, and the windows of a row taken together. Assumes nothing.
+-- Laws of a window of a row: its sums entry after entry, the test of its sums, and the windows of a row taken together. Assumes nothing.
 use mathlib.Core.Bool.{Bool, true, false, not, _&&_, _||_, or-true, false≢true}
 use mathlib.Core.List.{List, [], zip, zipWith}
 use mathlib.Core.Path.{_≡_, refl, sym, ap, ap₂, _∙_}
 use Prim.Native.Nat.{ℕ, _+_, _-_, _^_, _≤_, _<_}
-use native.Mathlib.Numerals.{add-one}
 use native.Mathlib.Decide.{decLt}
 use native.Mathlib.Omega.{arith}
-use lib.Dec.{eqb, leb, ltb}
-use lib.ListN.{length, getD, take, drop, set, replicate, length-set, length-replicate, getD-replicate, drop-of-length-le}
-use lib.Seq.{ext-getD, getD-set-same, getD-set-other, drop-cons, length-take-le}
+use lib.Dec.{leb, ltb}
+use lib.ListN.{length, getD, take, drop, set, replicate, length-replicate, getD-replicate}
+use lib.Seq.{length-take-le}
 use lib.Ieee.{Float, nan, binary64, add}
 use borrow.Author.Tests.{lt-ltb, le-ltb, le-leb, lt-leb, ltb-true, eq-eqb, ne-eqb}
 use Rattle.hybit_core.specs.Floats.{zero64, finite}
 use Rattle.hybit_core.proofs.BoolLaws.{flag-on, flag-off}
-use Rattle.lent.specs.Lists.{each, every, some}
-use Rattle.lent.proofs.ListLaws.{length-each, getD-each, each-set, each-cong, each-is, every-all, every-more, every-fails, every-done, some-none, every-by, zeros-front}
+use Rattle.lent.specs.Lists.{each, every}
+use Rattle.lent.proofs.ListLaws.{length-each, getD-each, each-set, each-cong, each-is, every-all, every-more, every-fails, every-done, every-by, zeros-front}
 use Rattle.csr32.specs.Csr.{Entry, merged}
+use Rattle.csr32.specs.Window.{Outside}
 use Rattle.csr32.proofs.CsrLaws.{present-columns}
-use Rattle.metadata_first_merge.specs.Merge.{rowValues}
-use Rattle.metadata_first_merge.specs.Window.{inWindow, sumsFinite, windowFinite, Outside}
+use Rattle.csr32.proofs.WindowLaws.{zeros-as}
 use Rattle.csr32.proofs.MergedLaws.{addIf, merged-none, merged-more, merged-absent, firsts-all}
+use Rattle.metadata_first_merge.specs.Merge.{rowValues}
+use Rattle.metadata_first_merge.specs.Window.{inWindow, sumsFinite, windowFinite}
 use Rattle.metadata_first_merge.proofs.MergeLaws.{row-finite}
 
 -- ---- the sums after k entries
@@ -117,46 +118,14 @@ module _ (cs : List ℕ) (base : ℕ) (sums : List Float) (k : ℕ) (inv : sumsF
           (test-in base (length sums) c (finite (getD sums (c - base) nan)) b g false (flag-off (finite (getD sums (c - base) nan)) t f q)
           ∙ ap (λ (c : ℕ). not (inWindow base (length sums) c) || finite (getD sums (c - base) nan)) e)
 
--- ---- clearing: 0.0 but at the columns from place k on
-
-module _ (cs : List ℕ) (base k : ℕ) (sums : List Float) (inv : Outside (drop k cs) base sums) where
-  pub outside-done : (n : ℕ) → length sums ≡ n → length cs ≤ k → sums ≡ replicate n zero64
-  outside-done n e h =
-      ext-getD nan sums (replicate n zero64) (e ∙ sym (length-replicate n zero64))
-      (λ i b. inv .zeros i b (ap (some (λ c. eqb c (base + i))) (drop-of-length-le cs h) ∙ some-none (λ c. eqb c (base + i))) ∙ sym (getD-replicate n i zero64 nan (omega arith)))
-
-  module _ (c : ℕ) (h : k < length cs) (e : c ≡ getD cs k 0) where
-    left : (i : ℕ) → (c ≡ base + i → ⊥) → some (λ d. eqb d (base + i)) (drop (k + 1) cs) ≡ false → some (λ d. eqb d (base + i)) (drop k cs) ≡ false
-    unfolding some
-    left i f s =
-        ap (some (λ d. eqb d (base + i))) (drop-cons cs k 0 h)
-        ∙ ap₂ (λ (r t : Bool). r || t) (ap (λ (d : ℕ). eqb d (base + i)) (sym e) ∙ ne-eqb c (base + i) f) (ap (λ (n : ℕ). some (λ d. eqb d (base + i)) (drop n cs)) (sym (add-one k)) ∙ s)
-
-    pub outside-before : c < base → Outside (drop (k + 1) cs) base sums
-    outside-before b = record { zeros = λ i q s. inv .zeros i q (left i (λ x. omega arith) s) }
-
-    pub outside-past : base ≤ c → length sums ≤ c - base → Outside (drop (k + 1) cs) base sums
-    outside-past b g = record { zeros = λ i q s. inv .zeros i q (left i (λ x. omega arith) s) }
-
-    pub outside-more : base ≤ c → c - base < length sums → Outside (drop (k + 1) cs) base (set sums (c - base) zero64)
-    outside-more b g = record { zeros = λ i q s. go i (decLt i (c - base)) (decLt (c - base) i) (omega (arith, length-set sums (c - base) zero64)) s }
-      where
-        go : (i : ℕ) → Dec (i < c - base) → Dec (c - base < i) → i < length sums → some (λ d. eqb d (base + i)) (drop (k + 1) cs) ≡ false → getD (set sums (c - base) zero64) i nan ≡ zero64
-        go i (yes x) y q s = getD-set-other sums (c - base) i zero64 nan (λ z. omega arith) ∙ inv .zeros i q (left i (λ z. omega arith) s)
-        go i (no x) (yes y) q s = getD-set-other sums (c - base) i zero64 nan (λ z. omega arith) ∙ inv .zeros i q (left i (λ z. omega arith) s)
-        go i (no x) (no y) q s = let z : i ≡ c - base = omega arith in ap (λ (j : ℕ). getD (set sums (c - base) zero64) j nan) z ∙ getD-set-same sums (c - base) zero64 nan g
-
 -- ---- the window of a whole row
-
-pub zeros-of : (sums : List Float) (m n : ℕ) → sums ≡ replicate m zero64 → m ≡ n → sums ≡ replicate n zero64
-zeros-of sums m n e h = e ∙ ap (λ (k : ℕ). replicate k zero64) h
 
 -- the first m places of an array of n zeros
 pub window-start : (m n : ℕ) → 0 < m → m ≤ n → n ≤ 2 ^ 20
     → ((0 < length (take m (replicate n zero64))) × (length (take m (replicate n zero64)) ≤ 2 ^ 20)) × (take m (replicate n zero64) ≡ replicate (length (take m (replicate n zero64))) zero64)
 window-start m n h k f =
     let e : length (take m (replicate n zero64)) ≡ m = length-take-le m (replicate n zero64) (omega (arith, length-replicate n zero64)) in
-    ((omega arith, omega arith), zeros-of (take m (replicate n zero64)) m (length (take m (replicate n zero64))) (zeros-front zero64 m n k) (sym e))
+    ((omega arith, omega arith), zeros-as (take m (replicate n zero64)) m (length (take m (replicate n zero64))) (zeros-front zero64 m n k) (sym e))
 
 module _ (cs : List ℕ) (vs : List Float) (base width : ℕ) (sums : List Float) (l : length vs ≡ length cs) (e : sums ≡ each (λ i. merged (zip cs vs) (base + i)) width) where
   sums-length : length sums ≡ width

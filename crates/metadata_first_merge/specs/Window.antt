@@ -1,13 +1,12 @@
--- A window of a row: so many columns from `base` on. What the private functions that sum, test and clear one require and ensure.
-use Prim.Native.Nat.{ℕ, _+_, _-_, _<_}
-use mathlib.Core.Bool.{Bool, false, not, _&&_, _||_}
+-- A window of a row: so many columns from `base` on. What the private functions that sum and test one require and ensure.
+use Prim.Native.Nat.{ℕ, _-_}
+use mathlib.Core.Bool.{Bool, not, _&&_, _||_}
 use mathlib.Core.List.{List, zip}
-use mathlib.Core.Path.{_≡_}
-use lib.Dec.{eqb, leb, ltb}
+use lib.Dec.{leb, ltb}
 use lib.ListN.{length, getD}
 use lib.Ieee.{Float, nan}
-use Rattle.hybit_core.specs.Floats.{zero64, finite}
-use Rattle.lent.specs.Lists.{every, some}
+use Rattle.hybit_core.specs.Floats.{finite}
+use Rattle.lent.specs.Lists.{every}
 use Rattle.csr32.specs.Csr.{merged}
 
 -- column c lies in the window
@@ -21,7 +20,3 @@ sumsFinite base sums cs = every (λ c. not (inWindow base (length sums) c) || fi
 -- the merged values of the columns in the window are finite
 unfoldable pub windowFinite : ℕ → ℕ → List ℕ → List Float → Bool
 windowFinite base width cs vs = every (λ c. not (inWindow base width c) || finite (merged (zip cs vs) c)) cs
-
--- the window is 0.0 but at the columns of cs
-pub record Outside (cs : List ℕ) (base : ℕ) (sums : List Float) : Type 0 where
-  pub zeros : (i : ℕ) → i < length sums → some (λ c. eqb c (base + i)) cs ≡ false → getD sums i nan ≡ zero64

@@ -11,8 +11,9 @@ ghost use Rattle.hybit_core.specs.Floats.{zero64, finite};
 ghost use Rattle.hybit_core.specs.Table.{told};
 ghost use Rattle.lent.specs.Lists.{each, every};
 ghost use Rattle.csr32.specs.Csr.{asCsr, csrAnswer, merged};
+ghost use Rattle.csr32.specs.Window.{Outside};
 ghost use Rattle.metadata_first_merge.specs.Merge.{rowValues, mergedFinite, mergeAnswer};
-ghost use Rattle.metadata_first_merge.specs.Window.{sumsFinite, windowFinite, Outside};
+ghost use Rattle.metadata_first_merge.specs.Window.{sumsFinite, windowFinite};
 use hybit_core::HybitError;
 use hybit_core::Verdict;
 

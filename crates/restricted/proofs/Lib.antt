@@ -1,1 +1,2 @@
 pub mod FigureLaws
+pub mod KeepLaws

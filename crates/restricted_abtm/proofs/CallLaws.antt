@@ -1,7 +1,7 @@
 -- The checks at each return of the code, and what a call answers. Assumes nothing.
-use mathlib.Core.Bool.{Bool, true, false, _&&_}
+use mathlib.Core.Bool.{true, false, _&&_}
 use mathlib.Core.List.{List, zip}
-use mathlib.Core.Path.{_≡_, refl, sym, ap, _∙_}
+use mathlib.Core.Path.{_≡_, sym, ap, _∙_}
 use Prim.Native.Nat.{ℕ, _+_, _≤_, _<_, _^_}
 use native.Mathlib.Numerals.{add-one}
 use native.Mathlib.Omega.{arith}
@@ -15,7 +15,7 @@ use Rattle.hybit_core.specs.declared.Verdict.{Verdict}
 use Rattle.hybit_core.specs.declared.Verdict.the-variants.{Accepted, Refused}
 use Rattle.hybit_core.specs.declared.HybitError.{HybitError}
 use Rattle.hybit_core.proofs.BoolLaws.{and-first, and-next, is-within, is-above}
-use Rattle.hybit_core.proofs.AnswerLaws.{test-fails, test-passes, last-fails, last-passes, length-wrong, length-right, call-refused, call-accepted, accepted-by}
+use Rattle.hybit_core.proofs.AnswerLaws.{test-fails, test-passes, last-fails, last-passes, length-wrong, length-right, call-refused, call-accepted, accepted-by, by-records}
 use Rattle.lent.specs.Lists.{joined, every}
 use Rattle.lent.proofs.ListLaws.{every-map}
 use Rattle.mask.specs.Mask.{Mask, asMask, maskRules, maskAnswer}
@@ -90,12 +90,6 @@ last-is t acc n ws ok room =
     let ps : length (m .ptr) ≡ t .rows + 1 = made-pointers (t .rows) (t .cols) f ∙ sym (add-one (t .rows)) in
     sym (λ i. demand (good i) 4 andThen demand (many (vs i)) 1 andThen demand (leb (ps i) (room .ptr) && leb (cs i) (room .col) && leb (vs i) (room .val)) 13)
 
--- 1 of the mask has found nothing: the tiles' own checks are next, then the mask's
-by-records : (f s r m : Bool) (rest : Answer) → true ≡ f → demand (f && s) 1 andThen demand r 12 andThen demand m 5 andThen rest ≡ (demand s 1 andThen demand r 12) andThen ((demand f 1 andThen demand m 5) andThen rest)
-by-records true true r m rest e = refl
-by-records true false r m rest e = refl
-by-records false s r m rest e = cc
-
 module _ (t : Tiles) (n : ℕ) (ws : List ℕ) (np nc nv : ℕ) where
   abbrev whole : Answer
   whole = restrictTilesAnswer t (asMask n ws) (asCsrRoom np nc nv)
@@ -110,7 +104,7 @@ module _ (t : Tiles) (n : ℕ) (ws : List ℕ) (np nc nv : ℕ) where
   module _ (small : true ≡ few n) where
     whole-is : whole ≡ tilesAnswer t andThen (maskAnswer (asMask n ws) andThen own)
     unfolding restrictTilesAnswer tilesAnswer maskAnswer
-    whole-is = by-records (few n) (tileSizes t) (tilesRules t) (maskRules (asMask n ws)) own small
+    whole-is = by-records (few n) (tileSizes t) (maskRules (asMask n ws)) (demand (tilesRules t) 12) own small
 
     pub tiles-refused : (v : Verdict) (e : HybitError) → told v ≡ tilesAnswer t → v ≡ Refused e → refused (paper e) ≡ whole
     tiles-refused v e h k = call-refused (tilesAnswer t) (maskAnswer (asMask n ws) andThen own) v e h k ∙ sym whole-is

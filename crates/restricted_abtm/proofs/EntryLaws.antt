@@ -12,7 +12,6 @@ use borrow.Author.Tests.{leb-true, ltb-true, lt-ltb}
 use Rattle.hybit_core.proofs.BoolLaws.{and-left, and-right, and-both}
 use Rattle.lent.specs.Lists.{joined, part, only, every, spread}
 use Rattle.lent.proofs.ListLaws.{zip-maps, getD-map-lt, only-map, only-append, every-by, every-left, every-part, every-joined, joined-cong, spread-map, spread-append}
-use Rattle.lent.proofs.PartLaws.{length-zip}
 use Rattle.word.specs.Bits.{has, below, both, members, ceil64}
 use Rattle.word.proofs.BelowLaws.{below-cong, length-below-suc, selects}
 use Rattle.word.proofs.OpLaws.{has-word}
@@ -25,7 +24,7 @@ use Rattle.csr32.proofs.FrameLaws.{Framed, lists-frame, parts-all}
 use Rattle.topology.specs.Words.{wordRule}
 use Rattle.topology.proofs.RowLaws.{small-is, word-inside}
 use Rattle.abtm.specs.Tiles.{Tile, Tiles, Listed, wordIn, kindIn, placesOf, places, stored, tileAt, listedTiles, rowTiles, tileEntries}
-use Rattle.abtm_check.proofs.TilesLaws.{AcceptedTiles, slotsInside, rowListed, row-listed, row-inside, row-words}
+use Rattle.abtm_check.proofs.TilesLaws.{AcceptedTiles, slotsInside, rowListed, row-listed, row-inside, row-words, length-listed}
 use Rattle.restricted_abtm.specs.Kept.{placeIn, valueIn, entryIn, activeBits, keptOf, keptAll, tileReady}
 
 -- ---- the values of a tile, by the places of its columns
@@ -153,7 +152,7 @@ module _ (t : Tiles) (acc : AcceptedTiles t) (n : ℕ) (ws : List ℕ) (ok : Val
 
   listed-long : length (listedTiles t) ≡ length (t .mask)
   unfolding listedTiles
-  listed-long = length-zip (t .mask) (zip (t .offset) (t .meta)) (length-zip (t .offset) (t .meta) (acc .metas-long ∙ sym (acc .offsets-long)) ∙ acc .offsets-long)
+  listed-long = length-listed (t .mask) (t .offset) (t .meta) (acc .offsets-long) (acc .metas-long)
 
   listed-rows : joined (rowListed t) (t .rows) ≡ listedTiles t
   listed-rows =

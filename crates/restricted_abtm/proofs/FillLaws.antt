@@ -14,18 +14,17 @@ use Rattle.hybit_core.specs.Domain.{few, many}
 use Rattle.hybit_core.specs.Floats.{finite}
 use Rattle.hybit_core.proofs.BoolLaws.{and-left, and-right}
 use Rattle.hybit_core.proofs.AnswerLaws.{then-first, then-second, demand-accepted, length-accepted}
-use Rattle.lent.specs.Lists.{joined, each, starts, part, every}
+use Rattle.lent.specs.Lists.{joined, each, starts, every}
 use Rattle.lent.specs.Lent.{Appended}
-use Rattle.lent.proofs.ListLaws.{part-lent, length-joined-suc, length-joined-le}
+use Rattle.lent.proofs.ListLaws.{length-joined-suc, length-joined-le, each-suc, joined-suc}
 use Rattle.lent.proofs.LentLaws.{appended-none, appended-join, appended-snoc}
 use Rattle.mask.specs.Mask.{asMask, maskRules}
 use Rattle.mask.proofs.MaskLaws.{Valid, rules-valid, few-words}
 use Rattle.csr32.specs.Csr.{Csr, Entry}
 use Rattle.csr32.specs.Made.{csrOf, asCsrRoom, fitsCsr}
-use Rattle.csr32.proofs.FrameLaws.{RowIn}
 use Rattle.csr32.proofs.MadeLaws.{made-columns, made-values, made-pointers}
 use Rattle.abtm.specs.Tiles.{Tiles, tileSizes, tilesRules}
-use Rattle.abtm_check.proofs.TilesLaws.{AcceptedTiles, rules-facts, rowListed, masks-row, metas-row, offsets-row, metas-same, offsets-same}
+use Rattle.abtm_check.proofs.TilesLaws.{AcceptedTiles, rules-facts, rowListed, lent-listed}
 use Rattle.restricted.specs.Restricted.{restrictedTiles, restrictTilesAnswer}
 use Rattle.restricted_abtm.specs.Kept.{keptAll, tileReady}
 use Rattle.restricted_abtm.proofs.EntryLaws.{rowKept, row-kept, row-ready}
@@ -41,7 +40,7 @@ pub record Restrictable (t : Tiles) (n : ℕ) (ws : List ℕ) (np nc nv : ℕ) :
   pub columns-fit : length (joined (rowKept t (asMask n ws)) (t .rows)) ≤ nc
   pub values-fit : length (joined (rowKept t (asMask n ws)) (t .rows)) ≤ nv
 
-restrict-facts : (t : Tiles) (n : ℕ) (ws : List ℕ) (np nc nv : ℕ) → restrictTilesAnswer t (asMask n ws) (asCsrRoom np nc nv) ≡ accepted → Restrictable t n ws np nc nv
+pub restrict-facts : (t : Tiles) (n : ℕ) (ws : List ℕ) (np nc nv : ℕ) → restrictTilesAnswer t (asMask n ws) (asCsrRoom np nc nv) ≡ accepted → Restrictable t n ws np nc nv
 unfolding restrictTilesAnswer restrictedTiles fitsCsr
 restrict-facts t n ws np nc nv e =
     let row : ℕ → List Entry = rowKept t (asMask n ws) in
@@ -74,23 +73,6 @@ restrict-facts t n ws np nc nv e =
     }
 
 -- ---- the lists on the way: the pointers and entries of the first rows
-
--- row r of the tile lists, from a up to b
-pub record RowPlaces (t : Tiles) (r a b : ℕ) : Type 0 where
-  pub here : r < length (t .ptr)
-  pub next : r + 1 < length (t .ptr)
-  pub order : a ≤ b
-  pub in-masks : b ≤ length (t .mask)
-  pub in-offsets : b ≤ length (t .offset)
-  pub in-metas : b ≤ length (t .meta)
-
-each-more : {A : Type 0} (f : ℕ → A) (r : ℕ) → each f (r + 1) ≡ each f r ++ (f r ∷ [])
-unfolding each joined
-each-more f r = ap (each f) (add-one r)
-
-joined-more : {A : Type 0} (f : ℕ → List A) (r : ℕ) → joined f (r + 1) ≡ joined f r ++ f r
-unfolding joined
-joined-more f r = ap (joined f) (add-one r)
 
 module _ (t : Tiles) (n : ℕ) (ws oldP oldC : List ℕ) (oldV : List Float) where
   abbrev kept : ℕ → List Entry
@@ -131,37 +113,14 @@ module _ (t : Tiles) (n : ℕ) (ws : List ℕ) (np nc nv : ℕ) (ok : restrictTi
 
   -- ---- a row by its two pointers, as the code reads them
   module _ (r a b : ℕ) (h : r < t .rows) (ea : a ≡ getD (t .ptr) r 0) (eb : b ≡ getD (t .ptr) (r + 1) 0) where
-    pub row-places : RowPlaces t r a b
-    row-places =
-        let m : RowIn (t .ptr) (length (t .mask)) r = masks-row t (facts .tiles) r h in
-        let o : RowIn (t .ptr) (length (t .offset)) r = offsets-row t (facts .tiles) r h in
-        let k : RowIn (t .ptr) (length (t .meta)) r = metas-row t (facts .tiles) r h in
-        record {
-          here = m .here;
-          next = m .next;
-          order = omega (arith, m .order);
-          in-masks = omega (arith, m .inside);
-          in-offsets = omega (arith, o .inside);
-          in-metas = omega (arith, k .inside);
-        }
-
-    lent-row : {A : Type 0} (l : List A) → take (b - a) (drop a l) ≡ part (t .ptr) l r
-    lent-row l = part-lent (t .ptr) l r a b ea eb
-
-    pub lent-offsets : length (take (b - a) (drop a (t .offset))) ≡ length (take (b - a) (drop a (t .mask)))
-    lent-offsets = ap length (lent-row (t .offset)) ∙ offsets-same t (facts .tiles) r h ∙ sym (ap length (lent-row (t .mask)))
-
-    pub lent-metas : length (take (b - a) (drop a (t .meta))) ≡ length (take (b - a) (drop a (t .mask)))
-    lent-metas = ap length (lent-row (t .meta)) ∙ metas-same t (facts .tiles) r h ∙ sym (ap length (lent-row (t .mask)))
-
-    lent-listed : zip (take (b - a) (drop a (t .mask))) (zip (take (b - a) (drop a (t .offset))) (take (b - a) (drop a (t .meta)))) ≡ rowListed t r
-    lent-listed = λ i. zip (lent-row (t .mask) i) (zip (lent-row (t .offset) i) (lent-row (t .meta) i))
+    listed-lent : zip (take (b - a) (drop a (t .mask))) (zip (take (b - a) (drop a (t .offset))) (take (b - a) (drop a (t .meta)))) ≡ rowListed t r
+    listed-lent = lent-listed t (facts .tiles) r a b h ea eb
 
     pub lent-ready : ((k : ℕ) → getD (t .mask) k 0 < 2 ^ 64) → every (tileReady (length (t .vals)) (length ws)) (zip (take (b - a) (drop a (t .mask))) (zip (take (b - a) (drop a (t .offset))) (take (b - a) (drop a (t .meta))))) ≡ true
-    lent-ready fits = ap (every (tileReady (length (t .vals)) (length ws))) lent-listed ∙ row-ready t (facts .tiles) n ws (facts .mask) (facts .size) fits r h
+    lent-ready fits = ap (every (tileReady (length (t .vals)) (length ws))) listed-lent ∙ row-ready t (facts .tiles) n ws (facts .mask) (facts .size) fits r h
 
     lent-kept : keptAll (t .vals) ws (zip (take (b - a) (drop a (t .mask))) (zip (take (b - a) (drop a (t .offset))) (take (b - a) (drop a (t .meta))))) ≡ rowKept t (asMask n ws) r
-    lent-kept = ap (keptAll (t .vals) ws) lent-listed ∙ sym (row-kept t (facts .tiles) n ws (facts .mask) r h)
+    lent-kept = ap (keptAll (t .vals) ws) listed-lent ∙ sym (row-kept t (facts .tiles) n ws (facts .mask) r h)
 
     row-fits : length (joined (rowKept t (asMask n ws)) r) + length (rowKept t (asMask n ws) r) ≤ length (joined (rowKept t (asMask n ws)) (t .rows))
     row-fits = omega (arith, length-joined-suc (rowKept t (asMask n ws)) r, length-joined-le (rowKept t (asMask n ws)) (suc r) (t .rows) h)
@@ -180,11 +139,11 @@ module _ (t : Tiles) (n : ℕ) (ws : List ℕ) (np nc nv : ℕ) (ok : restrictTi
       filling-more u to lastC lastV eu c v sc sv =
           let f : ℕ → List Entry = rowKept t (asMask n ws) in
           let lent : List Entry = keptAll (t .vals) ws (zip (take (b - a) (drop a (t .mask))) (zip (take (b - a) (drop a (t .offset))) (take (b - a) (drop a (t .meta))))) in
-          let step : joined f (r + 1) ≡ joined f r ++ lent = joined-more f r ∙ ap (λ (l : List Entry). joined f r ++ l) (sym lent-kept) in
+          let step : joined f (r + 1) ≡ joined f r ++ lent = joined-suc f r ∙ ap (λ (l : List Entry). joined f r ++ l) (sym lent-kept) in
           let number : u ≡ length (joined f r) = omega (arith, inv .place, row-fits, facts .few-kept) in
           let cs : map (λ (e : Entry). e .0) (joined f (r + 1)) ≡ map (λ (e : Entry). e .0) (joined f r) ++ map (λ (e : Entry). e .0) lent = ap (map (λ (e : Entry). e .0)) step ∙ map-append (λ (e : Entry). e .0) (joined f r) lent in
           let vs : map (λ (e : Entry). e .1) (joined f (r + 1)) ≡ map (λ (e : Entry). e .1) (joined f r) ++ map (λ (e : Entry). e .1) lent = ap (map (λ (e : Entry). e .1)) step ∙ map-append (λ (e : Entry). e .1) (joined f r) lent in
-          let ps : each (λ r. length (joined f r)) (r + 1) ≡ each (λ r. length (joined f r)) r ++ (u ∷ []) = each-more (λ r. length (joined f r)) r ∙ ap (λ (k : ℕ). each (λ r. length (joined f r)) r ++ (k ∷ [])) (sym number) in
+          let ps : each (λ r. length (joined f r)) (r + 1) ≡ each (λ r. length (joined f r)) r ++ (u ∷ []) = each-suc (λ r. length (joined f r)) r ∙ ap (λ (k : ℕ). each (λ r. length (joined f r)) r ++ (k ∷ [])) (sym number) in
           let joinedC = appended-join (map (λ (e : Entry). e .0) (joined f r)) (map (λ (e : Entry). e .0) lent) 0 at to oldC outC lastC (inv .columns) c in
           record {
             inside = omega arith;
@@ -216,7 +175,7 @@ module _ (t : Tiles) (n : ℕ) (ws : List ℕ) (np nc nv : ℕ) (ok : restrictTi
           let f : ℕ → List Entry = rowKept t (asMask n ws) in
           let g : ℕ → ℕ = λ r. length (joined f r) in
           let number : u ≡ g (t .rows) = omega (arith, inv .place, ap g last-row, facts .few-kept) in
-          let all : each g (suc (t .rows)) ≡ each g (t .rows) ++ (u ∷ []) = ap (each g) (sym (add-one (t .rows))) ∙ each-more g (t .rows) ∙ ap (λ (k : ℕ). each g (t .rows) ++ (k ∷ [])) (sym number) in
+          let all : each g (suc (t .rows)) ≡ each g (t .rows) ++ (u ∷ []) = ap (each g) (sym (add-one (t .rows))) ∙ each-suc g (t .rows) ∙ ap (λ (k : ℕ). each g (t .rows) ++ (k ∷ [])) (sym number) in
           let before : Appended (each g (t .rows)) 0 (t .rows) oldP outP = subst (λ (k : ℕ). Appended (each g k) 0 k oldP outP) last-row (inv .pointers) in
           rw all (appended-snoc (each g (t .rows)) 0 (t .rows) oldP outP u before (pointer-room (t .rows) (omega arith)))
 

@@ -3,26 +3,26 @@ use mathlib.Core.Bool.{Bool, true, false, _&&_}
 use mathlib.Core.List.{List, [], _∷_, _++_, map, zip, map-append}
 use mathlib.Core.Path.{_≡_, refl, sym, ap, _∙_}
 use Prim.Native.Nat.{ℕ, _+_, _*_, _≤_, _<_}
-use native.Mathlib.Numerals.{add-one}
 use native.Mathlib.Omega.{arith}
 use lib.Dec.{ltb}
-use lib.ListN.{length, getD, take, drop, length-map, length-append, drop-of-length-le}
-use lib.Seq.{take-suc, take-all}
+use lib.ListN.{length, getD, take, drop, length-map, length-append}
+use lib.Seq.{take-all}
 use lib.Ieee.{Float}
 use borrow.Author.Tests.{ltb-true}
 use Rattle.hybit_core.specs.Floats.{finite}
 use Rattle.lent.specs.Lists.{every, spread}
 use Rattle.lent.specs.Lent.{Appended}
-use Rattle.lent.proofs.ListLaws.{every-getD, spread-append}
+use Rattle.lent.proofs.ListLaws.{every-getD, spread-append, every-join}
 use Rattle.lent.proofs.LentLaws.{appended-none, appended-join}
-use Rattle.lent.proofs.PartLaws.{getD-zip, length-zip}
+use Rattle.lent.proofs.PartLaws.{length-zip, zip-suc}
 use Rattle.word.specs.Bits.{has, count, members, wordOf}
 use Rattle.word.proofs.BelowLaws.{length-below-le}
 use Rattle.word.proofs.OpLaws.{members-count}
 use Rattle.csr32.specs.Csr.{Entry}
 use Rattle.abtm.specs.Tiles.{Listed, wordIn}
+use Rattle.abtm_check.proofs.TilesLaws.{length-listed, rest-listed, none-listed}
 use Rattle.restricted_abtm.specs.Kept.{valueIn, activeBits, keptOf, keptAll, keptCount}
-use Rattle.restricted_abtm.proofs.ReadyLaws.{every-join, listed-long, rest-more, kept-more, kept-room, tile-columns, tile-values, tile-tested, tile-length}
+use Rattle.restricted_abtm.proofs.ReadyLaws.{kept-more, kept-room, tile-columns, tile-values, tile-tested, tile-length}
 
 -- ---- entries appended: those of the first k tiles
 
@@ -69,7 +69,7 @@ module _ (masks offs metas : List ℕ) (vals : List Float) (ws : List ℕ) (star
 
     module _ (h : length masks ≤ k) where
       whole : front k ≡ keptAll vals ws (zip masks (zip offs metas))
-      whole = ap (keptAll vals ws) (take-all k (zip masks (zip offs metas)) (omega (arith, listed-long masks offs metas vals ws eo em)))
+      whole = ap (keptAll vals ws) (take-all k (zip masks (zip offs metas)) (omega (arith, length-listed masks offs metas eo em)))
 
       pub all-columns : Appended (map (λ (e : Entry). e .0) (keptAll vals ws (zip masks (zip offs metas)))) start at oldC outC
       all-columns = rw (← whole) (inv .columns)
@@ -98,7 +98,7 @@ module _ (masks offs metas : List ℕ) (vals : List Float) (ws : List ℕ) where
       unfolding keptAll spread
       step b e =
           let t : Listed = (getD masks k 0, (o, getD metas k 0)) in
-          inv .is ∙ ap (λ (l : List Listed). every good (keptAll vals ws l)) (rest-more masks offs metas vals ws eo em k o h ek)
+          inv .is ∙ ap (λ (l : List Listed). every good (keptAll vals ws l)) (rest-listed masks offs metas eo em k o h ek)
           ∙ every-join good (keptOf vals ws t) (rest (k + 1))
           ∙ ap (λ (s : Bool). s && every good (rest (k + 1))) (tile-tested masks offs metas vals ws eo em k o h ek w bits ew eb ∙ sym e)
 
@@ -111,9 +111,7 @@ module _ (masks offs metas : List ℕ) (vals : List Float) (ws : List ℕ) where
     pub tested-done : length masks ≤ k → true ≡ every good (keptAll vals ws (zip masks (zip offs metas)))
     unfolding keptAll spread every
     tested-done h =
-        let l : List Listed = zip masks (zip offs metas) in
-        let past : length l ≤ k = omega (arith, listed-long masks offs metas vals ws eo em) in
-        sym (inv .is ∙ ap (λ (t : List Listed). every good (keptAll vals ws t)) (drop-of-length-le l past))
+        sym (inv .is ∙ ap (λ (t : List Listed). every good (keptAll vals ws t)) (none-listed masks offs metas eo em k h))
 
 -- ---- entries counted: those of the first k tiles
 
@@ -141,8 +139,7 @@ module _ (masks metas ws : List ℕ) where
             let l : List (ℕ × ℕ) = zip masks metas in
             let f : ℕ × ℕ → List ℕ = λ (e : ℕ × ℕ). members (activeBits ws (e .0) (e .1)) in
             let t : ℕ × ℕ = (getD masks k 0, getD metas k 0) in
-            let front : take (k + 1) l ≡ take k l ++ (t ∷ []) =
-            ap (λ (n : ℕ). take n l) (add-one k) ∙ take-suc l k (0, 0) (omega (arith, length-zip masks metas em)) ∙ ap (λ (t : ℕ × ℕ). take k l ++ (t ∷ [])) (getD-zip masks metas k 0 0 h (omega arith)) in
+            let front : take (k + 1) l ≡ take k l ++ (t ∷ []) = zip-suc masks metas k 0 0 h (omega arith) in
             let same : bits ≡ activeBits ws (getD masks k 0) (getD metas k 0) = eb ∙ ap (λ (v : ℕ). wordOf (λ i. has (getD masks k 0) i && has (getD ws v 0) i)) ew in
             let size : n ≡ length (f t) = en ∙ sym (members-count bits) ∙ ap (λ (b : ℕ). length (members b)) same in
             let joined : length (spread f (take (k + 1) l)) ≡ length (spread f (take k l)) + length (f t ++ []) =

@@ -8,27 +8,23 @@ use native.Mathlib.Numerals.{add-one}
 use native.Mathlib.Omega.{arith}
 use lib.Dec.{eqb, leb, ltb}
 use lib.ListN.{length, getD, take, drop, length-append, length-map, take-append-drop}
-use lib.Seq.{take-suc, drop-cons}
+use lib.Seq.{take-suc}
 use lib.Ieee.{Float, nan}
 use borrow.Author.Tests.{leb-true, ltb-true, lt-ltb}
 use Rattle.hybit_core.specs.Floats.{finite}
 use Rattle.hybit_core.proofs.BoolLaws.{and-left, and-right, and-both}
 use Rattle.lent.specs.Lists.{every, spread}
 use Rattle.lent.proofs.ListLaws.{every-getD, every-map, every-append, spread-append}
-use Rattle.lent.proofs.PartLaws.{getD-zip, length-zip}
-use Rattle.word.specs.Bits.{has, from, below, count, members, wordOf}
-use Rattle.word.proofs.BelowLaws.{rank-lt}
+use Rattle.word.specs.Bits.{has, below, count, members, wordOf}
+use Rattle.word.proofs.BelowLaws.{rank-lt, all-places}
 use Rattle.word.proofs.BitLaws.{every-below}
 use Rattle.word.proofs.OpLaws.{has-word}
 use Rattle.csr32.specs.Csr.{Entry}
 use Rattle.abtm.specs.Tiles.{Listed, wordIn, kindIn, placesOf, places}
+use Rattle.abtm_check.proofs.TilesLaws.{length-listed, listed-at}
 use Rattle.restricted_abtm.specs.Kept.{placeIn, valueIn, entryIn, activeBits, keptOf, keptAll, keptCount, bitsInside, tileReady}
 
 -- ---- the place of a present column is one of the tile's
-
-all-places : length (below (λ i. true) 64) ≡ 64
-unfolding below from
-all-places = refl
 
 pub place-few : (meta mask i : ℕ) → i < 64 → has mask i ≡ true → placeIn meta mask i < length (places mask meta)
 unfolding placeIn placesOf members
@@ -76,15 +72,6 @@ tile-all-finite vals ws nw e a ok =
 
 -- ---- tiles one after another
 
-pub every-join : {A : Type 0} (p : A → Bool) (l m : List A) → every p (l ++ m) ≡ (every p l && every p m)
-unfolding every
-every-join p [] m = refl
-every-join p (a ∷ l) m = ap (λ (t : Bool). p a && t) (every-join p l m) ∙ sym (and-assoc (p a) (every p l) (every p m))
-  where
-    and-assoc : (s t u : Bool) → ((s && t) && u) ≡ (s && (t && u))
-    and-assoc true t u = refl
-    and-assoc false t u = refl
-
 pub all-finite : (vals : List Float) (ws : List ℕ) (nw : ℕ) (l : List Listed) → every finite vals ≡ true → every (tileReady (length vals) nw) l ≡ true → every (λ (x : Entry). finite (x .1)) (keptAll vals ws l) ≡ true
 unfolding every keptAll spread
 all-finite vals ws nw [] a ok = refl
@@ -128,33 +115,20 @@ ready-words nv nw (m ∷ ms) (o ∷ os) (k ∷ ks) e f ok =
 -- ---- tile k of three lists, as the code reads it: o is its offset, w its word number, bits its active columns
 
 module _ (masks offs metas : List ℕ) (vals : List Float) (ws : List ℕ) (eo : length offs ≡ length masks) (em : length metas ≡ length masks) where
-  pairs-long : length (zip offs metas) ≡ length masks
-  pairs-long = length-zip offs metas (em ∙ sym eo) ∙ eo
-
-  pub listed-long : length (zip masks (zip offs metas)) ≡ length masks
-  listed-long = length-zip masks (zip offs metas) pairs-long
-
   module _ (k o : ℕ) (h : k < length masks) (ek : o ≡ getD offs k 0) where
     abbrev tile : Listed
     tile = (getD masks k 0, (o, getD metas k 0))
 
-    listed-at : getD (zip masks (zip offs metas)) k (0, (0, 0)) ≡ tile
-    listed-at =
-        getD-zip masks (zip offs metas) k 0 (0, 0) h (omega (arith, pairs-long))
-        ∙ ap (λ (t : ℕ × ℕ). (getD masks k 0, t)) (getD-zip offs metas k 0 0 (omega arith) (omega arith) ∙ ap (λ (j : ℕ). (j, getD metas k 0)) (sym ek))
+    at-place : getD (zip masks (zip offs metas)) k (0, (0, 0)) ≡ tile
+    at-place = listed-at masks offs metas eo em k o h ek
 
     pub tile-ready : every (tileReady (length vals) (length ws)) (zip masks (zip offs metas)) ≡ true → tileReady (length vals) (length ws) tile ≡ true
-    tile-ready ok = sym (ap (tileReady (length vals) (length ws)) listed-at) ∙ every-getD (tileReady (length vals) (length ws)) (zip masks (zip offs metas)) k (0, (0, 0)) ok (omega (arith, listed-long))
+    tile-ready ok = sym (ap (tileReady (length vals) (length ws)) at-place) ∙ every-getD (tileReady (length vals) (length ws)) (zip masks (zip offs metas)) k (0, (0, 0)) ok (omega (arith, length-listed masks offs metas eo em))
 
     pub front-more : take (k + 1) (zip masks (zip offs metas)) ≡ take k (zip masks (zip offs metas)) ++ (tile ∷ [])
     front-more =
         let l : List Listed = zip masks (zip offs metas) in
-        ap (λ (n : ℕ). take n l) (add-one k) ∙ take-suc l k (0, (0, 0)) (omega (arith, listed-long)) ∙ ap (λ (t : Listed). take k l ++ (t ∷ [])) listed-at
-
-    pub rest-more : drop k (zip masks (zip offs metas)) ≡ tile ∷ drop (k + 1) (zip masks (zip offs metas))
-    rest-more =
-        let l : List Listed = zip masks (zip offs metas) in
-        drop-cons l k (0, (0, 0)) (omega (arith, listed-long)) ∙ ap (λ (n : ℕ). getD l k (0, (0, 0)) ∷ drop n l) (sym (add-one k)) ∙ ap (λ (t : Listed). t ∷ drop (k + 1) l) listed-at
+        ap (λ (n : ℕ). take n l) (add-one k) ∙ take-suc l k (0, (0, 0)) (omega (arith, length-listed masks offs metas eo em)) ∙ ap (λ (t : Listed). take k l ++ (t ∷ [])) at-place
 
     pub kept-more : keptAll vals ws (take (k + 1) (zip masks (zip offs metas))) ≡ keptAll vals ws (take k (zip masks (zip offs metas))) ++ keptOf vals ws tile
     kept-more =

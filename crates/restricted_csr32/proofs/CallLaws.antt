@@ -12,7 +12,7 @@ use Rattle.hybit_core.specs.declared.Verdict.{Verdict}
 use Rattle.hybit_core.specs.declared.Verdict.the-variants.{Accepted, Refused}
 use Rattle.hybit_core.specs.declared.HybitError.{HybitError}
 use Rattle.hybit_core.proofs.BoolLaws.{and-first, is-within, is-above}
-use Rattle.hybit_core.proofs.AnswerLaws.{test-fails, last-fails, last-passes, length-wrong, length-right, call-refused, call-accepted}
+use Rattle.hybit_core.proofs.AnswerLaws.{test-fails, last-fails, last-passes, length-wrong, length-right, call-refused, call-accepted, by-records}
 use Rattle.lent.specs.Lists.{only}
 use Rattle.mask.specs.Mask.{Mask, active, maskRules, maskAnswer}
 use Rattle.csr32.specs.Csr.{Csr, csrSizes, csrRules, csrAnswer}
@@ -24,12 +24,6 @@ use Rattle.restricted.specs.declared.ColumnRestriction.{ColumnRestriction}
 use Rattle.restricted_csr32.proofs.FillLaws.{keptRow, kept-count}
 
 -- ---- the checks, as the calls of the two records' checks give them
-
--- 1 of the mask has found nothing: the list's own checks are next, then the mask's
-by-records : (f s m : Bool) (r rest : Answer) → true ≡ f → demand (f && s) 1 andThen r andThen demand m 5 andThen rest ≡ (demand s 1 andThen r) andThen ((demand f 1 andThen demand m 5) andThen rest)
-by-records true true m r rest e = refl
-by-records true false m r rest e = refl
-by-records false s m r rest e = cc
 
 second-fails : (p c v : Bool) → false ≡ c → false ≡ (p && c && v)
 second-fails true c v e = and-first c v e

@@ -1,6 +1,6 @@
 -- The rows of a restricted list, one after another: what an accepted call says, and what the code holds row after row. Assumes nothing.
 use mathlib.Core.Bool.{Bool, true, _&&_}
-use mathlib.Core.List.{List, [], _∷_, _++_, map, map-append, zip}
+use mathlib.Core.List.{List, map, map-append, zip}
 use mathlib.Core.Path.{_≡_, refl, sym, ap, ap₂, subst, _∙_}
 use Prim.Native.Nat.{ℕ, suc, _+_, _-_, _%_, _^_, _≤_, _<_}
 use native.Mathlib.Numerals.{add-one}
@@ -15,7 +15,7 @@ use Rattle.hybit_core.proofs.BoolLaws.{and-left, and-right}
 use Rattle.hybit_core.proofs.AnswerLaws.{demand-accepted, then-first, then-second, length-accepted}
 use Rattle.lent.specs.Lists.{joined, each, starts, part, only}
 use Rattle.lent.specs.Lent.{Appended}
-use Rattle.lent.proofs.ListLaws.{joined-lengths, length-joined-suc, length-joined-le, length-only, only-joined}
+use Rattle.lent.proofs.ListLaws.{joined-lengths, length-joined-suc, length-joined-le, length-only, only-joined, each-suc, joined-suc}
 use Rattle.lent.proofs.LentLaws.{appended-none, appended-join, appended-snoc}
 use Rattle.mask.specs.Mask.{Mask, active, maskRules}
 use Rattle.mask.proofs.MaskLaws as masks
@@ -25,7 +25,7 @@ use Rattle.csr32.proofs.FrameLaws.{parts-all}
 use Rattle.csr32.proofs.CsrLaws.{Valid, valid, row-of, row-sides, pointers-few, entries-lent}
 use Rattle.csr32.proofs.MadeLaws.{made-pointers, made-columns, made-values}
 use Rattle.restricted.specs.Restricted.{restricted, restrictAnswer}
-use Rattle.restricted_csr32.proofs.KeepLaws.{length-kept}
+use Rattle.restricted.proofs.KeepLaws.{length-kept}
 
 -- row r of the result
 abbrev pub keptRow : Csr → Mask → ℕ → List Entry
@@ -126,14 +126,6 @@ filling-none row op oc ov = record {
   long-columns = refl;
   long-values = refl;
 }
-
-each-suc : (f : ℕ → ℕ) (r : ℕ) → each f (r + 1) ≡ each f r ++ (f r ∷ [])
-unfolding each joined
-each-suc f r = ap (each f) (add-one r)
-
-joined-suc : (row : ℕ → List Entry) (r : ℕ) → joined row (r + 1) ≡ joined row r ++ row r
-unfolding joined
-joined-suc row r = ap (joined row) (add-one r)
 
 module _ (m : Csr) (a : Mask) (op oc : List ℕ) (ov : List Float) (r at : ℕ) (np nc : List ℕ) (nv : List Float) (inv : Filling (keptRow m a) op oc ov r at np nc nv) (room : CsrRoom) (ok : Restrictable m a room) where
   pub filling-at : at ≡ length (joined (keptRow m a) r)

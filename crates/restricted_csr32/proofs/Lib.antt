@@ -1,4 +1,3 @@
-pub mod KeepLaws
 pub mod FillLaws
 pub mod CallLaws
 pub mod LeftLaws

@@ -23,8 +23,8 @@ use Rattle.csr32.proofs.CsrLaws.{Valid, valid, row-of, row-of-values, row-sides
 use Rattle.csr32.proofs.MadeLaws.{made-columns, made-values, made-pointers}
 use Rattle.restricted.specs.Local.{regionMembers, renumbered, localList, regionEntries, fitsLocal, regionOf}
 use Rattle.restricted.specs.declared.LocalRegion.{LocalRegion}
+use Rattle.restricted.proofs.KeepLaws.{length-kept}
 use Rattle.restricted_local.specs.Region.{Region}
-use Rattle.restricted_local.proofs.KeepLaws.{length-kept}
 use Rattle.restricted_local.proofs.RegionLaws.{below-in, below-out}
 
 -- the entries of row r in the region's columns, and those of the i-th member with their new numbers

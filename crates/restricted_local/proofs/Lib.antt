@@ -1,4 +1,3 @@
-pub mod KeepLaws
 pub mod RegionLaws
 pub mod CountLaws
 pub mod RowsLaws

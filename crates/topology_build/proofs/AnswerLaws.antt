@@ -7,8 +7,8 @@ use native.Mathlib.Nat.{mod-eq-of-lt}
 use native.Mathlib.Numerals.{add-one}
 use native.Mathlib.Omega.{arith}
 use native.Mathlib.Decide.{decLt}
-use borrow.Author.Tests.{eq-eqb, eqb-true, le-leb, lt-leb}
-use lib.Dec.{eqb, leb}
+use borrow.Author.Tests.{le-leb, lt-leb}
+use lib.Dec.{leb}
 use lib.Ieee.{Float}
 use lib.ListN.{length, take, drop, set, length-append, length-set, length-take, length-drop}
 use lib.Seq.{take-append-le, take-suc-set, take-all, length-take-le}
@@ -18,7 +18,7 @@ use Rattle.hybit_core.specs.declared.Verdict.{Verdict}
 use Rattle.hybit_core.specs.declared.Verdict.the-variants.{Accepted, Refused}
 use Rattle.hybit_core.specs.declared.HybitError.{HybitError}
 use Rattle.hybit_core.specs.declared.HybitError.the-variants.{ShortList}
-use Rattle.hybit_core.proofs.BoolLaws.{and-both, same-test}
+use Rattle.hybit_core.proofs.BoolLaws.{and-both, eqb-turned}
 use Rattle.hybit_core.proofs.AnswerLaws.{accepted-by, refused-by}
 use Rattle.lent.specs.Lists.{joined, each, starts, part, some}
 use Rattle.lent.specs.Lent.{padded, built}
@@ -31,9 +31,9 @@ use Rattle.csr32.proofs.CsrLaws.{Valid, checked, present-row}
 use Rattle.topology.specs.Words.{Words, topologyOf, setBits, wordAnswer}
 use Rattle.topology.specs.Calls.{asRoom, fitsWords, usedOf}
 use Rattle.topology.proofs.TopologyLaws.{total-bits, topology-pointers, topology-sides, topology-checked}
+use Rattle.levels.proofs.LevelLaws.{listed-few, columns-few}
 use Rattle.topology_build.specs.Build.{topologyFrom, buildAnswer}
 use Rattle.topology_build.specs.Making.{Source, rowTest, rowWords, Rows, Ended}
-use Rattle.levels.proofs.LevelLaws.{listed-few, columns-few}
 
 -- what the call answers, and what its lists of np, nw and nm places hold
 abbrev Result : Answer → Given (ℕ × ℕ) → Words → ℕ → ℕ → ℕ → List ℕ → List ℕ → List ℕ → Type 0
@@ -103,10 +103,7 @@ module _ (rows cols : ℕ) (ptr col : List ℕ) (val : List Float) (v : Verdict)
 
     tests : rowTest ptr col ≡ (λ r. present (entries m r))
     unfolding listed
-    tests = λ i r c. (ap (λ (q : ℕ → Bool). some q (part ptr col r)) (λ j d. turned c d j) ∙ sym (present-row ok r c)) i
-      where
-        turned : (c d : ℕ) → eqb c d ≡ eqb d c
-        turned c d = same-test (eqb c d) (eqb d c) (λ e. eq-eqb d c (sym (eqb-true c d e))) (λ e. eq-eqb c d (sym (eqb-true d c e)))
+    tests = λ i r c. (ap (λ (q : ℕ → Bool). some q (part ptr col r)) (λ j d. eqb-turned c d j) ∙ sym (present-row ok r c)) i
 
     -- the record, by the rows as the code reads them
     record-is : topologyOf rows cols (rowTest ptr col) ≡ topologyFrom m

@@ -4,7 +4,6 @@ use mathlib.Core.List.{List, _++_}
 use mathlib.Core.Path.{_≡_, refl, sym, ap, _∙_}
 use Prim.Native.Nat.{ℕ, suc, _+_, _%_, _^_, _≤_, _<_}
 use native.Mathlib.Nat.{zero-add}
-use native.Mathlib.Numerals.{add-one}
 use native.Mathlib.Omega.{arith}
 use lib.Dec.{leb}
 use lib.ListN.{length, getD, set}
@@ -13,7 +12,7 @@ use Rattle.hybit_core.specs.Domain.{many}
 use Rattle.hybit_core.proofs.BoolLaws.{and-left, and-right}
 use Rattle.lent.specs.Lists.{joined}
 use Rattle.lent.specs.Lent.{Appended}
-use Rattle.lent.proofs.ListLaws.{joined-lengths, length-joined-suc, length-joined-le, getD-starts}
+use Rattle.lent.proofs.ListLaws.{joined-lengths, length-joined-suc, length-joined-le, getD-starts, joined-suc}
 use Rattle.lent.proofs.LentLaws.{Filled, filled-none, filled-more, filled-length, appended-none, appended-join}
 use Rattle.word.specs.Word.{combined}
 use Rattle.word.specs.declared.Operation.{Operation}
@@ -33,10 +32,6 @@ module _ (op : Operation) (a b : Words) where
 
   pub pointer-at : (r : ℕ) → r ≤ a .rows → getD (combinedWords op a b .ptr) r 0 ≡ length (joined (wordsAt op a b) r)
   pointer-at r h = ap (λ (l : List ℕ). getD l r 0) (combined-ptr op a b) ∙ getD-starts (wordsAt op a b) (a .rows) r h
-
-  joined-suc : (f : ℕ → List ℕ) (r : ℕ) → joined f (r + 1) ≡ joined f r ++ f r
-  unfolding joined
-  joined-suc f r = ap (joined f) (add-one r)
 
   -- the first r rows are written, and where each starts: to is the next place
   pub record Filling (ptr₀ words₀ masks₀ : List ℕ) (r to : ℕ) (ptr words masks : List ℕ) : Type 0 where

@@ -164,6 +164,13 @@ below-trim p n m h f =
     below-between p m ∙ between-split p 0 n m zero-le h
     ∙ ap₂ (λ (s t : List ℕ). s ++ t) (sym (below-between p n)) (between-none p n m f) ∙ append-nil (below p n)
 
+pub none-counted : (p : ℕ → Bool) (n : ℕ) → ((i : ℕ) → i < n → p i ≡ false) → length (below p n) ≡ 0
+none-counted p n h = ap length (below-trim p 0 n zero-le (λ i l u. h i u) ∙ below-zero p)
+
+pub all-places : length (below (λ i. true) 64) ≡ 64
+unfolding below from
+all-places = refl
+
 -- ---- counts add: those of p with q, and those of p without q
 pub length-below-parts : (p q : ℕ → Bool) (n : ℕ) → length (below p n) ≡ length (below (λ (i : ℕ). p i && q i) n) + length (below (λ (i : ℕ). p i && not (q i)) n)
 length-below-parts p q zero = omega (arith, ap length (below-zero p), ap length (below-zero (λ (i : ℕ). p i && q i)), ap length (below-zero (λ (i : ℕ). p i && not (q i))))
@@ -301,6 +308,25 @@ fold-below {B} f g p (suc n) s h =
     last : (b : Bool) → p n ≡ b → (t : B) → foldl f t (consIf b n []) ≡ foldl g t (consIf b n [])
     last true e t = h t n (omega arith) e
     last false e t = refl
+
+-- ---- two functions that agree at the numbers that pass
+
+map-cons : {A : Type 0} (f g : ℕ → A) (b : ℕ) (l : List ℕ) (t : Bool) → (t ≡ true → f b ≡ g b) → map f l ≡ map g l → map f (consIf t b l) ≡ map g (consIf t b l)
+map-cons {A} f g b l true e r = ap₂ (λ (x : A) (m : List A). x ∷ m) (e refl) r
+map-cons {A} f g b l false e r = r
+
+map-from : {A : Type 0} (f g : ℕ → A) (p : ℕ → Bool) (b d : ℕ) → ((i : ℕ) → b ≤ i → i < b + d → p i ≡ true → f i ≡ g i) → map f (from p b d) ≡ map g (from p b d)
+unfolding from
+map-from f g p b zero h = refl
+map-from f g p b (suc d) h = map-cons f g b (from p (suc b) d) (p b) (h b (omega arith) (omega arith)) (map-from f g p (suc b) d (λ i l u. h i (omega arith) (omega arith)))
+
+pub map-between : {A : Type 0} (f g : ℕ → A) (p : ℕ → Bool) (b e : ℕ) → b ≤ e → ((i : ℕ) → b ≤ i → i < e → f i ≡ g i) → map f (between p b e) ≡ map g (between p b e)
+unfolding between
+map-between f g p b e o h = map-from f g p b (e - b) (λ i l u k. h i l (omega arith))
+
+pub map-below : {A : Type 0} (f g : ℕ → A) (p : ℕ → Bool) (n : ℕ) → ((i : ℕ) → i < n → p i ≡ true → f i ≡ g i) → map f (below p n) ≡ map g (below p n)
+unfolding below
+map-below f g p n h = map-from f g p 0 n (λ i l u. h i (omega arith))
 
 -- ---- a function over the numbers that pass
 

@@ -4,7 +4,8 @@ use mathlib.Core.Path.{refl}
 use Prim.Native.Nat.{_-_}
 use native.Mathlib.Omega.{arith}
 use Rattle.abtm.specs.Tiles.{asTiles}
-use Rattle.abtm_apply.proofs.ProductLaws.{Rows, rows-none, rows-few, row-places, lent-offsets, lent-metas, lent-inside, row-number, rows-long, rows-room, rows-more, rows-done}
+use Rattle.abtm_check.proofs.TilesLaws.{row-places, lent-offsets, lent-metas}
+use Rattle.abtm_apply.proofs.ProductLaws.{Rows, rows-none, rows-few, lent-inside, row-number, rows-long, rows-room, rows-more, rows-done, tiles-good}
 use Rattle.abtm_apply.proofs.fill_product.Statement.{statement}
 use Rattle.abtm_apply.proofs.fill_product.Tie as tie
 
@@ -25,7 +26,7 @@ mul-wide c =
 shared-slice-read-wide : tie.Need-shared-slice-read-wide Inv-loop μ-loop
 shared-slice-read-wide c =
     let s = c .before .before .before .before .before .before .before .before .before .before in
-    omega (arith, row-places _ _ _ (s .pre) (c .before .before .loop .row) _ _ (omega arith) refl refl .here)
+    omega (arith, row-places _ (tiles-good _ _ _ (s .pre)) (c .before .before .loop .row) _ _ (omega arith) refl refl .here)
 
 wide-requires : tie.Need-wide-requires Inv-loop μ-loop
 wide-requires c κs = search needs
@@ -43,7 +44,7 @@ mul-wide-2 c =
 shared-slice-read-wide-2 : tie.Need-shared-slice-read-wide-2 Inv-loop μ-loop
 shared-slice-read-wide-2 c =
     let s = c .before .before .before .before .before .before .before .before .before .before .before .before in
-    omega (arith, row-places _ _ _ (s .pre) (c .before .before .before .before .loop .row) _ _ (omega arith) refl refl .next)
+    omega (arith, row-places _ (tiles-good _ _ _ (s .pre)) (c .before .before .before .before .loop .row) _ _ (omega arith) refl refl .next)
 
 wide-requires-2 : tie.Need-wide-requires-2 Inv-loop μ-loop
 wide-requires-2 c κs = search needs
@@ -51,79 +52,79 @@ wide-requires-2 c κs = search needs
 mul-row-sum : tie.Need-mul-row-sum Inv-loop μ-loop
 mul-row-sum c =
     let s = c .before .before .before .before .before .before .before .before .before .before .before .before .before in
-    let p = row-places _ _ _ (s .pre) (c .before .before .before .before .before .loop .row) _ _ (omega arith) (c .before .before .wide .ensures) (c .wide2 .ensures) in
+    let p = row-places _ (tiles-good _ _ _ (s .pre)) (c .before .before .before .before .before .loop .row) _ _ (omega arith) (c .before .before .wide .ensures) (c .wide2 .ensures) in
     omega (arith, p .order, p .in-masks)
 
 sub-row-sum : tie.Need-sub-row-sum Inv-loop μ-loop
 sub-row-sum c =
     let s = c .before .before .before .before .before .before .before .before .before .before .before .before .before in
-    let p = row-places _ _ _ (s .pre) (c .before .before .before .before .before .loop .row) _ _ (omega arith) (c .before .before .wide .ensures) (c .wide2 .ensures) in
+    let p = row-places _ (tiles-good _ _ _ (s .pre)) (c .before .before .before .before .before .loop .row) _ _ (omega arith) (c .before .before .wide .ensures) (c .wide2 .ensures) in
     omega (arith, p .order, p .in-masks)
 
 part-row-sum-start : tie.Need-part-row-sum-start Inv-loop μ-loop
 part-row-sum-start c =
     let s = c .before .before .before .before .before .before .before .before .before .before .before .before .before in
-    let p = row-places _ _ _ (s .pre) (c .before .before .before .before .before .loop .row) _ _ (omega arith) (c .before .before .wide .ensures) (c .wide2 .ensures) in
+    let p = row-places _ (tiles-good _ _ _ (s .pre)) (c .before .before .before .before .before .loop .row) _ _ (omega arith) (c .before .before .wide .ensures) (c .wide2 .ensures) in
     omega (arith, p .order, p .in-masks)
 
 part-row-sum-end : tie.Need-part-row-sum-end Inv-loop μ-loop
 part-row-sum-end c =
     let s = c .before .before .before .before .before .before .before .before .before .before .before .before .before in
-    let p = row-places _ _ _ (s .pre) (c .before .before .before .before .before .loop .row) _ _ (omega arith) (c .before .before .wide .ensures) (c .wide2 .ensures) in
+    let p = row-places _ (tiles-good _ _ _ (s .pre)) (c .before .before .before .before .before .loop .row) _ _ (omega arith) (c .before .before .wide .ensures) (c .wide2 .ensures) in
     omega (arith, p .order, p .in-masks)
 
 mul-row-sum-2 : tie.Need-mul-row-sum-2 Inv-loop μ-loop
 mul-row-sum-2 c =
     let s = c .before .before .before .before .before .before .before .before .before .before .before .before .before .before in
-    let p = row-places _ _ _ (s .pre) (c .before .before .before .before .before .before .loop .row) _ _ (omega arith) (c .before .before .before .wide .ensures) (c .before .wide2 .ensures) in
+    let p = row-places _ (tiles-good _ _ _ (s .pre)) (c .before .before .before .before .before .before .loop .row) _ _ (omega arith) (c .before .before .before .wide .ensures) (c .before .wide2 .ensures) in
     omega (arith, p .order, p .in-offsets)
 
 sub-row-sum-2 : tie.Need-sub-row-sum-2 Inv-loop μ-loop
 sub-row-sum-2 c =
     let s = c .before .before .before .before .before .before .before .before .before .before .before .before .before .before in
-    let p = row-places _ _ _ (s .pre) (c .before .before .before .before .before .before .loop .row) _ _ (omega arith) (c .before .before .before .wide .ensures) (c .before .wide2 .ensures) in
+    let p = row-places _ (tiles-good _ _ _ (s .pre)) (c .before .before .before .before .before .before .loop .row) _ _ (omega arith) (c .before .before .before .wide .ensures) (c .before .wide2 .ensures) in
     omega (arith, p .order, p .in-offsets)
 
 part-row-sum-start-2 : tie.Need-part-row-sum-start-2 Inv-loop μ-loop
 part-row-sum-start-2 c =
     let s = c .before .before .before .before .before .before .before .before .before .before .before .before .before .before in
-    let p = row-places _ _ _ (s .pre) (c .before .before .before .before .before .before .loop .row) _ _ (omega arith) (c .before .before .before .wide .ensures) (c .before .wide2 .ensures) in
+    let p = row-places _ (tiles-good _ _ _ (s .pre)) (c .before .before .before .before .before .before .loop .row) _ _ (omega arith) (c .before .before .before .wide .ensures) (c .before .wide2 .ensures) in
     omega (arith, p .order, p .in-offsets)
 
 part-row-sum-end-2 : tie.Need-part-row-sum-end-2 Inv-loop μ-loop
 part-row-sum-end-2 c =
     let s = c .before .before .before .before .before .before .before .before .before .before .before .before .before .before in
-    let p = row-places _ _ _ (s .pre) (c .before .before .before .before .before .before .loop .row) _ _ (omega arith) (c .before .before .before .wide .ensures) (c .before .wide2 .ensures) in
+    let p = row-places _ (tiles-good _ _ _ (s .pre)) (c .before .before .before .before .before .before .loop .row) _ _ (omega arith) (c .before .before .before .wide .ensures) (c .before .wide2 .ensures) in
     omega (arith, p .order, p .in-offsets)
 
 mul-row-sum-3 : tie.Need-mul-row-sum-3 Inv-loop μ-loop
 mul-row-sum-3 c =
     let s = c .before .before .before .before .before .before .before .before .before .before .before .before .before .before .before in
-    let p = row-places _ _ _ (s .pre) (c .before .before .before .before .before .before .before .loop .row) _ _ (omega arith) (c .before .before .before .before .wide .ensures) (c .before .before .wide2 .ensures) in
+    let p = row-places _ (tiles-good _ _ _ (s .pre)) (c .before .before .before .before .before .before .before .loop .row) _ _ (omega arith) (c .before .before .before .before .wide .ensures) (c .before .before .wide2 .ensures) in
     omega (arith, p .order, p .in-metas)
 
 sub-row-sum-3 : tie.Need-sub-row-sum-3 Inv-loop μ-loop
 sub-row-sum-3 c =
     let s = c .before .before .before .before .before .before .before .before .before .before .before .before .before .before .before in
-    let p = row-places _ _ _ (s .pre) (c .before .before .before .before .before .before .before .loop .row) _ _ (omega arith) (c .before .before .before .before .wide .ensures) (c .before .before .wide2 .ensures) in
+    let p = row-places _ (tiles-good _ _ _ (s .pre)) (c .before .before .before .before .before .before .before .loop .row) _ _ (omega arith) (c .before .before .before .before .wide .ensures) (c .before .before .wide2 .ensures) in
     omega (arith, p .order, p .in-metas)
 
 part-row-sum-start-3 : tie.Need-part-row-sum-start-3 Inv-loop μ-loop
 part-row-sum-start-3 c =
     let s = c .before .before .before .before .before .before .before .before .before .before .before .before .before .before .before in
-    let p = row-places _ _ _ (s .pre) (c .before .before .before .before .before .before .before .loop .row) _ _ (omega arith) (c .before .before .before .before .wide .ensures) (c .before .before .wide2 .ensures) in
+    let p = row-places _ (tiles-good _ _ _ (s .pre)) (c .before .before .before .before .before .before .before .loop .row) _ _ (omega arith) (c .before .before .before .before .wide .ensures) (c .before .before .wide2 .ensures) in
     omega (arith, p .order, p .in-metas)
 
 part-row-sum-end-3 : tie.Need-part-row-sum-end-3 Inv-loop μ-loop
 part-row-sum-end-3 c =
     let s = c .before .before .before .before .before .before .before .before .before .before .before .before .before .before .before in
-    let p = row-places _ _ _ (s .pre) (c .before .before .before .before .before .before .before .loop .row) _ _ (omega arith) (c .before .before .before .before .wide .ensures) (c .before .before .wide2 .ensures) in
+    let p = row-places _ (tiles-good _ _ _ (s .pre)) (c .before .before .before .before .before .before .before .loop .row) _ _ (omega arith) (c .before .before .before .before .wide .ensures) (c .before .before .wide2 .ensures) in
     omega (arith, p .order, p .in-metas)
 
 row-sum-requires : tie.Need-row-sum-requires Inv-loop μ-loop
 row-sum-requires c κs =
     let s = c .before .before .before .before .before .before .before .before .before .before .before .before .before .before .before .before in
-    ((lent-offsets _ _ _ (s .pre) (c .before .before .before .before .before .before .before .before .loop .row) _ _ (omega arith) (c .before .before .before .before .before .wide .ensures) (c .before .before .before .wide2 .ensures), lent-metas _ _ _ (s .pre) (c .before .before .before .before .before .before .before .before .loop .row) _ _ (omega arith) (c .before .before .before .before .before .wide .ensures) (c .before .before .before .wide2 .ensures)), lent-inside _ _ _ (s .pre) (c .before .before .before .before .before .before .before .before .loop .row) _ _ (omega arith) (c .before .before .before .before .before .wide .ensures) (c .before .before .before .wide2 .ensures))
+    ((lent-offsets _ (tiles-good _ _ _ (s .pre)) (c .before .before .before .before .before .before .before .before .loop .row) _ _ (omega arith) (c .before .before .before .before .before .wide .ensures) (c .before .before .before .wide2 .ensures), lent-metas _ (tiles-good _ _ _ (s .pre)) (c .before .before .before .before .before .before .before .before .loop .row) _ _ (omega arith) (c .before .before .before .before .before .wide .ensures) (c .before .before .before .wide2 .ensures)), lent-inside _ _ _ (s .pre) (c .before .before .before .before .before .before .before .before .loop .row) _ _ (omega arith) (c .before .before .before .before .before .wide .ensures) (c .before .before .before .wide2 .ensures))
 
 mul-y : tie.Need-mul-y Inv-loop μ-loop
 mul-y c =

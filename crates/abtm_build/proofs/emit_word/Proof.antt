@@ -4,7 +4,8 @@ use native.Mathlib.Omega.{arith}
 use Rattle.word.specs.Bits.{has}
 use Rattle.word.proofs.BelowLaws.{length-below-le}
 use Rattle.abtm.proofs.PlaceLaws.{kind-small}
-use Rattle.abtm_build.proofs.EmitLaws.{slots-small, word-room, word-none, word-full, word-some}
+use Rattle.abtm.proofs.PlaceLaws.{slots-small}
+use Rattle.abtm_build.proofs.EmitLaws.{word-room, word-none, word-full, word-some}
 use borrow.Author.Needs.{needs}
 use Rattle.abtm_build.proofs.emit_word.Statement.{statement}
 use Rattle.abtm_build.proofs.emit_word.Tie as tie

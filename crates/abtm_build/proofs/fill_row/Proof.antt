@@ -6,9 +6,10 @@ use native.Mathlib.Omega.{arith}
 use lib.ListN.{length, replicate}
 use Rattle.hybit_core.specs.Floats.{zero64}
 use Rattle.abtm.specs.Values.{mergedNonzero}
+use Rattle.csr32.proofs.WindowLaws.{zeros-as}
 use Rattle.abtm_build.proofs.WindowLaws.{sized-as}
 use Rattle.abtm_build.proofs.EmitLaws.{Emitting, emitting-none, emitting-bounded, emitting-lists}
-use Rattle.abtm_build.proofs.FillLaws.{zeros-as, window-outside, Passed, passed-none, passed-more, filling-more, filling-done}
+use Rattle.abtm_build.proofs.FillLaws.{window-outside, Passed, passed-none, passed-more, filling-more, filling-done}
 use borrow.Author.Needs.{needs}
 use Rattle.abtm_build.proofs.fill_row.Statement.{statement}
 use Rattle.abtm_build.proofs.fill_row.Tie as tie

@@ -6,8 +6,8 @@ use lib.ListN.{length, replicate}
 use Rattle.hybit_core.specs.Floats.{zero64}
 use Rattle.csr32.specs.Csr.{asCsr}
 use Rattle.csr32.proofs.CsrLaws.{valid, row-of, row-of-values, row-lent, entries-lent}
+use Rattle.csr32.proofs.WindowLaws.{zeros-as}
 use Rattle.abtm_build.proofs.WindowLaws.{sized-as}
-use Rattle.abtm_build.proofs.FillLaws.{zeros-as}
 use Rattle.abtm_build.proofs.RowsLaws.{Filling, filling-none, filling-bounded, filling-more, filling-done}
 use borrow.Author.Needs.{needs}
 use Rattle.abtm_build.proofs.fill_rows.Statement.{statement}

@@ -1,5 +1,6 @@
 -- `abtm_check::also_next` meets its contract. Assumes nothing.
-use Rattle.abtm_check.proofs.CompactLaws.{next-is, ones-few}
+use Rattle.word.proofs.CountLaws.{ones-few}
+use Rattle.abtm_check.proofs.CompactLaws.{next-is}
 use borrow.Author.Needs.{needs}
 use Rattle.abtm_check.proofs.also_next.Statement.{statement}
 use Rattle.abtm_check.proofs.also_next.Tie as tie

@@ -1,7 +1,8 @@
 -- `abtm_check::offsets_follow` meets its contract. Assumes nothing.
 use Prim.Native.Nat.{_-_}
 use lib.ListN.{length}
-use Rattle.abtm_check.proofs.OffsetLaws.{slots-few, Following, follow-empty, follow-none, follow-more, follow-done}
+use Rattle.abtm.proofs.PlaceLaws.{slots-small}
+use Rattle.abtm_check.proofs.OffsetLaws.{Following, follow-empty, follow-none, follow-more, follow-done}
 use borrow.Author.Needs.{needs}
 use Rattle.abtm_check.proofs.offsets_follow.Statement.{statement}
 use Rattle.abtm_check.proofs.offsets_follow.Tie as tie
@@ -61,7 +62,7 @@ wide-requires : tie.Need-wide-requires Inv-loop μ-loop
 wide-requires c κs = search needs
 
 also-at-requires : tie.Need-also-at-requires Inv-loop μ-loop
-also-at-requires c κs = slots-few _ _ _ (c .before .before .before .slot-count .ensures)
+also-at-requires c κs = slots-small _ _ _ (c .before .before .before .slot-count .ensures)
 
 add-i : tie.Need-add-i Inv-loop μ-loop
 add-i c = search needs
@@ -97,7 +98,7 @@ slot-count-requires-2 : tie.Need-slot-count-requires-2 Inv-loop μ-loop
 slot-count-requires-2 c κs = search needs
 
 also-at-requires-2 : tie.Need-also-at-requires-2 Inv-loop μ-loop
-also-at-requires-2 c κs = slots-few _ _ _ (c .slot-count2 .ensures)
+also-at-requires-2 c κs = slots-small _ _ _ (c .slot-count2 .ensures)
 
 returns-2 : tie.Need-returns-2 Inv-loop μ-loop
 returns-2 c = follow-done _ _ _ _ _ _ (c .before .before .before .before .before .before .loop .inv) (search needs) _ _ (c .before .slot-count2 .ensures) (c .also-at2 .ensures)

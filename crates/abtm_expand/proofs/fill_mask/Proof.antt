@@ -4,7 +4,8 @@ use mathlib.Core.Path.{refl, sym, _∙_}
 use Prim.Native.Nat.{_-_}
 use native.Mathlib.Omega.{arith}
 use Rattle.abtm.specs.Tiles.{asTiles}
-use Rattle.abtm_expand.proofs.ExpandLaws.{Expanding, rows-few, row-places, lent-metas, lent-words, expanding-none, expanding-member, expanding-other, expanding-long, expanding-done}
+use Rattle.abtm_check.proofs.TilesLaws.{row-places, lent-metas}
+use Rattle.abtm_expand.proofs.ExpandLaws.{Expanding, rows-few, lent-words, expanding-none, expanding-member, expanding-other, expanding-long, expanding-done, expand-facts}
 use Rattle.abtm_expand.proofs.fill_mask.Statement.{statement}
 use Rattle.abtm_expand.proofs.fill_mask.Tie as tie
 
@@ -36,7 +37,7 @@ mul-wide c =
 shared-slice-read-wide : tie.Need-shared-slice-read-wide Inv-loop μ-loop
 shared-slice-read-wide c =
     let s = c .before .before .before .before .before .before .before .before .before .before .before .before .before .before .before .before in
-    omega (arith, row-places _ _ _ _ (s .pre .0) (c .before .before .before .before .loop .next) _ _ (omega arith) refl refl .here)
+    omega (arith, row-places _ (expand-facts _ _ _ _ (s .pre .0) .tiles) (c .before .before .before .before .loop .next) _ _ (omega arith) refl refl .here)
 
 wide-requires : tie.Need-wide-requires Inv-loop μ-loop
 wide-requires c κs = search needs
@@ -54,7 +55,7 @@ mul-wide-2 c =
 shared-slice-read-wide-2 : tie.Need-shared-slice-read-wide-2 Inv-loop μ-loop
 shared-slice-read-wide-2 c =
     let s = c .before .before .before .before .before .before .before .before .before .before .before .before .before .before .before .before .before .before in
-    omega (arith, row-places _ _ _ _ (s .pre .0) (c .before .before .before .before .before .before .loop .next) _ _ (omega arith) refl refl .next)
+    omega (arith, row-places _ (expand-facts _ _ _ _ (s .pre .0) .tiles) (c .before .before .before .before .before .before .loop .next) _ _ (omega arith) refl refl .next)
 
 wide-requires-2 : tie.Need-wide-requires-2 Inv-loop μ-loop
 wide-requires-2 c κs = search needs
@@ -62,55 +63,55 @@ wide-requires-2 c κs = search needs
 mul-join-tiles : tie.Need-mul-join-tiles Inv-loop μ-loop
 mul-join-tiles c =
     let s = c .before .before .before .before .before .before .before .before .before .before .before .before .before .before .before .before .before .before .before in
-    let p = row-places _ _ _ _ (s .pre .0) (c .before .before .before .before .before .before .before .loop .next) _ _ (omega arith) (c .before .before .wide .ensures) (c .wide2 .ensures) in
+    let p = row-places _ (expand-facts _ _ _ _ (s .pre .0) .tiles) (c .before .before .before .before .before .before .before .loop .next) _ _ (omega arith) (c .before .before .wide .ensures) (c .wide2 .ensures) in
     omega (arith, p .order, p .in-masks)
 
 sub-join-tiles : tie.Need-sub-join-tiles Inv-loop μ-loop
 sub-join-tiles c =
     let s = c .before .before .before .before .before .before .before .before .before .before .before .before .before .before .before .before .before .before .before in
-    let p = row-places _ _ _ _ (s .pre .0) (c .before .before .before .before .before .before .before .loop .next) _ _ (omega arith) (c .before .before .wide .ensures) (c .wide2 .ensures) in
+    let p = row-places _ (expand-facts _ _ _ _ (s .pre .0) .tiles) (c .before .before .before .before .before .before .before .loop .next) _ _ (omega arith) (c .before .before .wide .ensures) (c .wide2 .ensures) in
     omega (arith, p .order, p .in-masks)
 
 part-join-tiles-start : tie.Need-part-join-tiles-start Inv-loop μ-loop
 part-join-tiles-start c =
     let s = c .before .before .before .before .before .before .before .before .before .before .before .before .before .before .before .before .before .before .before in
-    let p = row-places _ _ _ _ (s .pre .0) (c .before .before .before .before .before .before .before .loop .next) _ _ (omega arith) (c .before .before .wide .ensures) (c .wide2 .ensures) in
+    let p = row-places _ (expand-facts _ _ _ _ (s .pre .0) .tiles) (c .before .before .before .before .before .before .before .loop .next) _ _ (omega arith) (c .before .before .wide .ensures) (c .wide2 .ensures) in
     omega (arith, p .order, p .in-masks)
 
 part-join-tiles-end : tie.Need-part-join-tiles-end Inv-loop μ-loop
 part-join-tiles-end c =
     let s = c .before .before .before .before .before .before .before .before .before .before .before .before .before .before .before .before .before .before .before in
-    let p = row-places _ _ _ _ (s .pre .0) (c .before .before .before .before .before .before .before .loop .next) _ _ (omega arith) (c .before .before .wide .ensures) (c .wide2 .ensures) in
+    let p = row-places _ (expand-facts _ _ _ _ (s .pre .0) .tiles) (c .before .before .before .before .before .before .before .loop .next) _ _ (omega arith) (c .before .before .wide .ensures) (c .wide2 .ensures) in
     omega (arith, p .order, p .in-masks)
 
 mul-join-tiles-2 : tie.Need-mul-join-tiles-2 Inv-loop μ-loop
 mul-join-tiles-2 c =
     let s = c .before .before .before .before .before .before .before .before .before .before .before .before .before .before .before .before .before .before .before .before in
-    let p = row-places _ _ _ _ (s .pre .0) (c .before .before .before .before .before .before .before .before .loop .next) _ _ (omega arith) (c .before .before .before .wide .ensures) (c .before .wide2 .ensures) in
+    let p = row-places _ (expand-facts _ _ _ _ (s .pre .0) .tiles) (c .before .before .before .before .before .before .before .before .loop .next) _ _ (omega arith) (c .before .before .before .wide .ensures) (c .before .wide2 .ensures) in
     omega (arith, p .order, p .in-metas)
 
 sub-join-tiles-2 : tie.Need-sub-join-tiles-2 Inv-loop μ-loop
 sub-join-tiles-2 c =
     let s = c .before .before .before .before .before .before .before .before .before .before .before .before .before .before .before .before .before .before .before .before in
-    let p = row-places _ _ _ _ (s .pre .0) (c .before .before .before .before .before .before .before .before .loop .next) _ _ (omega arith) (c .before .before .before .wide .ensures) (c .before .wide2 .ensures) in
+    let p = row-places _ (expand-facts _ _ _ _ (s .pre .0) .tiles) (c .before .before .before .before .before .before .before .before .loop .next) _ _ (omega arith) (c .before .before .before .wide .ensures) (c .before .wide2 .ensures) in
     omega (arith, p .order, p .in-metas)
 
 part-join-tiles-start-2 : tie.Need-part-join-tiles-start-2 Inv-loop μ-loop
 part-join-tiles-start-2 c =
     let s = c .before .before .before .before .before .before .before .before .before .before .before .before .before .before .before .before .before .before .before .before in
-    let p = row-places _ _ _ _ (s .pre .0) (c .before .before .before .before .before .before .before .before .loop .next) _ _ (omega arith) (c .before .before .before .wide .ensures) (c .before .wide2 .ensures) in
+    let p = row-places _ (expand-facts _ _ _ _ (s .pre .0) .tiles) (c .before .before .before .before .before .before .before .before .loop .next) _ _ (omega arith) (c .before .before .before .wide .ensures) (c .before .wide2 .ensures) in
     omega (arith, p .order, p .in-metas)
 
 part-join-tiles-end-2 : tie.Need-part-join-tiles-end-2 Inv-loop μ-loop
 part-join-tiles-end-2 c =
     let s = c .before .before .before .before .before .before .before .before .before .before .before .before .before .before .before .before .before .before .before .before in
-    let p = row-places _ _ _ _ (s .pre .0) (c .before .before .before .before .before .before .before .before .loop .next) _ _ (omega arith) (c .before .before .before .wide .ensures) (c .before .wide2 .ensures) in
+    let p = row-places _ (expand-facts _ _ _ _ (s .pre .0) .tiles) (c .before .before .before .before .before .before .before .before .loop .next) _ _ (omega arith) (c .before .before .before .wide .ensures) (c .before .wide2 .ensures) in
     omega (arith, p .order, p .in-metas)
 
 join-tiles-requires : tie.Need-join-tiles-requires Inv-loop μ-loop
 join-tiles-requires c κs =
     let s = c .before .before .before .before .before .before .before .before .before .before .before .before .before .before .before .before .before .before .before .before .before .before in
-    (lent-metas _ _ _ _ (s .pre .0) (c .before .before .before .before .before .before .before .before .before .before .loop .next) _ _ (omega arith) (c .before .before .before .before .before .wide .ensures) (c .before .before .before .wide2 .ensures), lent-words _ _ _ _ (s .pre .0) (c .before .before .before .before .before .before .before .before .before .before .loop .next) _ _ (omega arith) (c .before .before .before .before .before .wide .ensures) (c .before .before .before .wide2 .ensures) _ (c .before .before .before .before .before .before .before .before .before .before .loop .inv) (λ k. c .before .before .before .before .before .before .before .before .before .before .before .before .before .before .before .before .before .before .before .before .shared-slice-known2 .given k .fits))
+    (lent-metas _ (expand-facts _ _ _ _ (s .pre .0) .tiles) (c .before .before .before .before .before .before .before .before .before .before .loop .next) _ _ (omega arith) (c .before .before .before .before .before .wide .ensures) (c .before .before .before .wide2 .ensures), lent-words _ _ _ _ (s .pre .0) (c .before .before .before .before .before .before .before .before .before .before .loop .next) _ _ (omega arith) (c .before .before .before .before .before .wide .ensures) (c .before .before .before .wide2 .ensures) _ (c .before .before .before .before .before .before .before .before .before .before .loop .inv) (λ k. c .before .before .before .before .before .before .before .before .before .before .before .before .before .before .before .before .before .before .before .before .shared-slice-known2 .given k .fits))
 
 loop-less : tie.Need-loop-less Inv-loop μ-loop
 loop-less c = omega arith

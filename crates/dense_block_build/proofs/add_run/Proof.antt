@@ -4,7 +4,8 @@ use lib.ListN.{replicate}
 use native.Mathlib.Omega.{arith}
 use borrow.Author.Needs.{needs}
 use Rattle.hybit_core.specs.Floats.{zero64}
-use Rattle.dense_block_build.proofs.SizeLaws.{width-six, width-pos}
+use Rattle.dense_block.proofs.WidthLaws.{width-six}
+use Rattle.dense_block_build.proofs.SizeLaws.{width-pos}
 use Rattle.dense_block_build.proofs.LineLaws.{row-fits, row-part, merged-run}
 use Rattle.dense_block_build.proofs.add_run.Statement.{statement}
 use Rattle.dense_block_build.proofs.add_run.Tie as tie

@@ -2,7 +2,8 @@
 use Prim.Native.Nat.{_-_}
 use native.Mathlib.Omega.{arith}
 use Rattle.csr32.specs.Csr.{asCsr}
-use Rattle.dense_block_build.proofs.SizeLaws.{width-six, next-fits}
+use Rattle.dense_block.proofs.WidthLaws.{width-six}
+use Rattle.dense_block_build.proofs.SizeLaws.{next-fits}
 use Rattle.dense_block_build.proofs.FillLaws.{in-bands, pointers-here, pointers-next, band-order, band-inside, part-is}
 use Rattle.dense_block_build.proofs.SlotLaws.{Counting, counting-none, counting-done, counting-first, counting-asks, counting-fits, counting-more}
 use borrow.Author.Needs.{needs}

@@ -1,8 +1,9 @@
 -- `dense_block_build::merge_line` meets its contract. Assumes nothing.
-use Rattle.dense_block_build.proofs.SizeLaws.{width-six, width-pos, place-small}
+use Rattle.dense_block.proofs.WidthLaws.{width-six}
+use Rattle.dense_block.specs.Blocks.{widthOf}
+use Rattle.dense_block_build.proofs.SizeLaws.{width-pos, place-small}
 use Prim.Native.Nat.{_-_}
 use lib.ListN.{length}
-use Rattle.dense_block.specs.Blocks.{widthOf}
 use Rattle.dense_block_build.proofs.MergeLaws.{Merging, merging-none, merging-more, merging-done}
 use borrow.Author.Needs.{needs}
 use Rattle.dense_block_build.proofs.merge_line.Statement.{statement}

@@ -3,7 +3,8 @@ use borrow.Author.Needs.{needs}
 use Prim.Native.Nat.{_-_}
 use native.Mathlib.Omega.{arith}
 use lib.ListN.{length}
-use Rattle.mask.proofs.CallLaws.{Counted, counted-none, counted-more, counted-done, counted-le, ones-small}
+use Rattle.word.proofs.CountLaws.{ones-few}
+use Rattle.mask.proofs.CallLaws.{Counted, counted-none, counted-more, counted-done, counted-le}
 use Rattle.mask.proofs.ones.Statement.{statement}
 use Rattle.mask.proofs.ones.Tie as tie
 
@@ -26,7 +27,7 @@ popcount-requires : tie.Need-popcount-requires Inv-loop μ-loop
 popcount-requires c κs = search needs
 
 add-n : tie.Need-add-n Inv-loop μ-loop
-add-n c = omega (arith, counted-le _ _ _ (c .before .before .before .loop .inv), ones-small _ _ (c .popcount .ensures))
+add-n c = omega (arith, counted-le _ _ _ (c .before .before .before .loop .inv), ones-few _ _ (c .popcount .ensures))
 
 add-k : tie.Need-add-k Inv-loop μ-loop
 add-k c = search needs

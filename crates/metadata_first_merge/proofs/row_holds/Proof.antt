@@ -5,7 +5,8 @@ use native.Mathlib.Omega.{arith}
 use lib.ListN.{length, replicate}
 use Rattle.hybit_core.specs.Floats.{zero64}
 use Rattle.hybit_core.proofs.BoolLaws.{flag-on, flag-off}
-use Rattle.metadata_first_merge.proofs.WindowLaws.{zeros-of, Searched, searched-none, searched-more, searched-done, searched-fails}
+use Rattle.csr32.proofs.WindowLaws.{zeros-as}
+use Rattle.metadata_first_merge.proofs.WindowLaws.{Searched, searched-none, searched-more, searched-done, searched-fails}
 use borrow.Author.Needs.{needs}
 use Rattle.metadata_first_merge.proofs.row_holds.Statement.{statement}
 use Rattle.metadata_first_merge.proofs.row_holds.Tie as tie
@@ -25,7 +26,7 @@ window-holds-requires : tie.Need-window-holds-requires Inv-loop μ-loop
 window-holds-requires c κs =
     let s = c .before .before .before .before .before .before in
     let l = c .before .before .loop in
-    (s .pre .1 .0, zeros-of (l .sums) _ _ (l .inv .3) (sym (l .inv .2)))
+    (s .pre .1 .0, zeros-as (l .sums) _ _ (l .inv .3) (sym (l .inv .2)))
 
 same-length : tie.Need-same-length Inv-loop μ-loop
 same-length c = search needs
@@ -35,7 +36,7 @@ returns c =
     let s = c .before .before .before .before .before .before .before .before .before .before in
     let l = c .before .before .before .before .before .before .loop in
     let f = c .before .before .before .window-holds in
-    (searched-fails (s .args .ncols) (s .args .cols .now) (s .args .vals .now) (s .pre .1 .0) (s .pre .1 .1 .0) (l .base) (length (l .sums)) (flag-off _ _ (f .ensures .0) (c .if1 .taken)), zeros-of _ _ _ (f .ensures .1) (l .inv .2))
+    (searched-fails (s .args .ncols) (s .args .cols .now) (s .args .vals .now) (s .pre .1 .0) (s .pre .1 .1 .0) (l .base) (length (l .sums)) (flag-off _ _ (f .ensures .0) (c .if1 .taken)), zeros-as _ _ _ (f .ensures .1) (l .inv .2))
 
 add-base : tie.Need-add-base Inv-loop μ-loop
 add-base c = search needs
@@ -48,7 +49,7 @@ loop-again c =
     let s = c .before .before .before .before .before .before .before .before .before .before in
     let l = c .before .before .before .before .before .before .loop in
     let f = c .before .before .before .window-holds in
-    (l .inv .0, omega arith, f .kept .1 .1 .1 .0 ∙ l .inv .2, zeros-of _ _ _ (f .ensures .1) (l .inv .2), searched-more (s .args .cols .now) (s .args .vals .now) (l .base) (length (l .sums)) _ (l .inv .4) (flag-on _ _ (f .ensures .0) (c .if1 .left)) (l .inv .2 ∙ sym (l .inv .0)))
+    (l .inv .0, omega arith, f .kept .1 .1 .1 .0 ∙ l .inv .2, zeros-as _ _ _ (f .ensures .1) (l .inv .2), searched-more (s .args .cols .now) (s .args .vals .now) (l .base) (length (l .sums)) _ (l .inv .4) (flag-on _ _ (f .ensures .0) (c .if1 .left)) (l .inv .2 ∙ sym (l .inv .0)))
 
 same-length-2 : tie.Need-same-length-2 Inv-loop μ-loop
 same-length-2 c = search needs

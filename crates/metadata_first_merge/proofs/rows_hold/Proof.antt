@@ -6,8 +6,8 @@ use lib.ListN.{length, replicate}
 use Rattle.hybit_core.specs.Floats.{zero64}
 use Rattle.csr32.specs.Csr.{asCsr}
 use Rattle.csr32.proofs.CsrLaws.{valid, row-of, row-of-values, row-lent}
+use Rattle.csr32.proofs.WindowLaws.{zeros-as}
 use Rattle.metadata_first_merge.proofs.MergeLaws.{RowsFinite, rows-none, rows-more, rows-fails, rows-done}
-use Rattle.metadata_first_merge.proofs.WindowLaws.{zeros-of}
 use borrow.Author.Needs.{needs}
 use Rattle.metadata_first_merge.proofs.rows_hold.Statement.{statement}
 use Rattle.metadata_first_merge.proofs.rows_hold.Tie as tie
@@ -74,7 +74,7 @@ row-holds-requires c κs =
     let l = c .before .before .before .before .before .before .before .before .loop in
     let v = valid _ (s .pre .0) in
     let r = row-lent v (l .row) _ _ (s .args .ncols) (c .before .before .before .before .before .wide .ensures) (c .before .before .before .wide2 .ensures) refl in
-    ((v .cols-in, omega (arith, s .pre .1 .0), omega (arith, s .pre .1 .0)), (r .0, (r .1, zeros-of (l .sums) _ _ (l .inv .2) (sym (l .inv .1)))))
+    ((v .cols-in, omega (arith, s .pre .1 .0), omega (arith, s .pre .1 .0)), (r .0, (r .1, zeros-as (l .sums) _ _ (l .inv .2) (sym (l .inv .1)))))
 
 same-length : tie.Need-same-length Inv-loop μ-loop
 same-length c = search needs
@@ -97,7 +97,7 @@ loop-again c =
     let s = c .before .before .before .before .before .before .before .before .before .before .before .before .before .before .before .before .before in
     let l = c .before .before .before .before .before .before .before .before .before .before .before .before .loop in
     let f = c .before .before .before .row-holds in
-    (omega arith, f .kept .1 .1 .1 .0 ∙ l .inv .1, zeros-of _ _ _ (f .ensures .1) (l .inv .1), rows-more (asCsr (s .args .nrows) (s .args .ncols) (s .args .row-ptr .now) (s .args .col-idx .now) (s .args .values .now)) (l .row) _ _ (c .before .before .before .before .before .before .before .before .before .wide .ensures) (c .before .before .before .before .before .before .before .wide2 .ensures) _ (f .ensures .0) (l .inv .3) (c .if1 .left))
+    (omega arith, f .kept .1 .1 .1 .0 ∙ l .inv .1, zeros-as _ _ _ (f .ensures .1) (l .inv .1), rows-more (asCsr (s .args .nrows) (s .args .ncols) (s .args .row-ptr .now) (s .args .col-idx .now) (s .args .values .now)) (l .row) _ _ (c .before .before .before .before .before .before .before .before .before .wide .ensures) (c .before .before .before .before .before .before .before .wide2 .ensures) _ (f .ensures .0) (l .inv .3) (c .if1 .left))
 
 same-length-2 : tie.Need-same-length-2 Inv-loop μ-loop
 same-length-2 c = search needs

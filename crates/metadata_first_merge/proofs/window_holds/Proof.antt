@@ -1,6 +1,7 @@
 -- `metadata_first_merge::window_holds` meets its contract. Assumes nothing.
 use lib.ListN.{length}
-use Rattle.metadata_first_merge.proofs.WindowLaws.{zeros-of, window-outside, window-test}
+use Rattle.csr32.proofs.WindowLaws.{zeros-as}
+use Rattle.metadata_first_merge.proofs.WindowLaws.{window-outside, window-test}
 use borrow.Author.Needs.{needs}
 use Rattle.metadata_first_merge.proofs.window_holds.Statement.{statement}
 use Rattle.metadata_first_merge.proofs.window_holds.Tie as tie
@@ -25,7 +26,7 @@ returns c =
     let s = c .before .before .before .before .before .before .before .before .before .before .before .before .before in
     let f = c .before .before .before .before .before .before .before .before .add-window in
     let g = c .before .before .clear-window in
-    (window-test (s .args .cols .now) (s .args .vals .now) (s .args .base) (length (s .args .sums .now)) _ (s .pre .0) (f .ensures) _ (c .before .before .before .before .sums-hold .ensures), zeros-of _ _ _ (g .ensures) (f .kept .1 .1 .1 .0))
+    (window-test (s .args .cols .now) (s .args .vals .now) (s .args .base) (length (s .args .sums .now)) _ (s .pre .0) (f .ensures) _ (c .before .before .before .before .sums-hold .ensures), zeros-as _ _ _ (g .ensures) (f .kept .1 .1 .1 .0))
 
 pub window-holds-spec : {M : Type 1} → statement M
 window-holds-spec =

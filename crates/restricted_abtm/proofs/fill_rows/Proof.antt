@@ -5,7 +5,8 @@ use Prim.Native.Nat.{_-_}
 use native.Mathlib.Omega.{arith}
 use lib.ListN.{length-set}
 use Rattle.abtm.specs.Tiles.{asTiles}
-use Rattle.restricted_abtm.proofs.FillLaws.{Filling, filling-none, rows-few, words-few, row-places, lent-offsets, lent-metas, lent-ready, column-room, value-room, filling-more, pointer-room, filled-kept, filled-pointers, filled-columns, filled-values}
+use Rattle.abtm_check.proofs.TilesLaws.{row-places, lent-offsets, lent-metas}
+use Rattle.restricted_abtm.proofs.FillLaws.{Filling, filling-none, rows-few, words-few, lent-ready, column-room, value-room, filling-more, pointer-room, filled-kept, filled-pointers, filled-columns, filled-values, restrict-facts}
 use Rattle.restricted_abtm.proofs.fill_rows.Statement.{statement}
 use Rattle.restricted_abtm.proofs.fill_rows.Tie as tie
 
@@ -31,7 +32,7 @@ mul-wide : tie.Need-mul-wide Inv-loop μ-loop
 mul-wide c = omega (arith, rows-few _ _ _ _ _ _ (c .before .before .before .before .before .before .before .before .before .before .before .before .pre))
 
 shared-slice-read-wide : tie.Need-shared-slice-read-wide Inv-loop μ-loop
-shared-slice-read-wide c = omega (arith, row-places _ _ _ _ _ _ (c .before .before .before .before .before .before .before .before .before .before .before .before .before .pre) (c .before .before .before .loop .row) _ _ (omega arith) refl refl .here)
+shared-slice-read-wide c = omega (arith, row-places _ (restrict-facts _ _ _ _ _ _ (c .before .before .before .before .before .before .before .before .before .before .before .before .before .pre) .tiles) (c .before .before .before .loop .row) _ _ (omega arith) refl refl .here)
 
 wide-requires : tie.Need-wide-requires Inv-loop μ-loop
 wide-requires c κs = search needs
@@ -43,74 +44,74 @@ mul-wide-2 : tie.Need-mul-wide-2 Inv-loop μ-loop
 mul-wide-2 c = omega (arith, rows-few _ _ _ _ _ _ (c .before .before .before .before .before .before .before .before .before .before .before .before .before .before .pre))
 
 shared-slice-read-wide-2 : tie.Need-shared-slice-read-wide-2 Inv-loop μ-loop
-shared-slice-read-wide-2 c = omega (arith, row-places _ _ _ _ _ _ (c .before .before .before .before .before .before .before .before .before .before .before .before .before .before .before .pre) (c .before .before .before .before .before .loop .row) _ _ (omega arith) refl refl .next)
+shared-slice-read-wide-2 c = omega (arith, row-places _ (restrict-facts _ _ _ _ _ _ (c .before .before .before .before .before .before .before .before .before .before .before .before .before .before .before .pre) .tiles) (c .before .before .before .before .before .loop .row) _ _ (omega arith) refl refl .next)
 
 wide-requires-2 : tie.Need-wide-requires-2 Inv-loop μ-loop
 wide-requires-2 c κs = search needs
 
 mul-keep-row : tie.Need-mul-keep-row Inv-loop μ-loop
 mul-keep-row c =
-    let p = row-places _ _ _ _ _ _ (c .before .before .before .before .before .before .before .before .before .before .before .before .before .before .before .before .pre) (c .before .before .before .before .before .before .loop .row) _ _ (omega arith) (c .before .before .wide .ensures) (c .wide2 .ensures) in
+    let p = row-places _ (restrict-facts _ _ _ _ _ _ (c .before .before .before .before .before .before .before .before .before .before .before .before .before .before .before .before .pre) .tiles) (c .before .before .before .before .before .before .loop .row) _ _ (omega arith) (c .before .before .wide .ensures) (c .wide2 .ensures) in
     omega (arith, p .order, p .in-masks)
 
 sub-keep-row : tie.Need-sub-keep-row Inv-loop μ-loop
 sub-keep-row c =
-    let p = row-places _ _ _ _ _ _ (c .before .before .before .before .before .before .before .before .before .before .before .before .before .before .before .before .pre) (c .before .before .before .before .before .before .loop .row) _ _ (omega arith) (c .before .before .wide .ensures) (c .wide2 .ensures) in
+    let p = row-places _ (restrict-facts _ _ _ _ _ _ (c .before .before .before .before .before .before .before .before .before .before .before .before .before .before .before .before .pre) .tiles) (c .before .before .before .before .before .before .loop .row) _ _ (omega arith) (c .before .before .wide .ensures) (c .wide2 .ensures) in
     omega (arith, p .order, p .in-masks)
 
 part-keep-row-start : tie.Need-part-keep-row-start Inv-loop μ-loop
 part-keep-row-start c =
-    let p = row-places _ _ _ _ _ _ (c .before .before .before .before .before .before .before .before .before .before .before .before .before .before .before .before .pre) (c .before .before .before .before .before .before .loop .row) _ _ (omega arith) (c .before .before .wide .ensures) (c .wide2 .ensures) in
+    let p = row-places _ (restrict-facts _ _ _ _ _ _ (c .before .before .before .before .before .before .before .before .before .before .before .before .before .before .before .before .pre) .tiles) (c .before .before .before .before .before .before .loop .row) _ _ (omega arith) (c .before .before .wide .ensures) (c .wide2 .ensures) in
     omega (arith, p .order, p .in-masks)
 
 part-keep-row-end : tie.Need-part-keep-row-end Inv-loop μ-loop
 part-keep-row-end c =
-    let p = row-places _ _ _ _ _ _ (c .before .before .before .before .before .before .before .before .before .before .before .before .before .before .before .before .pre) (c .before .before .before .before .before .before .loop .row) _ _ (omega arith) (c .before .before .wide .ensures) (c .wide2 .ensures) in
+    let p = row-places _ (restrict-facts _ _ _ _ _ _ (c .before .before .before .before .before .before .before .before .before .before .before .before .before .before .before .before .pre) .tiles) (c .before .before .before .before .before .before .loop .row) _ _ (omega arith) (c .before .before .wide .ensures) (c .wide2 .ensures) in
     omega (arith, p .order, p .in-masks)
 
 mul-keep-row-2 : tie.Need-mul-keep-row-2 Inv-loop μ-loop
 mul-keep-row-2 c =
-    let p = row-places _ _ _ _ _ _ (c .before .before .before .before .before .before .before .before .before .before .before .before .before .before .before .before .before .pre) (c .before .before .before .before .before .before .before .loop .row) _ _ (omega arith) (c .before .before .before .wide .ensures) (c .before .wide2 .ensures) in
+    let p = row-places _ (restrict-facts _ _ _ _ _ _ (c .before .before .before .before .before .before .before .before .before .before .before .before .before .before .before .before .before .pre) .tiles) (c .before .before .before .before .before .before .before .loop .row) _ _ (omega arith) (c .before .before .before .wide .ensures) (c .before .wide2 .ensures) in
     omega (arith, p .order, p .in-offsets)
 
 sub-keep-row-2 : tie.Need-sub-keep-row-2 Inv-loop μ-loop
 sub-keep-row-2 c =
-    let p = row-places _ _ _ _ _ _ (c .before .before .before .before .before .before .before .before .before .before .before .before .before .before .before .before .before .pre) (c .before .before .before .before .before .before .before .loop .row) _ _ (omega arith) (c .before .before .before .wide .ensures) (c .before .wide2 .ensures) in
+    let p = row-places _ (restrict-facts _ _ _ _ _ _ (c .before .before .before .before .before .before .before .before .before .before .before .before .before .before .before .before .before .pre) .tiles) (c .before .before .before .before .before .before .before .loop .row) _ _ (omega arith) (c .before .before .before .wide .ensures) (c .before .wide2 .ensures) in
     omega (arith, p .order, p .in-offsets)
 
 part-keep-row-start-2 : tie.Need-part-keep-row-start-2 Inv-loop μ-loop
 part-keep-row-start-2 c =
-    let p = row-places _ _ _ _ _ _ (c .before .before .before .before .before .before .before .before .before .before .before .before .before .before .before .before .before .pre) (c .before .before .before .before .before .before .before .loop .row) _ _ (omega arith) (c .before .before .before .wide .ensures) (c .before .wide2 .ensures) in
+    let p = row-places _ (restrict-facts _ _ _ _ _ _ (c .before .before .before .before .before .before .before .before .before .before .before .before .before .before .before .before .before .pre) .tiles) (c .before .before .before .before .before .before .before .loop .row) _ _ (omega arith) (c .before .before .before .wide .ensures) (c .before .wide2 .ensures) in
     omega (arith, p .order, p .in-offsets)
 
 part-keep-row-end-2 : tie.Need-part-keep-row-end-2 Inv-loop μ-loop
 part-keep-row-end-2 c =
-    let p = row-places _ _ _ _ _ _ (c .before .before .before .before .before .before .before .before .before .before .before .before .before .before .before .before .before .pre) (c .before .before .before .before .before .before .before .loop .row) _ _ (omega arith) (c .before .before .before .wide .ensures) (c .before .wide2 .ensures) in
+    let p = row-places _ (restrict-facts _ _ _ _ _ _ (c .before .before .before .before .before .before .before .before .before .before .before .before .before .before .before .before .before .pre) .tiles) (c .before .before .before .before .before .before .before .loop .row) _ _ (omega arith) (c .before .before .before .wide .ensures) (c .before .wide2 .ensures) in
     omega (arith, p .order, p .in-offsets)
 
 mul-keep-row-3 : tie.Need-mul-keep-row-3 Inv-loop μ-loop
 mul-keep-row-3 c =
-    let p = row-places _ _ _ _ _ _ (c .before .before .before .before .before .before .before .before .before .before .before .before .before .before .before .before .before .before .pre) (c .before .before .before .before .before .before .before .before .loop .row) _ _ (omega arith) (c .before .before .before .before .wide .ensures) (c .before .before .wide2 .ensures) in
+    let p = row-places _ (restrict-facts _ _ _ _ _ _ (c .before .before .before .before .before .before .before .before .before .before .before .before .before .before .before .before .before .before .pre) .tiles) (c .before .before .before .before .before .before .before .before .loop .row) _ _ (omega arith) (c .before .before .before .before .wide .ensures) (c .before .before .wide2 .ensures) in
     omega (arith, p .order, p .in-metas)
 
 sub-keep-row-3 : tie.Need-sub-keep-row-3 Inv-loop μ-loop
 sub-keep-row-3 c =
-    let p = row-places _ _ _ _ _ _ (c .before .before .before .before .before .before .before .before .before .before .before .before .before .before .before .before .before .before .pre) (c .before .before .before .before .before .before .before .before .loop .row) _ _ (omega arith) (c .before .before .before .before .wide .ensures) (c .before .before .wide2 .ensures) in
+    let p = row-places _ (restrict-facts _ _ _ _ _ _ (c .before .before .before .before .before .before .before .before .before .before .before .before .before .before .before .before .before .before .pre) .tiles) (c .before .before .before .before .before .before .before .before .loop .row) _ _ (omega arith) (c .before .before .before .before .wide .ensures) (c .before .before .wide2 .ensures) in
     omega (arith, p .order, p .in-metas)
 
 part-keep-row-start-3 : tie.Need-part-keep-row-start-3 Inv-loop μ-loop
 part-keep-row-start-3 c =
-    let p = row-places _ _ _ _ _ _ (c .before .before .before .before .before .before .before .before .before .before .before .before .before .before .before .before .before .before .pre) (c .before .before .before .before .before .before .before .before .loop .row) _ _ (omega arith) (c .before .before .before .before .wide .ensures) (c .before .before .wide2 .ensures) in
+    let p = row-places _ (restrict-facts _ _ _ _ _ _ (c .before .before .before .before .before .before .before .before .before .before .before .before .before .before .before .before .before .before .pre) .tiles) (c .before .before .before .before .before .before .before .before .loop .row) _ _ (omega arith) (c .before .before .before .before .wide .ensures) (c .before .before .wide2 .ensures) in
     omega (arith, p .order, p .in-metas)
 
 part-keep-row-end-3 : tie.Need-part-keep-row-end-3 Inv-loop μ-loop
 part-keep-row-end-3 c =
-    let p = row-places _ _ _ _ _ _ (c .before .before .before .before .before .before .before .before .before .before .before .before .before .before .before .before .before .before .pre) (c .before .before .before .before .before .before .before .before .loop .row) _ _ (omega arith) (c .before .before .before .before .wide .ensures) (c .before .before .wide2 .ensures) in
+    let p = row-places _ (restrict-facts _ _ _ _ _ _ (c .before .before .before .before .before .before .before .before .before .before .before .before .before .before .before .before .before .before .pre) .tiles) (c .before .before .before .before .before .before .before .before .loop .row) _ _ (omega arith) (c .before .before .before .before .wide .ensures) (c .before .before .wide2 .ensures) in
     omega (arith, p .order, p .in-metas)
 
 keep-row-requires : tie.Need-keep-row-requires Inv-loop μ-loop
 keep-row-requires c κs =
-    ((lent-offsets _ _ _ _ _ _ (c .before .before .before .before .before .before .before .before .before .before .before .before .before .before .before .before .before .before .before .before .before .pre) (c .before .before .before .before .before .before .before .before .before .before .before .loop .row) _ _ (omega arith) (c .before .before .before .before .before .before .before .wide .ensures) (c .before .before .before .before .before .wide2 .ensures), lent-metas _ _ _ _ _ _ (c .before .before .before .before .before .before .before .before .before .before .before .before .before .before .before .before .before .before .before .before .before .pre) (c .before .before .before .before .before .before .before .before .before .before .before .loop .row) _ _ (omega arith) (c .before .before .before .before .before .before .before .wide .ensures) (c .before .before .before .before .before .wide2 .ensures)), (lent-ready _ _ _ _ _ _ (c .before .before .before .before .before .before .before .before .before .before .before .before .before .before .before .before .before .before .before .before .before .pre) (c .before .before .before .before .before .before .before .before .before .before .before .loop .row) _ _ (omega arith) (c .before .before .before .before .before .before .before .wide .ensures) (c .before .before .before .before .before .wide2 .ensures) (λ k. c .before .before .before .before .before .before .before .before .before .before .before .before .before .before .before .before .before .before .before .shared-slice-known2 .given k .fits), (words-few _ _ _ _ _ _ (c .before .before .before .before .before .before .before .before .before .before .before .before .before .before .before .before .before .before .before .before .before .pre), (column-room _ _ _ _ _ _ (c .before .before .before .before .before .before .before .before .before .before .before .before .before .before .before .before .before .before .before .before .before .pre) (c .before .before .before .before .before .before .before .before .before .before .before .loop .row) _ _ (omega arith) (c .before .before .before .before .before .before .before .wide .ensures) (c .before .before .before .before .before .wide2 .ensures) _ _ _ refl refl refl _ _ _ _ (c .before .before .before .before .before .before .before .before .before .before .before .loop .inv), value-room _ _ _ _ _ _ (c .before .before .before .before .before .before .before .before .before .before .before .before .before .before .before .before .before .before .before .before .before .pre) (c .before .before .before .before .before .before .before .before .before .before .before .loop .row) _ _ (omega arith) (c .before .before .before .before .before .before .before .wide .ensures) (c .before .before .before .before .before .wide2 .ensures) _ _ _ refl refl refl _ _ _ _ (c .before .before .before .before .before .before .before .before .before .before .before .loop .inv)))))
+    ((lent-offsets _ (restrict-facts _ _ _ _ _ _ (c .before .before .before .before .before .before .before .before .before .before .before .before .before .before .before .before .before .before .before .before .before .pre) .tiles) (c .before .before .before .before .before .before .before .before .before .before .before .loop .row) _ _ (omega arith) (c .before .before .before .before .before .before .before .wide .ensures) (c .before .before .before .before .before .wide2 .ensures), lent-metas _ (restrict-facts _ _ _ _ _ _ (c .before .before .before .before .before .before .before .before .before .before .before .before .before .before .before .before .before .before .before .before .before .pre) .tiles) (c .before .before .before .before .before .before .before .before .before .before .before .loop .row) _ _ (omega arith) (c .before .before .before .before .before .before .before .wide .ensures) (c .before .before .before .before .before .wide2 .ensures)), (lent-ready _ _ _ _ _ _ (c .before .before .before .before .before .before .before .before .before .before .before .before .before .before .before .before .before .before .before .before .before .pre) (c .before .before .before .before .before .before .before .before .before .before .before .loop .row) _ _ (omega arith) (c .before .before .before .before .before .before .before .wide .ensures) (c .before .before .before .before .before .wide2 .ensures) (λ k. c .before .before .before .before .before .before .before .before .before .before .before .before .before .before .before .before .before .before .before .shared-slice-known2 .given k .fits), (words-few _ _ _ _ _ _ (c .before .before .before .before .before .before .before .before .before .before .before .before .before .before .before .before .before .before .before .before .before .pre), (column-room _ _ _ _ _ _ (c .before .before .before .before .before .before .before .before .before .before .before .before .before .before .before .before .before .before .before .before .before .pre) (c .before .before .before .before .before .before .before .before .before .before .before .loop .row) _ _ (omega arith) (c .before .before .before .before .before .before .before .wide .ensures) (c .before .before .before .before .before .wide2 .ensures) _ _ _ refl refl refl _ _ _ _ (c .before .before .before .before .before .before .before .before .before .before .before .loop .inv), value-room _ _ _ _ _ _ (c .before .before .before .before .before .before .before .before .before .before .before .before .before .before .before .before .before .before .before .before .before .pre) (c .before .before .before .before .before .before .before .before .before .before .before .loop .row) _ _ (omega arith) (c .before .before .before .before .before .before .before .wide .ensures) (c .before .before .before .before .before .wide2 .ensures) _ _ _ refl refl refl _ _ _ _ (c .before .before .before .before .before .before .before .before .before .before .before .loop .inv)))))
 
 add-row : tie.Need-add-row Inv-loop μ-loop
 add-row c = omega (arith, rows-few _ _ _ _ _ _ (c .before .before .before .before .before .before .before .before .before .before .before .before .before .before .before .before .before .before .before .before .before .before .before .before .before .before .pre))

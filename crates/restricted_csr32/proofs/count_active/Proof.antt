@@ -4,7 +4,7 @@ use Prim.Native.Nat.{_-_}
 use native.Mathlib.Omega.{arith}
 use lib.ListN.{length}
 use Rattle.mask.specs.Mask.{asMask, active}
-use Rattle.restricted_csr32.proofs.KeepLaws.{Counted, counted-none, counted-le, counted-more, counted-done, byte-small}
+use Rattle.restricted.proofs.KeepLaws.{Counted, counted-none, counted-le, counted-more, counted-done, byte-small}
 use Rattle.restricted_csr32.proofs.count_active.Statement.{statement}
 use Rattle.restricted_csr32.proofs.count_active.Tie as tie
 

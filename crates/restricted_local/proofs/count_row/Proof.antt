@@ -4,7 +4,7 @@ use Prim.Native.Nat.{_-_}
 use native.Mathlib.Omega.{arith}
 use lib.ListN.{length}
 use Rattle.mask.specs.Mask.{asMask, active}
-use Rattle.restricted_local.proofs.KeepLaws.{Counted, counted-none, counted-le, counted-more, counted-done, byte-small}
+use Rattle.restricted.proofs.KeepLaws.{Counted, counted-none, counted-le, counted-more, counted-done, byte-small}
 use Rattle.restricted_local.proofs.count_row.Statement.{statement}
 use Rattle.restricted_local.proofs.count_row.Tie as tie
 

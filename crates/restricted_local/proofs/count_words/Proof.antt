@@ -4,7 +4,8 @@ use mathlib.Core.Path.{_≡_, refl}
 use Prim.Native.Nat.{_-_}
 use native.Mathlib.Omega.{arith}
 use lib.ListN.{length}
-use Rattle.mask.proofs.CallLaws.{counted-le, ones-small}
+use Rattle.word.proofs.CountLaws.{ones-few}
+use Rattle.mask.proofs.CallLaws.{counted-le}
 use Rattle.restricted_local.proofs.RegionLaws.{Tallying, tallying-none, tallying-more, tallying-done}
 use Rattle.restricted_local.proofs.count_words.Statement.{statement}
 use Rattle.restricted_local.proofs.count_words.Tie as tie
@@ -37,7 +38,7 @@ popcount-requires : tie.Need-popcount-requires Inv-loop μ-loop
 popcount-requires c κs = search needs
 
 add-ones : tie.Need-add-ones Inv-loop μ-loop
-add-ones c = omega (arith, counted-le _ _ _ (c .before .before .before .before .loop .inv .1 .counted), ones-small _ _ (c .popcount .ensures))
+add-ones c = omega (arith, counted-le _ _ _ (c .before .before .before .before .loop .inv .1 .counted), ones-few _ _ (c .popcount .ensures))
 
 add-k : tie.Need-add-k Inv-loop μ-loop
 add-k c = search needs

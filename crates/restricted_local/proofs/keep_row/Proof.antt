@@ -10,7 +10,7 @@ use Rattle.csr32.specs.Made.{entriesIn}
 use Rattle.csr32.proofs.CsrLaws.{column-below}
 use Rattle.word.specs.Bits.{count}
 use Rattle.mask.specs.Mask.{asMask, active}
-use Rattle.restricted_local.proofs.KeepLaws.{Keeping, keeping-none, keeping-column, keeping-value, keeping-more, keeping-other, keeping-done}
+use Rattle.restricted.proofs.KeepLaws.{Keeping, keeping-none, keeping-column, keeping-value, keeping-more, keeping-other, keeping-done}
 use Rattle.restricted_local.proofs.RowsLaws.{kept-columns, kept-values}
 use Rattle.restricted_local.proofs.keep_row.Statement.{statement}
 use Rattle.restricted_local.proofs.keep_row.Tie as tie

@@ -1,9 +1,9 @@
--- A row's entries in the columns of a test: how many they are, and what the code holds entry after entry. Assumes nothing.
+-- A row's entries in the columns of a test, each with the number that its column gets: how many they are, and what the code holds
+-- entry after entry. Assumes nothing.
 use mathlib.Core.Bool.{Bool, true, false}
 use mathlib.Core.List.{List, [], _∷_, _++_, append-nil, map, map-append, zip, zipWith}
 use mathlib.Core.Path.{_≡_, refl, sym, ap, _∙_}
-use Prim.Native.Nat.{ℕ, zero, suc, _+_, _≤_, _<_}
-use native.Mathlib.Nat.{not-suc-le-zero}
+use Prim.Native.Nat.{ℕ, suc, _+_, _≤_, _<_}
 use native.Mathlib.Numerals.{add-one}
 use native.Mathlib.Omega.{arith}
 use mir.Val.{boolByte}
@@ -12,22 +12,17 @@ use lib.Seq.{take-all, take-suc}
 use lib.Ieee.{Float, nan}
 use Rattle.lent.specs.Lists.{consIf, only}
 use Rattle.lent.specs.Lent.{Appended}
-use Rattle.lent.proofs.ListLaws.{length-only, only-append}
+use Rattle.lent.proofs.ListLaws.{length-only, only-append, only-snoc}
+use Rattle.lent.proofs.PartLaws.{zip-suc}
 use Rattle.lent.proofs.LentLaws.{appended-none, appended-snoc}
+use Rattle.word.proofs.BelowLaws.{byte-le}
 use Rattle.csr32.specs.Csr.{Entry}
 use Rattle.csr32.specs.Made.{entriesIn}
-
--- ---- one element more
-
-only-one : {A : Type 0} (p : A → Bool) (l : List A) (a : A) (t : Bool) → t ≡ p a → only p (l ++ (a ∷ [])) ≡ only p l ++ consIf t a []
-unfolding only
-only-one p l a t e = only-append p l (a ∷ []) ∙ ap (λ (s : Bool). only p l ++ consIf s a []) (sym e)
 
 -- ---- columns, counted
 
 pub byte-small : (b : Bool) (d : ℕ) → d ≡ boolByte b → d ≤ 1
-byte-small true d e = omega arith
-byte-small false d e = omega arith
+byte-small b d e = omega (arith, e, byte-le b)
 
 pub record Counted (t : ℕ → Bool) (cs : List ℕ) (k n : ℕ) : Type 0 where
   pub is : n ≡ length (only t (take k cs))
@@ -43,7 +38,7 @@ module _ (t : ℕ → Bool) (cs : List ℕ) where
 
     -- c is the column at k, as the code reads it
     pub counted-more : (b : Bool) (d : ℕ) → k < length cs → (c : ℕ) → c ≡ getD cs k 0 → b ≡ t c → d ≡ boolByte b → Counted t cs (k + 1) (n + d)
-    counted-more b d h c here e q = record { is = sum ∙ sym (ap (λ (i : ℕ). length (only t (take i cs))) (add-one k) ∙ ap (λ (l : List ℕ). length (only t l)) (take-suc cs k 0 h) ∙ ap length (only-one t (take k cs) (getD cs k 0) b (e ∙ ap t here))) }
+    counted-more b d h c here e q = record { is = sum ∙ sym (ap (λ (i : ℕ). length (only t (take i cs))) (add-one k) ∙ ap (λ (l : List ℕ). length (only t l)) (take-suc cs k 0 h) ∙ ap length (only-snoc t (take k cs) (getD cs k 0) b (e ∙ ap t here))) }
       where
         one : (b : Bool) → boolByte b ≡ length (consIf b (getD cs k 0) [])
         one true = refl
@@ -68,13 +63,6 @@ length-kept t (c ∷ cs) (v ∷ vs) h = go (t c) (length-kept t cs vs (omega ari
     go true e = ap suc e
     go false e = e
 
-zip-suc : (cs : List ℕ) (vs : List Float) (k : ℕ) → k < length cs → k < length vs → take (suc k) (zip cs vs) ≡ take k (zip cs vs) ++ ((getD cs k 0, getD vs k nan) ∷ [])
-unfolding zip zipWith
-zip-suc [] vs k h l = absurd (not-suc-le-zero h)
-zip-suc (c ∷ cs) [] k h l = absurd (not-suc-le-zero l)
-zip-suc (c ∷ cs) (v ∷ vs) zero h l = refl
-zip-suc (c ∷ cs) (v ∷ vs) (suc k) h l = ap (λ (t : List Entry). (c, v) ∷ t) (zip-suc cs vs k (omega arith) (omega arith))
-
 length-zip-le : (cs : List ℕ) (vs : List Float) → length (zip cs vs) ≤ length cs
 unfolding zip zipWith
 length-zip-le [] vs = omega arith
@@ -82,19 +70,19 @@ length-zip-le (c ∷ cs) [] = omega arith
 length-zip-le (c ∷ cs) (v ∷ vs) = omega (arith, length-zip-le cs vs)
 
 -- of the first k entries those are written whose columns pass
-pub record Keeping (t : ℕ → Bool) (cs : List ℕ) (vs : List Float) (from : ℕ) (oc : List ℕ) (ov : List Float) (k at : ℕ) (nc : List ℕ) (nv : List Float) : Type 0 where
-  pub columns : Appended (map (λ (e : Entry). e .0) (entriesIn t (take k (zip cs vs)))) from at oc nc
+pub record Keeping (t : ℕ → Bool) (number : Entry → ℕ) (cs : List ℕ) (vs : List Float) (from : ℕ) (oc : List ℕ) (ov : List Float) (k at : ℕ) (nc : List ℕ) (nv : List Float) : Type 0 where
+  pub columns : Appended (map number (entriesIn t (take k (zip cs vs)))) from at oc nc
   pub values : Appended (map (λ (e : Entry). e .1) (entriesIn t (take k (zip cs vs)))) from at ov nv
   pub long-columns : length nc ≡ length oc
   pub long-values : length nv ≡ length ov
 
-module _ (t : ℕ → Bool) (cs : List ℕ) (vs : List Float) (from : ℕ) (oc : List ℕ) (ov : List Float) where
-  pub keeping-none : Keeping t cs vs from oc ov 0 from oc ov
+module _ (t : ℕ → Bool) (number : Entry → ℕ) (cs : List ℕ) (vs : List Float) (from : ℕ) (oc : List ℕ) (ov : List Float) where
+  pub keeping-none : Keeping t number cs vs from oc ov 0 from oc ov
   unfolding only
   keeping-none = record { columns = appended-none from oc; values = appended-none from ov; long-columns = refl; long-values = refl }
 
-  module _ (k at : ℕ) (nc : List ℕ) (nv : List Float) (inv : Keeping t cs vs from oc ov k at nc nv) where
-    pub keeping-done : length cs ≤ k → Appended (map (λ (e : Entry). e .0) (entriesIn t (zip cs vs))) from at oc nc × Appended (map (λ (e : Entry). e .1) (entriesIn t (zip cs vs))) from at ov nv
+  module _ (k at : ℕ) (nc : List ℕ) (nv : List Float) (inv : Keeping t number cs vs from oc ov k at nc nv) where
+    pub keeping-done : length cs ≤ k → Appended (map number (entriesIn t (zip cs vs))) from at oc nc × Appended (map (λ (e : Entry). e .1) (entriesIn t (zip cs vs))) from at ov nv
     keeping-done h =
         let all : take k (zip cs vs) ≡ zip cs vs = take-all k (zip cs vs) (omega (arith, length-zip-le cs vs)) in
         (rw all at (inv .columns), rw all at (inv .values))
@@ -102,8 +90,8 @@ module _ (t : ℕ → Bool) (cs : List ℕ) (vs : List Float) (from : ℕ) (oc :
     module _ (same : length vs ≡ length cs) (h : k < length cs) (c : ℕ) (here : c ≡ getD cs k 0) where
       step : (b : Bool) → b ≡ t c → entriesIn t (take (k + 1) (zip cs vs)) ≡ entriesIn t (take k (zip cs vs)) ++ consIf b (getD cs k 0, getD vs k nan) []
       step b e =
-          ap (λ (i : ℕ). entriesIn t (take i (zip cs vs))) (add-one k) ∙ ap (λ (es : List Entry). entriesIn t es) (zip-suc cs vs k h (omega arith))
-          ∙ only-one (λ (e : Entry). t (e .0)) (take k (zip cs vs)) (getD cs k 0, getD vs k nan) b (e ∙ ap t here)
+          ap (λ (es : List Entry). entriesIn t es) (zip-suc cs vs k 0 nan h (omega arith))
+          ∙ only-snoc (λ (e : Entry). t (e .0)) (take k (zip cs vs)) (getD cs k 0, getD vs k nan) b (e ∙ ap t here)
 
       -- an entry that is kept has a place
       module _ (e : true ≡ t c) where
@@ -111,7 +99,7 @@ module _ (t : ℕ → Bool) (cs : List ℕ) (vs : List Float) (from : ℕ) (oc :
         place =
             let all : entriesIn t (zip cs vs) ≡ entriesIn t (take (k + 1) (zip cs vs)) ++ entriesIn t (drop (k + 1) (zip cs vs)) =
             ap (λ (es : List Entry). entriesIn t es) (sym (take-append-drop (k + 1) (zip cs vs))) ∙ only-append (λ (e : Entry). t (e .0)) (take (k + 1) (zip cs vs)) (drop (k + 1) (zip cs vs)) in
-            omega (arith, inv .columns .next, length-map (entriesIn t (take k (zip cs vs))) (λ (e : Entry). e .0), ap length all, length-append (entriesIn t (take (k + 1) (zip cs vs))) (entriesIn t (drop (k + 1) (zip cs vs))), ap length (step true e), length-append (entriesIn t (take k (zip cs vs))) ((getD cs k 0, getD vs k nan) ∷ []))
+            omega (arith, inv .columns .next, length-map (entriesIn t (take k (zip cs vs))) number, ap length all, length-append (entriesIn t (take (k + 1) (zip cs vs))) (entriesIn t (drop (k + 1) (zip cs vs))), ap length (step true e), length-append (entriesIn t (take k (zip cs vs))) ((getD cs k 0, getD vs k nan) ∷ []))
 
         pub keeping-column : from + length (entriesIn t (zip cs vs)) ≤ length oc → at < length nc
         keeping-column r = omega (arith, place, inv .long-columns)
@@ -119,15 +107,15 @@ module _ (t : ℕ → Bool) (cs : List ℕ) (vs : List Float) (from : ℕ) (oc :
         pub keeping-value : from + length (entriesIn t (zip cs vs)) ≤ length ov → at < length nv
         keeping-value r = omega (arith, place, inv .long-values)
 
-        pub keeping-more : from + length (entriesIn t (zip cs vs)) ≤ length oc → from + length (entriesIn t (zip cs vs)) ≤ length ov → Keeping t cs vs from oc ov (k + 1) (at + 1) (set nc at (getD cs k 0)) (set nv at (getD vs k nan))
-        keeping-more r s = record {
-          columns = rw (step true e, map-append) (appended-snoc _ from at oc nc (getD cs k 0) (inv .columns) (keeping-column r));
+        pub keeping-more : (v : ℕ) → v ≡ number (getD cs k 0, getD vs k nan) → from + length (entriesIn t (zip cs vs)) ≤ length oc → from + length (entriesIn t (zip cs vs)) ≤ length ov → Keeping t number cs vs from oc ov (k + 1) (at + 1) (set nc at v) (set nv at (getD vs k nan))
+        keeping-more v q r s = record {
+          columns = rw (step true e, map-append, ← q) (appended-snoc _ from at oc nc v (inv .columns) (keeping-column r));
           values = rw (step true e, map-append) (appended-snoc _ from at ov nv (getD vs k nan) (inv .values) (keeping-value s));
-          long-columns = length-set nc at (getD cs k 0) ∙ inv .long-columns;
+          long-columns = length-set nc at v ∙ inv .long-columns;
           long-values = length-set nv at (getD vs k nan) ∙ inv .long-values;
         }
 
-      pub keeping-other : false ≡ t c → Keeping t cs vs from oc ov (k + 1) at nc nv
+      pub keeping-other : false ≡ t c → Keeping t number cs vs from oc ov (k + 1) at nc nv
       keeping-other e =
           let left : entriesIn t (take (k + 1) (zip cs vs)) ≡ entriesIn t (take k (zip cs vs)) = step false e ∙ append-nil (entriesIn t (take k (zip cs vs))) in
           record {

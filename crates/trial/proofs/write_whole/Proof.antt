@@ -1,8 +1,8 @@
--- `text::write_whole` meets its contract. Assumes nothing.
+-- `trial::write_whole` meets its contract. Assumes nothing.
 use borrow.Author.Needs.{needs}
 use Prim.Native.Nat.{_-_, _≤_}
-use Rattle.text.proofs.write_whole.Statement.{statement}
-use Rattle.text.proofs.write_whole.Tie as tie
+use Rattle.trial.proofs.write_whole.Statement.{statement}
+use Rattle.trial.proofs.write_whole.Tie as tie
 
 abbrev Inv-loop : tie.InvT-loop
 Inv-loop places first₀ first = first ≤ 36

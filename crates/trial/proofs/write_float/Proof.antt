@@ -1,11 +1,11 @@
--- `text::write_float` meets its contract: a float that equals itself is no NaN, so it has bits. Assumes nothing.
+-- `trial::write_float` meets its contract: a float that equals itself is no NaN, so it has bits. Assumes nothing.
 use mathlib.Core.Path.{_≡_}
 use mathlib.Core.Bool.{false, not, true≢false}
 use lib.Dec.{T}
 use lib.Ieee.{Float, nan, inf, fin, eq, ne, isNan}
 use borrow.Author.Needs.{needs}
-use Rattle.text.proofs.write_float.Statement.{statement}
-use Rattle.text.proofs.write_float.Tie as tie
+use Rattle.trial.proofs.write_float.Statement.{statement}
+use Rattle.trial.proofs.write_float.Tie as tie
 
 equals-itself : (x : Float) → ne x x ≡ false → T (not (isNan x))
 unfolding ne eq isNan

@@ -1,8 +1,8 @@
--- `text::all_zero` meets its contract. Assumes nothing.
+-- `trial::all_zero` meets its contract. Assumes nothing.
 use borrow.Author.Needs.{needs}
 use Prim.Native.Nat.{_-_, _≤_}
-use Rattle.text.proofs.all_zero.Statement.{statement}
-use Rattle.text.proofs.all_zero.Tie as tie
+use Rattle.trial.proofs.all_zero.Statement.{statement}
+use Rattle.trial.proofs.all_zero.Tie as tie
 
 abbrev Inv-loop : tie.InvT-loop
 Inv-loop places i₀ i = i ≤ 156

@@ -1,11 +1,11 @@
--- `text::write_digits` meets its contract. Assumes nothing.
+-- `trial::write_digits` meets its contract. Assumes nothing.
 use borrow.Author.Needs.{needs}
 use mathlib.Core.Path.{_≡_}
 use Prim.Native.Nat.{_≤_}
 use lib.ListN.{length, length-take}
 use native.Mathlib.Omega.{arith}
-use Rattle.text.proofs.write_digits.Statement.{statement}
-use Rattle.text.proofs.write_digits.Tie as tie
+use Rattle.trial.proofs.write_digits.Statement.{statement}
+use Rattle.trial.proofs.write_digits.Tie as tie
 
 abbrev Inv-loop : tie.InvT-loop
 Inv-loop n count text₀ rest₀ i₀ end text rest i = (i ≤ end) × (end ≤ 9) × (length text ≡ 9)

@@ -1,8 +1,8 @@
--- `text::increase` meets its contract. Assumes nothing.
+-- `trial::increase` meets its contract. Assumes nothing.
 use borrow.Author.Needs.{needs}
 use Prim.Native.Nat.{_≤_}
-use Rattle.text.proofs.increase.Statement.{statement}
-use Rattle.text.proofs.increase.Tie as tie
+use Rattle.trial.proofs.increase.Statement.{statement}
+use Rattle.trial.proofs.increase.Tie as tie
 
 abbrev Inv-loop : tie.InvT-loop
 Inv-loop places₀ i₀ places i = i ≤ 36

@@ -1,8 +1,8 @@
--- `text::expand` meets its contract. Assumes nothing.
+-- `trial::expand` meets its contract. Assumes nothing.
 use borrow.Author.Needs.{needs}
 use Prim.Native.Nat.{_-_, _≤_}
-use Rattle.text.proofs.expand.Statement.{statement}
-use Rattle.text.proofs.expand.Tie as tie
+use Rattle.trial.proofs.expand.Statement.{statement}
+use Rattle.trial.proofs.expand.Tie as tie
 
 abbrev Inv-loop : tie.InvT-loop
 Inv-loop significand exponent places₀ e₀ places e = 1075 ≤ e

@@ -474,7 +474,9 @@ fn all_read(
     all: AbtmProductPruningStats,
 ) -> All {
     if next_is(block, at, end, line, b"") {
-        return All::Of(all);
+        if peek(block, at, end) == 256 {
+            return All::Of(all);
+        }
     }
     All::Wrong(Wanted::Nothing)
 }

@@ -4,10 +4,11 @@
 mod bad;
 mod trials;
 
+use random::Random;
 use std::env;
 use std::io::Write;
 use std::process::{Command, Stdio, exit};
-use trials::{Random, Trial};
+use trials::Trial;
 
 const PROGRAM: &str = "target/bin/trial";
 

@@ -1,36 +1,21 @@
 //! Trials: as the text that the program reads, and as what hybit computes of them.
 
 use hybit_matrix::{AbtmMetadataFirstMatrix, AbtmProductPruningStats, Csr32Matrix, DofMask};
+use random::Random;
 use std::fmt::Write;
 
-/// Splitmix64: the same numbers in every run.
-pub struct Random(pub u64);
-
-impl Random {
-    pub fn next(&mut self) -> u64 {
-        self.0 = self.0.wrapping_add(0x9e37_79b9_7f4a_7c15);
-        let a = (self.0 ^ (self.0 >> 30)).wrapping_mul(0xbf58_476d_1ce4_e5b9);
-        let b = (a ^ (a >> 27)).wrapping_mul(0x94d0_49bb_1331_11eb);
-        b ^ (b >> 31)
+/// A decimal of at most fifteen digits.
+fn decimal(random: &mut Random) -> String {
+    let digits = 1 + random.below(15);
+    let number = random.next() % 10u64.pow(digits as u32);
+    let mut text = format!("{number:0digits$}");
+    if digits > 1 && random.below(4) > 0 {
+        text.insert(1 + random.below(digits - 1), '.');
     }
-
-    pub fn below(&mut self, end: usize) -> usize {
-        (self.next() % end as u64) as usize
+    if random.one_in(3) {
+        text.insert(0, '-');
     }
-
-    /// A decimal of at most fifteen digits.
-    fn decimal(&mut self) -> String {
-        let digits = 1 + self.below(15);
-        let number = self.next() % 10u64.pow(digits as u32);
-        let mut text = format!("{number:0digits$}");
-        if digits > 1 && self.below(4) > 0 {
-            text.insert(1 + self.below(digits - 1), '.');
-        }
-        if self.below(3) == 0 {
-            text.insert(0, '-');
-        }
-        text
-    }
+    text
 }
 
 enum Dry {
@@ -61,7 +46,7 @@ impl Trial {
             Dry::Moisture("14.0".to_owned(), values.collect())
         };
         let rows = (0..lines).map(|_| Self::row(plots, random)).collect();
-        let yields = (0..plots).map(|_| random.decimal()).collect();
+        let yields = (0..plots).map(|_| decimal(random)).collect();
         Self {
             plots,
             dry,
@@ -81,7 +66,7 @@ impl Trial {
             let plot = random.below(plots);
             copies[plot] += 1;
             if copies[plot] <= 2 {
-                row.push((plot, random.decimal()));
+                row.push((plot, decimal(random)));
             }
         }
         row
@@ -91,12 +76,12 @@ impl Trial {
     pub fn of_size(lines: usize, plots: usize, entries: usize, random: &mut Random) -> Self {
         let row = |line: usize, random: &mut Random| {
             let place = |k: usize| (line * 7 + k * (plots / entries).max(1)) % plots;
-            (0..entries).map(|k| (place(k), random.decimal())).collect()
+            (0..entries).map(|k| (place(k), decimal(random))).collect()
         };
         Self {
             plots,
             dry: Dry::Flags((0..plots).map(|_| random.below(10) > 0).collect()),
-            yields: (0..plots).map(|_| random.decimal()).collect(),
+            yields: (0..plots).map(|_| decimal(random)).collect(),
             rows: (0..lines).map(|line| row(line, random)).collect(),
         }
     }

@@ -7,11 +7,10 @@ use native.Mathlib.Numerals.{add-one}
 use native.Mathlib.Omega.{arith}
 use lib.Dec.{leb, eqb}
 use lib.ListN.{length, getD}
-use lib.Seq.{take-all}
 use lib.Ieee.{Float}
 use borrow.Author.Tests.{eqb-true, leb-true, le-leb}
 use Rattle.hybit_core.proofs.BoolLaws.{and-left, and-right, and-first, and-second, and-next, is-equal, is-unequal}
-use Rattle.lent.specs.Lists.{every}
+use Rattle.lent.specs.Lists.{only, every}
 use Rattle.lent.proofs.ListLaws.{every-by, every-getD}
 use Rattle.word.specs.Bits.{has, count, members}
 use Rattle.csr32.proofs.ScanLaws.{Passed, passed-none, passed-more, passed-done}
@@ -173,17 +172,16 @@ module _ (ms os ks : List ℕ) (so : length os ≡ length ms) (sk : length ks �
       kinds : every kindHolds ks ≡ true
       kinds = every-by compactKind compactKind kindHolds ks (λ m e f. le-leb (kindIn m) 2 (omega (arith, leb-true (kindIn m) 1 e))) (sym c) (sym c)
 
-      tested : (i : ℕ) → i ≤ length ms → Tested ms os ks vals 0 i
+      tested : (i : ℕ) → i ≤ length ms → Tested ms os ks vals i
       tested zero h = tested-none ms os ks vals so sk (sym g)
       tested (suc i) h =
           rw (sym (add-one i))
-          (tested-compact ms os ks vals 0 i (tested i (omega (arith, h))) (omega (arith, h)) (kindIn (getD ks i 0)) refl (not-dense (getD ks i 0) (every-getD compactKind ks i 0 (sym c) (omega (arith, sk, h)))))
+          (tested-compact ms os ks vals i (tested i (omega (arith, h))) (omega (arith, h)) (kindIn (getD ks i 0)) refl (not-dense (getD ks i 0) (every-getD compactKind ks i 0 (sym c) (omega (arith, sk, h)))))
 
       pub compact-wrong : (t ≡ length vals → ⊥) → false ≡ (eqb t (setBits ms) && slotRules vals (zip ms (zip os ks)))
       compact-wrong d = and-first (eqb t (setBits ms)) ruled (is-unequal t (setBits ms) (λ e. d (e ∙ sym same-count)))
 
-      pub compact-right : t ≡ length vals → (r : Bool) → r ≡ every solid vals → r ≡ (eqb t (setBits ms) && slotRules vals (zip ms (zip os ks)))
-      compact-right d r e =
-          and-next (eqb t (setBits ms)) ruled r (is-equal t (setBits ms) (d ∙ same-count))
-          (slots-values ms os ks so sk vals g (sym kinds) r
-          (tested-done ms os ks vals 0 (length ms) (tested (length ms) (omega arith)) (omega arith) r (e ∙ ap (every solid) (sym (take-all (length vals - 0) vals (omega arith))))))
+      pub compact-right : t ≡ length vals → (n : ℕ) → n ≡ length (only solid vals) → eqb n t ≡ (eqb t (setBits ms) && slotRules vals (zip ms (zip os ks)))
+      compact-right d n e =
+          and-next (eqb t (setBits ms)) ruled (eqb n t) (is-equal t (setBits ms) (d ∙ same-count))
+          (slots-values ms os ks so sk vals g (sym kinds) (eqb n t) (tested-done ms os ks vals (length ms) (tested (length ms) (omega arith)) (omega arith) n t e (d ∙ same-count)))

@@ -1,4 +1,5 @@
--- The values of a Dense tile: what the loops over its places find, and that the count of those that are neither NaN nor zero decides. Assumes nothing.
+-- The values of a Dense tile: what the loop over its absent places finds, and what the count of values that are neither NaN nor zero
+-- says. Assumes nothing.
 use mathlib.Core.Bool.{Bool, true, false, not, cond, _&&_, and-comm, and-false}
 use mathlib.Core.Path.{_≡_, refl, sym, ap, ap₂, _∙_}
 use Prim.Native.Nat.{ℕ, _+_, _-_, _^_, _≤_, _<_, zero-le}
@@ -58,50 +59,18 @@ module _ (z : ℕ → Bool) (mask : ℕ) where
     unfolding every
     absent-done e = sym (inv .is ∙ ap (λ (w : ℕ). every z (members w)) e ∙ ap (every z) members-none)
 
--- ---- the count of the values at places below i
-
-pub record Counted (s : ℕ → Bool) (i n : ℕ) : Type 0 where
-  pub inside : i ≤ 64
-  pub is : n ≡ count s i
-  pub few : n ≤ i
-
-module _ (s : ℕ → Bool) where
-  pub counted-none : Counted s 0 0
-  counted-none = record { inside = omega arith; is = sym (ap length (below-zero s)); few = omega arith }
-
-  module _ (i n : ℕ) (inv : Counted s i n) where
-    pub counted-more : i < 64 → (b : ℕ) → b ≡ boolByte (s i) → Counted s (i + 1) (n + b)
-    counted-more h b e =
-        record {
-          inside = omega arith;
-          is = ap₂ (λ (a c : ℕ). a + c) (inv .is) e ∙ sym (length-below-suc s i) ∙ ap (count s) (sym (add-one i));
-          few = omega (arith, inv .few, e, byte-le (s i));
-        }
-
-    pub counted-done : 64 ≤ i → n ≡ count s 64
-    counted-done h =
-        let e : i ≡ 64 = omega (arith, inv .inside, h) in
-        inv .is ∙ ap (count s) e
-
 -- ---- h: the place is present; s: its value is neither NaN nor zero; z: its value is +0.0
 
 module _ (h s z : ℕ → Bool) where
   abbrev keeps : ℕ → Bool
   keeps i = cond (h i) (s i) (z i)
 
-  of-absent : every keeps (below (λ i. true) 64) ≡ true → every z (below (λ i. not (h i)) 64) ≡ true
+  pub of-absent : every keeps (below (λ i. true) 64) ≡ true → every z (below (λ i. not (h i)) 64) ≡ true
   of-absent e = every-below z (λ i. not (h i)) 64 (λ i l a. go i (h i) a (every-below-at keeps (λ i. true) 64 i e l refl))
     where
       go : (i : ℕ) (t : Bool) → not t ≡ true → cond t (s i) (z i) ≡ true → z i ≡ true
       go i true a k = not-both true refl (sym a)
       go i false a k = k
-
-  pub dense-absent : false ≡ every z (below (λ i. not (h i)) 64) → false ≡ every keeps (below (λ i. true) 64)
-  dense-absent f = go (every keeps (below (λ i. true) 64)) refl
-    where
-      go : (t : Bool) → every keeps (below (λ i. true) 64) ≡ t → false ≡ t
-      go true e = not-both (every z (below (λ i. not (h i)) 64)) (of-absent e) (sym f)
-      go false e = refl
 
   module _ (apart : (i : ℕ) → z i ≡ true → s i ≡ false) (absent : true ≡ every z (below (λ i. not (h i)) 64)) where
     at-absent : (i : ℕ) → i < 64 → h i ≡ false → z i ≡ true
@@ -116,7 +85,7 @@ module _ (h s z : ℕ → Bool) where
         go i l true e = and-false (s i)
         go i l false e = ap (λ (t : Bool). t && true) (apart i (at-absent i l e))
 
-    counts-say : count s 64 ≡ count h 64 → every keeps (below (λ i. true) 64) ≡ true
+    pub counts-say : count s 64 ≡ count h 64 → every keeps (below (λ i. true) 64) ≡ true
     unfolding below
     counts-say e =
         every-below keeps (λ i. true) 64 (λ i l t. go i l (h i) refl (s i) refl (empty-at (λ i. h i && not (s i)) 0 64 i lacking zero-le (omega arith)))
@@ -132,15 +101,14 @@ module _ (h s z : ℕ → Bool) where
         go i l true e false f k = sym k
         go i l false e u f k = at-absent i l e
 
-    says-counts : every keeps (below (λ i. true) 64) ≡ true → count s 64 ≡ count h 64
+    pub says-counts : every keeps (below (λ i. true) 64) ≡ true → count s 64 ≡ count h 64
     says-counts e = ap length (below-cong s h 64 (λ i l. go i l (h i) refl (every-below-at keeps (λ i. true) 64 i e l refl)))
       where
         go : (i : ℕ) → i < 64 → (t : Bool) → h i ≡ t → cond t (s i) (z i) ≡ true → s i ≡ t
         go i l true e k = k
         go i l false e k = apart i k
 
-    pub dense-counted : (n m : ℕ) → n ≡ count s 64 → m ≡ count h 64 → eqb n m ≡ every keeps (below (λ i. true) 64)
-    dense-counted n m en em =
-        same-test (eqb n m) (every keeps (below (λ i. true) 64))
-        (λ e. counts-say (sym en ∙ eqb-true n m e ∙ em))
-        (λ e. eq-eqb n m (en ∙ says-counts e ∙ sym em))
+    pub counts-le : count s 64 ≤ count h 64
+    counts-le =
+        let same : count (λ i. s i && h i) 64 ≡ count (λ i. h i && s i) 64 = ap length (below-cong (λ i. s i && h i) (λ i. h i && s i) 64 (λ i l. and-comm (s i) (h i))) in
+        omega (arith, none-absent, same, length-below-parts s h 64, length-below-parts h s 64)

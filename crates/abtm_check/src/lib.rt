@@ -1,6 +1,6 @@
 // abtm.rs: the check of tiles that are handed in. Their lists are lent by the caller, and every call on a record checks it: 1, 12.
 ghost use mathlib.Core.Path.{_≡_};
-ghost use mathlib.Core.Bool.{true, cond, not, _&&_};
+ghost use mathlib.Core.Bool.{true, not, _&&_};
 ghost use mathlib.Core.List.{map, zip};
 ghost use mir.Val.{boolByte};
 ghost use Prim.Native.Nat.{_+_, _≤_, _<_, _^_};
@@ -8,40 +8,15 @@ ghost use lib.Dec.{leb, ltb, eqb};
 ghost use lib.ListN.{length, getD};
 ghost use lib.Ieee.{nan};
 ghost use Rattle.hybit_core.specs.Table.{told};
-ghost use Rattle.lent.specs.Lists.{part, every, climbs};
+ghost use Rattle.lent.specs.Lists.{part, every, only, climbs};
 ghost use Rattle.word.specs.Bits.{has, below, count};
 ghost use Rattle.csr32.specs.Csr.{framedLists};
 ghost use Rattle.csr32.proofs.FrameLaws.{RowIn};
-ghost use Rattle.topology.specs.Words.{asWords, wordRule, rowRule, rowRules};
+ghost use Rattle.topology.specs.Words.{asWords, wordRule, rowRule, rowRules, setBits};
 ghost use Rattle.abtm.specs.Values.{solid, plusZero};
 ghost use Rattle.abtm.specs.Tiles.{Listed, wordIn, kindIn, stored, tileAt, asTiles, valueRule, gapless, tilesRules, tilesAnswer};
 use hybit_core::HybitError;
 use hybit_core::Verdict;
-
-fn also_solid(holds: bool, v: f64) -> bool
-    ensures { λ r. ⌜ r ≡ (holds && solid v) ⌝ }
-{
-    if v < 0.0 {
-        return holds;
-    }
-    if 0.0 < v {
-        return holds;
-    }
-    false
-}
-
-// The values of a Sparse or Bitmap tile: none is NaN or zero. The test runs to the end, without a branch on what it finds.
-fn all_solid(values: &[f64]) -> bool
-    ensures { λ r. ⌜ r ≡ every solid (now (values .entry)) ⌝ }
-{
-    let mut holds = true;
-    let mut i: usize = 0;
-    while i < values.len() {
-        holds = also_solid(holds, values[i]);
-        i += 1;
-    }
-    holds
-}
 
 fn is_plus_zero(v: f64) -> bool
     ensures { λ r. ⌜ r ≡ plusZero v ⌝ }
@@ -79,30 +54,50 @@ fn one_if_solid(v: f64) -> usize
     0
 }
 
-// How many of a Dense tile's 64 values are neither NaN nor zero.
-fn count_solid(values: &[f64]) -> usize
-    requires { ⌜ length (now values) ≡ 64 ⌝ }
-    ensures { λ r. ⌜ r ≡ count (λ i. solid (getD (now (values .entry)) i nan)) 64 ⌝ }
+fn count_each(values: &[f64]) -> usize
+    ensures { λ r. ⌜ r ≡ length (only solid (now (values .entry))) ⌝ }
 {
     let mut solid: usize = 0;
     let mut i: usize = 0;
-    while i < 64 {
+    while i < values.len() {
         solid += one_if_solid(values[i]);
         i += 1;
     }
     solid
 }
 
-// The 64 values of a Dense tile. Where the absent places hold zeros, the present ones hold none exactly if as many values as there
-// are present places are neither NaN nor zero.
-fn dense_holds(mask: u64, values: &[f64]) -> bool
-    requires { ⌜ length (now values) ≡ 64 ⌝ }
-    ensures { λ r. ⌜ r ≡ every (λ i. cond (has mask i) (solid (getD (now (values .entry)) i nan)) (plusZero (getD (now (values .entry)) i nan))) (below (λ i. true) 64) ⌝ }
+// How many values of four lists of one length are neither NaN nor zero.
+fn count_four(first: &[f64], second: &[f64], third: &[f64], fourth: &[f64]) -> usize
+    requires { ⌜ (length (now second) ≡ length (now first)) × (length (now third) ≡ length (now first)) × (length (now fourth) ≡ length (now first)) ⌝ }
+    ensures { λ r. ⌜ r ≡ length (only solid (now (first .entry))) + length (only solid (now (second .entry))) + length (only solid (now (third .entry))) + length (only solid (now (fourth .entry))) ⌝ }
 {
-    if !absent_hold(mask, values) {
-        return false;
+    let mut a: usize = 0;
+    let mut b: usize = 0;
+    let mut c: usize = 0;
+    let mut d: usize = 0;
+    let mut i: usize = 0;
+    while i < first.len() {
+        a += one_if_solid(first[i]);
+        b += one_if_solid(second[i]);
+        c += one_if_solid(third[i]);
+        d += one_if_solid(fourth[i]);
+        i += 1;
     }
-    count_solid(values) == word::popcount(mask)
+    a + b + c + d
+}
+
+// How many values are neither NaN nor zero. Four parts are read side by side: memory serves four streams better than one.
+fn count_solid(values: &[f64]) -> usize
+    ensures { λ r. ⌜ r ≡ length (only solid (now (values .entry))) ⌝ }
+{
+    let q = values.len() / 4;
+    let most = count_four(
+        &values[0..q],
+        &values[q..2 * q],
+        &values[2 * q..3 * q],
+        &values[3 * q..4 * q],
+    );
+    most + count_each(&values[4 * q..])
 }
 
 fn also_at(holds: bool, offset: u32, slots: usize, next: usize) -> bool
@@ -116,7 +111,7 @@ fn also_at(holds: bool, offset: u32, slots: usize, next: usize) -> bool
 }
 
 // Whether the first tile's values start at 0, each tile's end where the next one's start, and the last one's end at `places`. The
-// test runs to the end, as all_solid does.
+// test runs to the end, without a branch on what it finds.
 fn offsets_follow(masks: &[u64], value_offsets: &[u32], metas: &[u32], places: usize) -> bool
     requires { ⌜ (length (now «value_offsets») ≡ length (now masks)) × (length (now metas) ≡ length (now masks)) ⌝ }
     ensures { λ r. ⌜ r ≡ gapless 0 places (zip (now (masks .entry)) (zip (now («value_offsets» .entry)) (now (metas .entry)))) ⌝ }
@@ -167,31 +162,33 @@ fn kinds_hold(metas: &[u32]) -> bool
     holds
 }
 
-// The rule of each value: those of the Sparse and Bitmap tiles between two Dense ones are tested together.
-fn values_hold(masks: &[u64], value_offsets: &[u32], metas: &[u32], values: &[f64]) -> bool
-    requires { ⌜ (length (now «value_offsets») ≡ length (now masks)) × (length (now metas) ≡ length (now masks)) ⌝ ∗ ⌜ gapless 0 (length (now values)) (zip (now masks) (zip (now «value_offsets») (now metas))) ≡ true ⌝ }
+// The rule of each value. Where the absent places of Dense tiles hold +0.0, the present ones of all tiles hold neither NaN nor zero
+// exactly if as many values as there are present places hold neither.
+fn values_hold(
+    masks: &[u64],
+    value_offsets: &[u32],
+    metas: &[u32],
+    values: &[f64],
+    matrix_nnz: usize,
+) -> bool
+    requires { ⌜ (length (now «value_offsets») ≡ length (now masks)) × (length (now metas) ≡ length (now masks)) ⌝ ∗ ⌜ gapless 0 (length (now values)) (zip (now masks) (zip (now «value_offsets») (now metas))) ≡ true ⌝ ∗ ⌜ «matrix_nnz» ≡ setBits (now masks) ⌝ }
     ensures { λ r. ⌜ r ≡ every (λ (e : Listed). every (valueRule (e .0)) (stored (tileAt (now (values .entry)) e))) (zip (now (masks .entry)) (zip (now («value_offsets» .entry)) (now (metas .entry)))) ⌝ }
 {
-    let mut from: usize = 0;
     let mut next: usize = 0;
     while next < masks.len() {
         let i = next;
         next += 1;
         if abtm::kind_in(metas[i]) == 2 {
             let at = hybit_core::wide(value_offsets[i]);
-            if !all_solid(&values[from..at]) {
+            if !absent_hold(masks[i], &values[at..at + 64]) {
                 return false;
             }
-            if !dense_holds(masks[i], &values[at..at + 64]) {
-                return false;
-            }
-            from = at + 64;
         }
     }
-    all_solid(&values[from..])
+    count_solid(values) == matrix_nnz
 }
 
-// The two tests below run to the end, as all_solid does.
+// The two tests below run to the end, without a branch on what they find.
 fn also_above(holds: bool, before: u32, number: u32) -> bool
     ensures { λ r. ⌜ r ≡ (holds && ltb before number) ⌝ }
 {
@@ -372,7 +369,7 @@ fn mixed_hold(
     if matrix_nnz != topology::count_bits(masks) {
         return false;
     }
-    values_hold(masks, value_offsets, metas, values)
+    values_hold(masks, value_offsets, metas, values, matrix_nnz)
 }
 
 // Without a Dense tile there is a value for each set bit and no other, so the bits are not counted again.
@@ -413,7 +410,7 @@ fn rules_hold(
     if matrix_nnz != values.len() {
         return false;
     }
-    all_solid(values)
+    count_solid(values) == matrix_nnz
 }
 
 // The rules that the Rust's private fields keep.

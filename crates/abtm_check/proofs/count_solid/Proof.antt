@@ -1,59 +1,137 @@
 -- `abtm_check::count_solid` meets its contract. Assumes nothing.
-use Prim.Native.Nat.{_-_}
+use mathlib.Core.Path.{_≡_}
+use Prim.Native.Nat.{_/_}
 use native.Mathlib.Omega.{arith}
-use lib.Ieee.{nan}
-use lib.ListN.{getD}
+use lib.ListN.{length}
 use Rattle.abtm.specs.Values.{solid}
-use Rattle.abtm_check.proofs.DenseLaws.{Counted, counted-none, counted-more, counted-done}
+use Rattle.lent.specs.Lists.{only}
+use Rattle.lent.proofs.ListLaws.{length-only}
+use Rattle.abtm_check.proofs.PassLaws.{quarters}
 use borrow.Author.Needs.{needs}
 use Rattle.abtm_check.proofs.count_solid.Statement.{statement}
 use Rattle.abtm_check.proofs.count_solid.Tie as tie
 
-abbrev Inv-loop : tie.InvT-loop
-Inv-loop values n₀ i₀ n i = Counted (λ k. solid (getD values k nan)) i n
+sub-count-four : tie.Need-sub-count-four
+sub-count-four c = search needs
 
-abbrev μ-loop : tie.MeasureT-loop
-μ-loop values n₀ i₀ n i = 64 - i
+part-count-four-start : tie.Need-part-count-four-start
+part-count-four-start c = search needs
 
-loop-holds : tie.Need-loop-holds Inv-loop μ-loop
-loop-holds c = counted-none _
+part-count-four-end : tie.Need-part-count-four-end
+part-count-four-end c = search needs
 
-mul-one-if-solid : tie.Need-mul-one-if-solid Inv-loop μ-loop
-mul-one-if-solid c = search needs
+mul-count-four : tie.Need-mul-count-four
+mul-count-four c = search needs
 
-shared-slice-read-one-if-solid : tie.Need-shared-slice-read-one-if-solid Inv-loop μ-loop
-shared-slice-read-one-if-solid c = search needs
+mul-count-four-2 : tie.Need-mul-count-four-2
+mul-count-four-2 c = search needs
 
-one-if-solid-requires : tie.Need-one-if-solid-requires Inv-loop μ-loop
-one-if-solid-requires c κs = search needs
+sub-count-four-2 : tie.Need-sub-count-four-2
+sub-count-four-2 c = search needs
 
-add-solid : tie.Need-add-solid Inv-loop μ-loop
-add-solid c = omega (arith, counted-more _ _ _ (c .before .before .before .loop .inv) (search needs) _ (c .one-if-solid .ensures) .few)
+part-count-four-start-2 : tie.Need-part-count-four-start-2
+part-count-four-start-2 c = search needs
 
-add-i : tie.Need-add-i Inv-loop μ-loop
-add-i c = search needs
+part-count-four-end-2 : tie.Need-part-count-four-end-2
+part-count-four-end-2 c = search needs
 
-loop-less : tie.Need-loop-less Inv-loop μ-loop
-loop-less c = search needs
+mul-count-four-3 : tie.Need-mul-count-four-3
+mul-count-four-3 c = search needs
 
-loop-again : tie.Need-loop-again Inv-loop μ-loop
-loop-again c = counted-more _ _ _ (c .before .before .before .loop .inv) (search needs) _ (c .one-if-solid .ensures)
+mul-count-four-4 : tie.Need-mul-count-four-4
+mul-count-four-4 c = search needs
 
-returns : tie.Need-returns Inv-loop μ-loop
-returns c = counted-done _ _ _ (c .before .loop .inv) (search needs)
+mul-count-four-5 : tie.Need-mul-count-four-5
+mul-count-four-5 c = search needs
+
+sub-count-four-3 : tie.Need-sub-count-four-3
+sub-count-four-3 c = search needs
+
+part-count-four-start-3 : tie.Need-part-count-four-start-3
+part-count-four-start-3 c = search needs
+
+part-count-four-end-3 : tie.Need-part-count-four-end-3
+part-count-four-end-3 c = search needs
+
+mul-count-four-6 : tie.Need-mul-count-four-6
+mul-count-four-6 c = search needs
+
+mul-count-four-7 : tie.Need-mul-count-four-7
+mul-count-four-7 c = search needs
+
+mul-count-four-8 : tie.Need-mul-count-four-8
+mul-count-four-8 c = search needs
+
+sub-count-four-4 : tie.Need-sub-count-four-4
+sub-count-four-4 c = search needs
+
+part-count-four-start-4 : tie.Need-part-count-four-start-4
+part-count-four-start-4 c = search needs
+
+part-count-four-end-4 : tie.Need-part-count-four-end-4
+part-count-four-end-4 c = search needs
+
+count-four-requires : tie.Need-count-four-requires
+count-four-requires c κs = search needs
+
+mul-count-each : tie.Need-mul-count-each
+mul-count-each c = search needs
+
+mul-count-each-2 : tie.Need-mul-count-each-2
+mul-count-each-2 c = search needs
+
+sub-count-each : tie.Need-sub-count-each
+sub-count-each c = search needs
+
+part-count-each-start : tie.Need-part-count-each-start
+part-count-each-start c = search needs
+
+part-count-each-end : tie.Need-part-count-each-end
+part-count-each-end c = search needs
+
+count-each-requires : tie.Need-count-each-requires
+count-each-requires c κs = search needs
+
+add-result : tie.Need-add-result
+add-result c =
+    let l = c .before .before .before .before .before .before .before .before .args .values .now in
+    omega (arith, length-only solid l, quarters l solid (length l / 4) (omega arith), c .count-each .ensures, c .before .before .count-four .ensures)
+
+returns : tie.Need-returns
+returns c =
+    let l = c .before .before .before .before .before .before .before .before .args .values .now in
+    omega (arith, quarters l solid (length l / 4) (omega arith), c .count-each .ensures, c .before .before .count-four .ensures)
 
 pub count-solid-spec : {M : Type 1} → statement M
 count-solid-spec =
     tie.close
     (tie.spec
-    Inv-loop
-    μ-loop
-    loop-holds
-    mul-one-if-solid
-    shared-slice-read-one-if-solid
-    one-if-solid-requires
-    add-solid
-    add-i
-    loop-less
-    loop-again
+    sub-count-four
+    part-count-four-start
+    part-count-four-end
+    mul-count-four
+    mul-count-four-2
+    sub-count-four-2
+    part-count-four-start-2
+    part-count-four-end-2
+    mul-count-four-3
+    mul-count-four-4
+    mul-count-four-5
+    sub-count-four-3
+    part-count-four-start-3
+    part-count-four-end-3
+    mul-count-four-6
+    mul-count-four-7
+    mul-count-four-8
+    sub-count-four-4
+    part-count-four-start-4
+    part-count-four-end-4
+    count-four-requires
+    mul-count-each
+    mul-count-each-2
+    sub-count-each
+    part-count-each-start
+    part-count-each-end
+    count-each-requires
+    add-result
     returns)

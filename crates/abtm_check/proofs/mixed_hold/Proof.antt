@@ -1,6 +1,7 @@
 -- `abtm_check::mixed_hold` meets its contract. Assumes nothing.
 use mathlib.Core.Path.{sym, _∙_}
 use Rattle.hybit_core.proofs.BoolLaws.{flag-on, flag-off}
+use Rattle.topology.proofs.CallLaws.{bits-whole}
 use Rattle.abtm_check.proofs.RuleLaws.{rules-empty, rules-rows, rules-counted}
 use Rattle.abtm_check.proofs.CompactLaws.{count-gap, count-kind, count-wrong, count-right}
 use borrow.Author.Needs.{needs}
@@ -48,7 +49,9 @@ returns-5 c =
     rules-counted _ _ (a .args .row-tile-ptr .now) (a .args .metas .now) (a .args .masks .now) (a .args .value-offsets .now) (a .args .values .now) _ (sym (a .pre .0)) (a .pre .1 .0 .0 ∙ sym (a .pre .1 .0 .1)) (flag-on _ _ (c .before .before .before .before .before .before .before .rows-hold .ensures) (c .before .before .before .before .before .before .if2 .left)) _ (count-wrong (a .args .masks .now) (a .args .value-offsets .now) (a .args .metas .now) (a .pre .1 .0 .0) (a .pre .1 .0 .1) (a .args .values .now) _ (flag-on _ _ (c .before .before .before .before .before .offsets-follow .ensures) (c .before .before .before .before .if3 .left)) (a .pre .1 .1) _ (c .before .count-bits .ensures) (c .if5 .taken))
 
 values-hold-requires : tie.Need-values-hold-requires
-values-hold-requires c κs = (c .before .before .before .before .before .before .before .before .before .before .before .before .before .before .before .pre .1 .0, sym (flag-on _ _ (c .before .before .before .before .before .offsets-follow .ensures) (c .before .before .before .before .if3 .left)))
+values-hold-requires c κs =
+    let a = c .before .before .before .before .before .before .before .before .before .before .before .before .before .before .before in
+    (a .pre .1 .0, (sym (flag-on _ _ (c .before .before .before .before .before .offsets-follow .ensures) (c .before .before .before .before .if3 .left)), c .if5 .left ∙ bits-whole _ _ (a .pre .1 .1) (c .before .count-bits .ensures)))
 
 returns-6 : tie.Need-returns-6
 returns-6 c =

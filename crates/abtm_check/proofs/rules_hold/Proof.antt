@@ -45,13 +45,13 @@ returns-5 c =
     let a = c .before .before .before .before .before .before .before .before .before .before .before .before .before in
     rules-counted _ _ (a .args .row-tile-ptr .now) (a .args .metas .now) (a .args .masks .now) (a .args .value-offsets .now) (a .args .values .now) _ (flag-on _ _ (c .before .before .before .before .before .before .before .lists-hold .ensures) (c .before .before .before .before .before .before .if1 .left)) (c .before .before .before .before .before .if2 .left) (flag-on _ _ (c .before .before .rows-hold .ensures) (c .before .if4 .left)) _ (compact-wrong (a .args .masks .now) (a .args .value-offsets .now) (a .args .metas .now) (c .before .before .before .before .before .if2 .left ∙ lists-sides _ _ _ _ (sym (flag-on _ _ (c .before .before .before .before .before .before .before .lists-hold .ensures) (c .before .before .before .before .before .before .if1 .left)))) (lists-sides _ _ _ _ (sym (flag-on _ _ (c .before .before .before .before .before .before .before .lists-hold .ensures) (c .before .before .before .before .before .before .if1 .left)))) (a .args .values .now) _ (pass-gapless (a .args .masks .now) (a .args .value-offsets .now) (a .args .metas .now) _ (flag-on _ _ (c .before .before .before .before .compact-follow .ensures) (c .before .before .before .if3 .left))) (pass-compact (a .args .masks .now) (a .args .value-offsets .now) (a .args .metas .now) _ (flag-on _ _ (c .before .before .before .before .compact-follow .ensures) (c .before .before .before .if3 .left))) (c .if5 .taken))
 
-all-solid-requires : tie.Need-all-solid-requires
-all-solid-requires c κs = search needs
+count-solid-requires : tie.Need-count-solid-requires
+count-solid-requires c κs = search needs
 
 returns-6 : tie.Need-returns-6
 returns-6 c =
     let a = c .before .before .before .before .before .before .before .before .before .before .before .before .before .before in
-    rules-counted _ _ (a .args .row-tile-ptr .now) (a .args .metas .now) (a .args .masks .now) (a .args .value-offsets .now) (a .args .values .now) _ (flag-on _ _ (c .before .before .before .before .before .before .before .before .lists-hold .ensures) (c .before .before .before .before .before .before .before .if1 .left)) (c .before .before .before .before .before .before .if2 .left) (flag-on _ _ (c .before .before .before .rows-hold .ensures) (c .before .before .if4 .left)) _ (compact-right (a .args .masks .now) (a .args .value-offsets .now) (a .args .metas .now) (c .before .before .before .before .before .before .if2 .left ∙ lists-sides _ _ _ _ (sym (flag-on _ _ (c .before .before .before .before .before .before .before .before .lists-hold .ensures) (c .before .before .before .before .before .before .before .if1 .left)))) (lists-sides _ _ _ _ (sym (flag-on _ _ (c .before .before .before .before .before .before .before .before .lists-hold .ensures) (c .before .before .before .before .before .before .before .if1 .left)))) (a .args .values .now) _ (pass-gapless (a .args .masks .now) (a .args .value-offsets .now) (a .args .metas .now) _ (flag-on _ _ (c .before .before .before .before .before .compact-follow .ensures) (c .before .before .before .before .if3 .left))) (pass-compact (a .args .masks .now) (a .args .value-offsets .now) (a .args .metas .now) _ (flag-on _ _ (c .before .before .before .before .before .compact-follow .ensures) (c .before .before .before .before .if3 .left))) (c .before .if5 .left) _ (c .all-solid .ensures))
+    rules-counted _ _ (a .args .row-tile-ptr .now) (a .args .metas .now) (a .args .masks .now) (a .args .value-offsets .now) (a .args .values .now) _ (flag-on _ _ (c .before .before .before .before .before .before .before .before .lists-hold .ensures) (c .before .before .before .before .before .before .before .if1 .left)) (c .before .before .before .before .before .before .if2 .left) (flag-on _ _ (c .before .before .before .rows-hold .ensures) (c .before .before .if4 .left)) _ (compact-right (a .args .masks .now) (a .args .value-offsets .now) (a .args .metas .now) (c .before .before .before .before .before .before .if2 .left ∙ lists-sides _ _ _ _ (sym (flag-on _ _ (c .before .before .before .before .before .before .before .before .lists-hold .ensures) (c .before .before .before .before .before .before .before .if1 .left)))) (lists-sides _ _ _ _ (sym (flag-on _ _ (c .before .before .before .before .before .before .before .before .lists-hold .ensures) (c .before .before .before .before .before .before .before .if1 .left)))) (a .args .values .now) _ (pass-gapless (a .args .masks .now) (a .args .value-offsets .now) (a .args .metas .now) _ (flag-on _ _ (c .before .before .before .before .before .compact-follow .ensures) (c .before .before .before .before .if3 .left))) (pass-compact (a .args .masks .now) (a .args .value-offsets .now) (a .args .metas .now) _ (flag-on _ _ (c .before .before .before .before .before .compact-follow .ensures) (c .before .before .before .before .if3 .left))) (c .before .if5 .left) _ (c .count-solid .ensures))
 
 pub rules-hold-spec : {M : Type 1} → statement M
 rules-hold-spec =
@@ -66,5 +66,5 @@ rules-hold-spec =
     rows-hold-requires
     returns-4
     returns-5
-    all-solid-requires
+    count-solid-requires
     returns-6)

@@ -1,21 +1,23 @@
 -- `abtm_check::values_hold` meets its contract. Assumes nothing.
+use mathlib.Core.Path.{_≡_}
 use Prim.Native.Nat.{_-_}
 use native.Mathlib.Omega.{arith}
 use lib.ListN.{length}
 use Rattle.hybit_core.proofs.BoolLaws.{flag-on, flag-off}
-use Rattle.abtm_check.proofs.RunLaws.{Tested, tested-none, tested-compact, dense-before, dense-inside, dense-lent, run-fails, dense-fails, tested-dense, tested-inside, tested-done}
+use Rattle.topology.specs.Words.{setBits}
+use Rattle.abtm_check.proofs.RunLaws.{Tested, tested-none, tested-compact, dense-inside, dense-lent, dense-fails, tested-dense, tested-done}
 use borrow.Author.Needs.{needs}
 use Rattle.abtm_check.proofs.values_hold.Statement.{statement}
 use Rattle.abtm_check.proofs.values_hold.Tie as tie
 
 abbrev Inv-loop : tie.InvT-loop
-Inv-loop masks value-offsets metas values from₀ next₀ from next = Tested masks value-offsets metas values from next
+Inv-loop masks value-offsets metas values matrix-nnz next₀ next = Tested masks value-offsets metas values next × (matrix-nnz ≡ setBits masks)
 
 abbrev μ-loop : tie.MeasureT-loop
-μ-loop masks value-offsets metas values from₀ next₀ from next = length masks - next
+μ-loop masks value-offsets metas values matrix-nnz next₀ next = length masks - next
 
 loop-holds : tie.Need-loop-holds Inv-loop μ-loop
-loop-holds c = tested-none _ _ _ _ (c .before .before .before .before .pre .0 .0) (c .before .before .before .before .pre .0 .1) (c .before .before .before .before .pre .1)
+loop-holds c = let pre = c .before .before .before .before .pre in (tested-none _ _ _ _ (pre .0 .0) (pre .0 .1) (pre .1 .0), pre .1 .1)
 
 add-next : tie.Need-add-next Inv-loop μ-loop
 add-next c = search needs
@@ -38,115 +40,68 @@ shared-slice-read-wide c = search needs
 wide-requires : tie.Need-wide-requires Inv-loop μ-loop
 wide-requires c κs = search needs
 
-mul-all-solid : tie.Need-mul-all-solid Inv-loop μ-loop
-mul-all-solid c =
-    let l = c .before .before .before .before .before .before in
-    omega (arith, dense-before _ _ _ _ _ _ (l .loop .inv) (search needs) _ (c .before .before .before .kind-in .ensures) (c .before .before .if1 .taken) _ (c .wide .ensures), dense-inside _ _ _ _ _ _ (l .loop .inv) (search needs) _ (c .before .before .before .kind-in .ensures) (c .before .before .if1 .taken) _ (c .wide .ensures))
+mul-absent-hold : tie.Need-mul-absent-hold Inv-loop μ-loop
+mul-absent-hold c = search needs
 
-sub-all-solid : tie.Need-sub-all-solid Inv-loop μ-loop
-sub-all-solid c =
-    let l = c .before .before .before .before .before .before in
-    omega (arith, dense-before _ _ _ _ _ _ (l .loop .inv) (search needs) _ (c .before .before .before .kind-in .ensures) (c .before .before .if1 .taken) _ (c .wide .ensures))
+shared-slice-read-absent-hold : tie.Need-shared-slice-read-absent-hold Inv-loop μ-loop
+shared-slice-read-absent-hold c = search needs
 
-part-all-solid-start : tie.Need-part-all-solid-start Inv-loop μ-loop
-part-all-solid-start c =
-    let l = c .before .before .before .before .before .before in
-    dense-before _ _ _ _ _ _ (l .loop .inv) (search needs) _ (c .before .before .before .kind-in .ensures) (c .before .before .if1 .taken) _ (c .wide .ensures)
+add-absent-hold : tie.Need-add-absent-hold Inv-loop μ-loop
+add-absent-hold c =
+    let w = c .before in
+    let l = c .before .before .before .before .before .before .before in
+    omega (arith, dense-inside _ _ _ _ _ (l .loop .inv .0) (search needs) _ (w .before .before .before .kind-in .ensures) (w .before .before .if1 .taken) _ (w .wide .ensures))
 
-part-all-solid-end : tie.Need-part-all-solid-end Inv-loop μ-loop
-part-all-solid-end c =
-    let l = c .before .before .before .before .before .before in
-    omega (arith, dense-inside _ _ _ _ _ _ (l .loop .inv) (search needs) _ (c .before .before .before .kind-in .ensures) (c .before .before .if1 .taken) _ (c .wide .ensures))
+mul-absent-hold-2 : tie.Need-mul-absent-hold-2 Inv-loop μ-loop
+mul-absent-hold-2 c =
+    let w = c .before in
+    let l = c .before .before .before .before .before .before .before in
+    omega (arith, dense-inside _ _ _ _ _ (l .loop .inv .0) (search needs) _ (w .before .before .before .kind-in .ensures) (w .before .before .if1 .taken) _ (w .wide .ensures))
 
-all-solid-requires : tie.Need-all-solid-requires Inv-loop μ-loop
-all-solid-requires c κs = search needs
+sub-absent-hold : tie.Need-sub-absent-hold Inv-loop μ-loop
+sub-absent-hold c = search needs
+
+part-absent-hold-start : tie.Need-part-absent-hold-start Inv-loop μ-loop
+part-absent-hold-start c = search needs
+
+part-absent-hold-end : tie.Need-part-absent-hold-end Inv-loop μ-loop
+part-absent-hold-end c =
+    let w = c .before in
+    let l = c .before .before .before .before .before .before .before in
+    dense-inside _ _ _ _ _ (l .loop .inv .0) (search needs) _ (w .before .before .before .kind-in .ensures) (w .before .before .if1 .taken) _ (w .wide .ensures)
+
+absent-hold-requires : tie.Need-absent-hold-requires Inv-loop μ-loop
+absent-hold-requires c κs =
+    let w = c .before .before in
+    let l = c .before .before .before .before .before .before .before .before in
+    dense-lent _ _ _ _ _ (l .loop .inv .0) (search needs) _ (w .before .before .before .kind-in .ensures) (w .before .before .if1 .taken) _ (w .wide .ensures)
 
 returns : tie.Need-returns Inv-loop μ-loop
 returns c =
-    let w = c .before .before .before in
-    let l = c .before .before .before .before .before .before .before .before .before in
-    run-fails _ _ _ _ _ _ (l .loop .inv) (search needs) _ (w .before .before .before .kind-in .ensures) (w .before .before .if1 .taken) _ (w .wide .ensures) (flag-off _ _ (c .before .all-solid .ensures) (c .if2 .taken))
-
-mul-dense-holds : tie.Need-mul-dense-holds Inv-loop μ-loop
-mul-dense-holds c = search needs
-
-shared-slice-read-dense-holds : tie.Need-shared-slice-read-dense-holds Inv-loop μ-loop
-shared-slice-read-dense-holds c = search needs
-
-add-dense-holds : tie.Need-add-dense-holds Inv-loop μ-loop
-add-dense-holds c =
     let w = c .before .before .before .before in
     let l = c .before .before .before .before .before .before .before .before .before .before in
-    omega (arith, dense-inside _ _ _ _ _ _ (l .loop .inv) (search needs) _ (w .before .before .before .kind-in .ensures) (w .before .before .if1 .taken) _ (w .wide .ensures))
-
-mul-dense-holds-2 : tie.Need-mul-dense-holds-2 Inv-loop μ-loop
-mul-dense-holds-2 c =
-    let w = c .before .before .before .before in
-    let l = c .before .before .before .before .before .before .before .before .before .before in
-    omega (arith, dense-inside _ _ _ _ _ _ (l .loop .inv) (search needs) _ (w .before .before .before .kind-in .ensures) (w .before .before .if1 .taken) _ (w .wide .ensures))
-
-sub-dense-holds : tie.Need-sub-dense-holds Inv-loop μ-loop
-sub-dense-holds c = search needs
-
-part-dense-holds-start : tie.Need-part-dense-holds-start Inv-loop μ-loop
-part-dense-holds-start c = search needs
-
-part-dense-holds-end : tie.Need-part-dense-holds-end Inv-loop μ-loop
-part-dense-holds-end c =
-    let w = c .before .before .before .before in
-    let l = c .before .before .before .before .before .before .before .before .before .before in
-    dense-inside _ _ _ _ _ _ (l .loop .inv) (search needs) _ (w .before .before .before .kind-in .ensures) (w .before .before .if1 .taken) _ (w .wide .ensures)
-
-dense-holds-requires : tie.Need-dense-holds-requires Inv-loop μ-loop
-dense-holds-requires c κs =
-    let w = c .before .before .before .before .before in
-    let l = c .before .before .before .before .before .before .before .before .before .before .before in
-    dense-lent _ _ _ _ _ _ (l .loop .inv) (search needs) _ (w .before .before .before .kind-in .ensures) (w .before .before .if1 .taken) _ (w .wide .ensures)
-
-returns-2 : tie.Need-returns-2 Inv-loop μ-loop
-returns-2 c =
-    let w = c .before .before .before .before .before .before .before in
-    let l = c .before .before .before .before .before .before .before .before .before .before .before .before .before in
-    dense-fails _ _ _ _ _ _ (l .loop .inv) (search needs) _ (w .before .before .before .kind-in .ensures) (w .before .before .if1 .taken) _ (w .wide .ensures) (flag-off _ _ (c .before .dense-holds .ensures) (c .if3 .taken))
-
-add-from : tie.Need-add-from Inv-loop μ-loop
-add-from c =
-    let w = c .before .before .before .before .before .before .before in
-    let l = c .before .before .before .before .before .before .before .before .before .before .before .before .before in
-    omega (arith, dense-inside _ _ _ _ _ _ (l .loop .inv) (search needs) _ (w .before .before .before .kind-in .ensures) (w .before .before .if1 .taken) _ (w .wide .ensures))
+    dense-fails _ _ _ _ _ (l .loop .inv .0) (search needs) _ (w .before .before .before .kind-in .ensures) (w .before .before .if1 .taken) _ (w .wide .ensures) (flag-off _ _ (c .before .absent-hold .ensures) (c .if2 .taken))
 
 loop-less : tie.Need-loop-less Inv-loop μ-loop
 loop-less c = search needs
 
 loop-again : tie.Need-loop-again Inv-loop μ-loop
 loop-again c =
-    let w = c .before .before .before .before .before .before .before in
-    let l = c .before .before .before .before .before .before .before .before .before .before .before .before .before in
-    tested-dense _ _ _ _ _ _ (l .loop .inv) (search needs) _ (w .before .before .before .kind-in .ensures) (w .before .before .if1 .taken) _ (w .wide .ensures) (flag-on _ _ (c .before .before .before .before .before .all-solid .ensures) (c .before .before .before .before .if2 .left)) (flag-on _ _ (c .before .dense-holds .ensures) (c .if3 .left))
+    let w = c .before .before .before .before in
+    let l = c .before .before .before .before .before .before .before .before .before .before in
+    (tested-dense _ _ _ _ _ (l .loop .inv .0) (search needs) _ (w .before .before .before .kind-in .ensures) (w .before .before .if1 .taken) _ (w .wide .ensures) (flag-on _ _ (c .before .absent-hold .ensures) (c .if2 .left)), l .loop .inv .1)
 
 loop-less-2 : tie.Need-loop-less-2 Inv-loop μ-loop
 loop-less-2 c = search needs
 
 loop-again-2 : tie.Need-loop-again-2 Inv-loop μ-loop
-loop-again-2 c = tested-compact _ _ _ _ _ _ (c .before .before .before .before .loop .inv) (search needs) _ (c .before .kind-in .ensures) (c .if1 .left)
+loop-again-2 c = let l = c .before .before .before .before in (tested-compact _ _ _ _ _ (l .loop .inv .0) (search needs) _ (c .before .kind-in .ensures) (c .if1 .left), l .loop .inv .1)
 
-mul-all-solid-2 : tie.Need-mul-all-solid-2 Inv-loop μ-loop
-mul-all-solid-2 c = omega (arith, tested-inside _ _ _ _ _ _ (c .before .loop .inv))
+count-solid-requires : tie.Need-count-solid-requires Inv-loop μ-loop
+count-solid-requires c κs = search needs
 
-sub-all-solid-2 : tie.Need-sub-all-solid-2 Inv-loop μ-loop
-sub-all-solid-2 c = omega (arith, tested-inside _ _ _ _ _ _ (c .before .loop .inv))
-
-part-all-solid-start-2 : tie.Need-part-all-solid-start-2 Inv-loop μ-loop
-part-all-solid-start-2 c = tested-inside _ _ _ _ _ _ (c .before .loop .inv)
-
-part-all-solid-end-2 : tie.Need-part-all-solid-end-2 Inv-loop μ-loop
-part-all-solid-end-2 c = search needs
-
-all-solid-requires-2 : tie.Need-all-solid-requires-2 Inv-loop μ-loop
-all-solid-requires-2 c κs = search needs
-
-returns-3 : tie.Need-returns-3 Inv-loop μ-loop
-returns-3 c = tested-done _ _ _ _ _ _ (c .before .before .before .loop .inv) (search needs) _ (c .all-solid2 .ensures)
+returns-2 : tie.Need-returns-2 Inv-loop μ-loop
+returns-2 c = let l = c .before .before in tested-done _ _ _ _ _ (l .loop .inv .0) (search needs) _ _ (c .count-solid .ensures) (l .loop .inv .1)
 
 pub values-hold-spec : {M : Type 1} → statement M
 values-hold-spec =
@@ -162,29 +117,18 @@ values-hold-spec =
     mul-wide
     shared-slice-read-wide
     wide-requires
-    mul-all-solid
-    sub-all-solid
-    part-all-solid-start
-    part-all-solid-end
-    all-solid-requires
+    mul-absent-hold
+    shared-slice-read-absent-hold
+    add-absent-hold
+    mul-absent-hold-2
+    sub-absent-hold
+    part-absent-hold-start
+    part-absent-hold-end
+    absent-hold-requires
     returns
-    mul-dense-holds
-    shared-slice-read-dense-holds
-    add-dense-holds
-    mul-dense-holds-2
-    sub-dense-holds
-    part-dense-holds-start
-    part-dense-holds-end
-    dense-holds-requires
-    returns-2
-    add-from
     loop-less
     loop-again
     loop-less-2
     loop-again-2
-    mul-all-solid-2
-    sub-all-solid-2
-    part-all-solid-start-2
-    part-all-solid-end-2
-    all-solid-requires-2
-    returns-3)
+    count-solid-requires
+    returns-2)

@@ -1,7 +1,6 @@
 pub mod MetaLaws
 pub mod TilesLaws
 pub mod ValueLaws
-pub mod PassLaws
 pub mod DenseLaws
 pub mod SlotLaws
 pub mod OffsetLaws

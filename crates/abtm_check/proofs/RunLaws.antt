@@ -21,7 +21,7 @@ use Rattle.topology.proofs.ScanLaws.{bits-append, bits-one}
 use Rattle.abtm.specs.Values.{solid, plusZero}
 use Rattle.abtm.specs.Tiles.{Listed, kindIn, isDense, places, slotCount, stored, valueRule, tileAt, tileRule, gapless, slotRules}
 use Rattle.abtm.proofs.KindLaws.{dense-count, compact-places}
-use Rattle.abtm_check.proofs.PassLaws.{all-pass, pass-all, count-only}
+use Rattle.word.proofs.PassLaws.{all-pass, pass-all, count-only}
 use Rattle.abtm_check.proofs.ValueLaws.{plus-not-solid}
 use Rattle.abtm_check.proofs.DenseLaws.{of-absent, counts-say, says-counts, counts-le}
 use Rattle.abtm_check.proofs.TilesLaws.{listed, none-listed, gapless-le}

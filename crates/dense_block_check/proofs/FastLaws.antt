@@ -1,19 +1,18 @@
 -- Blocks wholly inside the frame: counted in a list of block columns, and in the full block rows, which are the list's front.
 -- Assumes nothing.
-use mathlib.Core.Bool.{Bool, true, false}
-use mathlib.Core.List.{List, [], _∷_}
-use mathlib.Core.Path.{_≡_, refl, sym, ap, _∙_}
+use mathlib.Core.Bool.{Bool, true}
+use mathlib.Core.List.{List}
+use mathlib.Core.Path.{_≡_, sym, ap, _∙_}
 use mir.Val.{boolByte}
 use Prim.Native.Nat.{ℕ, _+_, _*_, _/_, _^_, _≤_, _<_}
 use native.Mathlib.Nat.{le-refl, mul-le-mul-right}
-use native.Mathlib.Numerals.{add-one}
 use native.Mathlib.Omega.{arith}
 use lib.Dec.{leb}
-use lib.ListN.{length, getD, take, length-append}
+use lib.ListN.{length, getD, take}
 use lib.Ieee.{Float}
-use lib.Seq.{take-suc, take-all, take-at}
-use Rattle.lent.specs.Lists.{joined, part, consIf, only}
-use Rattle.lent.proofs.ListLaws.{joined-split, only-append, only-joined}
+use lib.Seq.{take-at}
+use Rattle.lent.specs.Lists.{joined, part, only}
+use Rattle.lent.proofs.ListLaws.{joined-split, only-joined}
 use Rattle.word.proofs.BelowLaws.{byte-le}
 use Rattle.csr32.specs.Csr.{framed}
 use Rattle.csr32.proofs.FrameLaws.{Framed, framed-facts, parts-all, parts-length}
@@ -39,40 +38,6 @@ full-row B6 n = omega arith
 
 pub one-small : (k : ℕ) (t : Bool) → k ≡ boolByte t → k ≤ 1
 one-small k t e = omega (arith, byte-le t)
-
--- ---- of the first i elements, n pass
-
-pub record Passing (p : ℕ → Bool) (l : List ℕ) (i n : ℕ) : Type 0 where
-  pub few : n ≤ i
-  pub is : n ≡ length (only p (take i l))
-
-module _ (p : ℕ → Bool) (l : List ℕ) where
-  pub passing-none : Passing p l 0 0
-  unfolding only
-  passing-none = record { few = le-refl 0; is = refl }
-
-  one : (a : ℕ) → length (only p (a ∷ [])) ≡ boolByte (p a)
-  unfolding only
-  one a = go (p a)
-    where
-      go : (t : Bool) → length (consIf t a []) ≡ boolByte t
-      go true = refl
-      go false = refl
-
-  module _ (i n : ℕ) (inv : Passing p l i n) where
-    pub passing-more : (k : ℕ) → i < length l → k ≡ boolByte (p (getD l i 0)) → Passing p l (i + 1) (n + k)
-    passing-more k h e =
-        let a : ℕ = getD l i 0 in
-        let next : length (only p (take (i + 1) l)) ≡ length (only p (take i l)) + boolByte (p a) =
-        ap (λ (j : ℕ). length (only p (take j l))) (add-one i)
-        ∙ ap (λ (s : List ℕ). length (only p s)) (take-suc l i 0 h)
-        ∙ ap length (only-append p (take i l) (a ∷ []))
-        ∙ length-append (only p (take i l)) (only p (a ∷ []))
-        ∙ ap (λ (j : ℕ). length (only p (take i l)) + j) (one a) in
-        record { few = omega (arith, inv .few, byte-le (p a)); is = omega (arith, inv .is) }
-
-    pub passing-done : length l ≤ i → n ≡ length (only p l)
-    passing-done h = inv .is ∙ ap (λ (s : List ℕ). length (only p s)) (take-all i l h)
 
 -- ---- the rows before row k are the list's front
 

@@ -2,6 +2,7 @@ pub mod BelowLaws
 pub mod HasLaws
 pub mod BitLaws
 pub mod CountLaws
+pub mod PassLaws
 pub mod LowestLaws
 pub mod WordLaws
 pub mod OpLaws

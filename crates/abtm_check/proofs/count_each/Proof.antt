@@ -4,7 +4,7 @@ use native.Mathlib.Omega.{arith}
 use lib.Ieee.{nan}
 use lib.ListN.{length}
 use Rattle.abtm.specs.Values.{solid}
-use Rattle.abtm_check.proofs.PassLaws.{Passing, passing-none, passing-more, passing-done}
+use Rattle.word.proofs.PassLaws.{Passing, passing-none, passing-more, passing-done}
 use borrow.Author.Needs.{needs}
 use Rattle.abtm_check.proofs.count_each.Statement.{statement}
 use Rattle.abtm_check.proofs.count_each.Tie as tie

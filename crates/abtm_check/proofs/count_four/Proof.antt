@@ -4,7 +4,7 @@ use native.Mathlib.Omega.{arith}
 use lib.Ieee.{nan}
 use lib.ListN.{length}
 use Rattle.abtm.specs.Values.{solid}
-use Rattle.abtm_check.proofs.PassLaws.{FourPassing, passing-none, passing-more, passing-done}
+use Rattle.word.proofs.PassLaws.{FourPassing, passing-none, passing-more, passing-done}
 use borrow.Author.Needs.{needs}
 use Rattle.abtm_check.proofs.count_four.Statement.{statement}
 use Rattle.abtm_check.proofs.count_four.Tie as tie
@@ -100,11 +100,13 @@ add-result-3 c = let inv = c .before .loop .inv in omega (arith, inv .inside, in
 returns : tie.Need-returns Inv-loop μ-loop
 returns c =
     let inv = c .before .loop .inv in
-    omega (arith,
-    passing-done _ _ _ _ (inv .first) (omega arith),
-    passing-done _ _ _ _ (inv .second) (omega (arith, inv .second-long)),
-    passing-done _ _ _ _ (inv .third) (omega (arith, inv .third-long)),
-    passing-done _ _ _ _ (inv .fourth) (omega (arith, inv .fourth-long)))
+    omega (
+      arith,
+      passing-done _ _ _ _ (inv .first) (omega arith),
+      passing-done _ _ _ _ (inv .second) (omega (arith, inv .second-long)),
+      passing-done _ _ _ _ (inv .third) (omega (arith, inv .third-long)),
+      passing-done _ _ _ _ (inv .fourth) (omega (arith, inv .fourth-long)),
+    )
 
 pub count-four-spec : {M : Type 1} → statement M
 count-four-spec =

@@ -6,7 +6,7 @@ use lib.ListN.{length}
 use Rattle.abtm.specs.Values.{solid}
 use Rattle.lent.specs.Lists.{only}
 use Rattle.lent.proofs.ListLaws.{length-only}
-use Rattle.abtm_check.proofs.PassLaws.{quarters}
+use Rattle.word.proofs.PassLaws.{quarters}
 use borrow.Author.Needs.{needs}
 use Rattle.abtm_check.proofs.count_solid.Statement.{statement}
 use Rattle.abtm_check.proofs.count_solid.Tie as tie

@@ -5,7 +5,8 @@ use Prim.Native.Nat.{ℕ, _+_, _-_, _*_}
 use native.Mathlib.Omega.{arith}
 use lib.Dec.{leb}
 use lib.ListN.{length}
-use Rattle.dense_block_check.proofs.FastLaws.{column-fits, one-small, Passing, passing-none, passing-more, passing-done}
+use Rattle.word.proofs.PassLaws.{Passing, passing-none, passing-more, passing-done}
+use Rattle.dense_block_check.proofs.FastLaws.{column-fits, one-small}
 use borrow.Author.Needs.{needs}
 use Rattle.dense_block_check.proofs.count_full.Statement.{statement}
 use Rattle.dense_block_check.proofs.count_full.Tie as tie
@@ -51,7 +52,7 @@ loop-less c = search needs
 loop-again : tie.Need-loop-again Inv-loop μ-loop
 loop-again c =
     let a = c .before .before .before .before .before .before .args in
-    passing-more _ _ _ _ (c .before .before .before .before .loop .inv) _ (search needs) (c .one-if .ensures ∙ ap (λ (k : ℕ). boolByte (leb (a .width * k + a .width) (a .ncols))) (c .before .wide .ensures))
+    passing-more _ _ _ _ (c .before .before .before .before .loop .inv) 0 _ (search needs) (c .one-if .ensures ∙ ap (λ (k : ℕ). boolByte (leb (a .width * k + a .width) (a .ncols))) (c .before .wide .ensures))
 
 returns : tie.Need-returns Inv-loop μ-loop
 returns c = passing-done _ _ _ _ (c .before .loop .inv) (search needs)

@@ -108,9 +108,11 @@ module _ {A : Type 0} (l : List A) where
         → length (only p l) ≡ length (only p (take (q - 0) (drop 0 l))) + length (only p (take (2 * q - q) (drop q l))) + length (only p (take (3 * q - 2 * q) (drop (2 * q) l))) + length (only p (take (4 * q - 3 * q) (drop (3 * q) l))) + length (only p (take (length l - 4 * q) (drop (4 * q) l)))
     quarters q h =
         let last : take (length l - 4 * q) (drop (4 * q) l) ≡ drop (4 * q) l = take-all (length l - 4 * q) (drop (4 * q) l) (omega (arith, length-drop (4 * q) l)) in
-        omega (arith,
-        part-apart 0 q (omega arith),
-        part-apart q (2 * q) (omega arith),
-        part-apart (2 * q) (3 * q) (omega arith),
-        part-apart (3 * q) (4 * q) (omega arith),
-        ap (λ (t : List A). length (only p t)) last)
+        omega (
+          arith,
+          part-apart 0 q (omega arith),
+          part-apart q (2 * q) (omega arith),
+          part-apart (2 * q) (3 * q) (omega arith),
+          part-apart (3 * q) (4 * q) (omega arith),
+          ap (λ (t : List A). length (only p t)) last,
+        )

@@ -2,17 +2,18 @@
 use mathlib.Core.Bool.{Bool, true, false, not, _&&_}
 use mathlib.Core.List.{List}
 use mathlib.Core.Path.{_≡_, refl, sym, ap, _∙_}
-use Prim.Native.Nat.{ℕ, _+_, _%_, _^_, _≤_, _<_}
+use Prim.Native.Nat.{ℕ, _+_, _-_, _*_, _%_, _^_, _≤_, _<_}
 use native.Mathlib.Nat.{mod-eq-of-lt}
 use native.Mathlib.Numerals.{add-one}
 use native.Mathlib.Omega.{arith}
 use lib.Dec.{leb, ltb}
-use lib.ListN.{length, getD, drop, drop-of-length-le}
+use lib.ListN.{length, getD, take, drop, drop-of-length-le}
 use lib.Seq.{drop-cons}
 use borrow.Author.Tests.{leb-true, not-false}
 use Rattle.hybit_core.specs.Domain.{few, many, sizesFit}
 use Rattle.hybit_core.proofs.BoolLaws.{and-left, and-right}
 use Rattle.lent.specs.Lists.{every, rises}
+use Rattle.lent.proofs.ListLaws.{every-join, drop-apart, drop-rest}
 
 -- one place more: its test t is joined to the flag
 flag-step : (whole f t g rest : Bool) → whole ≡ (f && (t && rest)) → g ≡ (f && t) → whole ≡ (g && rest)
@@ -41,6 +42,42 @@ module _ {A : Type 0} (p : A → Bool) (l : List A) where
     pub passed-done : length l ≤ i → f ≡ every p l
     unfolding every
     passed-done h = flag-all (every p l) f (inv .is ∙ rw drop-of-length-le)
+
+-- ---- every element of four lists of one length passes
+
+pub record FourPassed {A : Type 0} (p : A → Bool) (l m n o : List A) (i : ℕ) (a b c d : Bool) : Type 0 where
+  pub second-long : length m ≡ length l
+  pub third-long : length n ≡ length l
+  pub fourth-long : length o ≡ length l
+  pub first : Passed p l i a
+  pub second : Passed p m i b
+  pub third : Passed p n i c
+  pub fourth : Passed p o i d
+
+-- four quarters of a list, and the few elements after them
+module _ {A : Type 0} (p : A → Bool) (l : List A) where
+  part-passes : (a b : ℕ) → a ≤ b → every p (drop a l) ≡ (every p (take (b - a) (drop a l)) && every p (drop b l))
+  part-passes a b h = ap (every p) (drop-apart a b l h) ∙ every-join p (take (b - a) (drop a l)) (drop b l)
+
+  pub quarters-pass : (q : ℕ) → 4 * q ≤ length l
+      → ((((every p (take (q - 0) (drop 0 l)) && every p (take (2 * q - q) (drop q l))) && every p (take (3 * q - 2 * q) (drop (2 * q) l))) && every p (take (4 * q - 3 * q) (drop (3 * q) l))) && every p (take (length l - 4 * q) (drop (4 * q) l))) ≡ every p l
+  quarters-pass q h =
+      let a : Bool = every p (take (q - 0) (drop 0 l)) in
+      let b : Bool = every p (take (2 * q - q) (drop q l)) in
+      let c : Bool = every p (take (3 * q - 2 * q) (drop (2 * q) l)) in
+      let d : Bool = every p (take (4 * q - 3 * q) (drop (3 * q) l)) in
+      ap (λ (t : List A). (((a && b) && c) && d) && every p t) (drop-rest (4 * q) l)
+      ∙ turned a b c d (every p (drop (4 * q) l))
+      ∙ sym (part-passes 0 q (omega arith)
+      ∙ ap (λ (t : Bool). a && t) (part-passes q (2 * q) (omega arith)
+      ∙ ap (λ (t : Bool). b && t) (part-passes (2 * q) (3 * q) (omega arith)
+      ∙ ap (λ (t : Bool). c && t) (part-passes (3 * q) (4 * q) (omega arith)))))
+    where
+      turned : (a b c d e : Bool) → ((((a && b) && c) && d) && e) ≡ (a && (b && (c && (d && e))))
+      turned true true true d e = refl
+      turned true true false d e = refl
+      turned true false c d e = refl
+      turned false b c d e = refl
 
 -- ---- no element is below the one before it: a is the one before what is left
 

@@ -2,6 +2,7 @@
 ghost use mathlib.Core.Path.{_≡_};
 ghost use mathlib.Core.Bool.{true, _&&_};
 ghost use lib.Dec.{ltb};
+ghost use lib.ListN.{length};
 ghost use Rattle.hybit_core.specs.Answer.{answers};
 ghost use Rattle.hybit_core.specs.Domain.{few};
 ghost use Rattle.hybit_core.specs.Floats.{finite};
@@ -84,8 +85,7 @@ fn columns_inside(col_idx: &[u32], ncols: usize) -> bool
     columns_below(col_idx, hybit_core::narrow(ncols))
 }
 
-// Whether every value is finite, for any list: stores ask it of theirs.
-pub fn all_finite(values: &[f64]) -> bool
+fn each_finite(values: &[f64]) -> bool
     ensures { λ r. ⌜ r ≡ every finite (now (values .entry)) ⌝ }
 {
     let mut good = true;
@@ -95,6 +95,41 @@ pub fn all_finite(values: &[f64]) -> bool
         i += 1;
     }
     good
+}
+
+// Whether every value of four lists of one length is finite.
+fn four_finite(first: &[f64], second: &[f64], third: &[f64], fourth: &[f64]) -> bool
+    requires { ⌜ (length (now second) ≡ length (now first)) × (length (now third) ≡ length (now first)) × (length (now fourth) ≡ length (now first)) ⌝ }
+    ensures { λ r. ⌜ r ≡ (((every finite (now (first .entry)) && every finite (now (second .entry))) && every finite (now (third .entry))) && every finite (now (fourth .entry))) ⌝ }
+{
+    let mut a = true;
+    let mut b = true;
+    let mut c = true;
+    let mut d = true;
+    let mut i: usize = 0;
+    while i < first.len() {
+        a = both(a, hybit_core::is_finite(first[i]));
+        b = both(b, hybit_core::is_finite(second[i]));
+        c = both(c, hybit_core::is_finite(third[i]));
+        d = both(d, hybit_core::is_finite(fourth[i]));
+        i += 1;
+    }
+    both(both(both(a, b), c), d)
+}
+
+// Whether every value is finite, for any list: stores ask it of theirs. Four parts are read side by side: memory serves four streams
+// better than one.
+pub fn all_finite(values: &[f64]) -> bool
+    ensures { λ r. ⌜ r ≡ every finite (now (values .entry)) ⌝ }
+{
+    let q = values.len() / 4;
+    let most = four_finite(
+        &values[0..q],
+        &values[q..2 * q],
+        &values[2 * q..3 * q],
+        &values[3 * q..4 * q],
+    );
+    both(most, each_finite(&values[4 * q..]))
 }
 
 // The Rust's `new` and `validate`.

@@ -8,8 +8,8 @@ use native.Mathlib.Numerals.{add-one}
 use native.Mathlib.Decide.{le-ind, decLt}
 use native.Mathlib.Omega.{arith}
 use lib.Dec.{leb, eqb}
-use lib.ListN.{length, getD, take, drop, set, replicate, length-set, length-replicate, drop-of-length-le, length-append, List·getD-append}
-use lib.Seq.{ext-getD, getD-set-same, getD-set-other, drop-cons, slice, take-at, drop-at, getD-append-add}
+use lib.ListN.{length, getD, take, drop, set, replicate, length-set, length-replicate, length-drop, take-append-drop, drop-of-length-le, length-append, List·getD-append}
+use lib.Seq.{ext-getD, getD-set-same, getD-set-other, drop-cons, drop-drop, slice, take-all, take-at, drop-at, getD-append-add}
 use borrow.Author.Tests.{eqb-true, eq-eqb}
 use Rattle.hybit_core.proofs.BoolLaws.{and-left, and-right, and-both}
 use Rattle.lent.specs.Lists.{joined, each, starts, part, consIf, only, every, some, rises, spread}
@@ -205,6 +205,15 @@ unfolding part
 every-part p ptr l r e = every-drop p (getD ptr r 0) (take (getD ptr (r + 1) 0) l) (every-take p (getD ptr (r + 1) 0) l e)
 
 -- the places from a up to b, as a part of a lent list has them
+-- what follows place a: up to place b, and from there on
+pub drop-apart : {A : Type 0} (a b : ℕ) (l : List A) → a ≤ b → drop a l ≡ take (b - a) (drop a l) ++ drop b l
+drop-apart {A} a b l h =
+    let end : a + (b - a) ≡ b = omega arith in
+    sym (take-append-drop (b - a) (drop a l)) ∙ ap (λ (t : List A). take (b - a) (drop a l) ++ t) (drop-drop (b - a) a l ∙ ap (λ (j : ℕ). drop j l) end)
+
+pub drop-rest : {A : Type 0} (a : ℕ) (l : List A) → take (length l - a) (drop a l) ≡ drop a l
+drop-rest a l = take-all (length l - a) (drop a l) (omega (arith, length-drop a l))
+
 pub slice-lent : {A : Type 0} (a b : ℕ) (l : List A) → take (b - a) (drop a l) ≡ slice a b l
 slice-lent zero b l = ap (λ (n : ℕ). take n l) (sub-zero b)
 slice-lent (suc a) zero l = let e : 0 - suc a ≡ 0 = omega arith in ap (λ (n : ℕ). take n (drop (suc a) l)) e

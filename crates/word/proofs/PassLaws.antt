@@ -1,17 +1,17 @@
 -- How many elements of a list pass a test, counted one after the other. Assumes nothing.
 use mathlib.Core.Bool.{Bool, true, false, _&&_, false≢true}
-use mathlib.Core.List.{List, [], _∷_, _++_}
+use mathlib.Core.List.{List, [], _∷_}
 use mathlib.Core.Path.{_≡_, refl, sym, ap, _∙_}
 use mir.Val.{boolByte}
 use Prim.Native.Nat.{ℕ, zero, suc, _+_, _-_, _*_, _≤_, _<_}
 use native.Mathlib.Nat.{le-refl}
 use native.Mathlib.Numerals.{add-one}
 use native.Mathlib.Omega.{arith}
-use lib.ListN.{length, getD, take, drop, length-append, length-drop, take-append-drop}
-use lib.Seq.{take-suc, take-all, length-take-le, drop-drop}
+use lib.ListN.{length, getD, take, drop, length-append}
+use lib.Seq.{take-suc, take-all}
 use Rattle.hybit_core.proofs.BoolLaws.{and-right}
 use Rattle.lent.specs.Lists.{consIf, only, every}
-use Rattle.lent.proofs.ListLaws.{only-append, length-only}
+use Rattle.lent.proofs.ListLaws.{only-append, length-only, drop-apart, drop-rest}
 use Rattle.word.specs.Bits.{count}
 use Rattle.word.proofs.BelowLaws.{byte-le, below-zero, length-below-suc}
 
@@ -92,27 +92,21 @@ pub record FourPassing {A : Type 0} (p : A → Bool) (l m n o : List A) (i a b c
 
 -- ---- four quarters of a list, and the few elements after them
 
-module _ {A : Type 0} (l : List A) where
-  pub quarter-long : (a b : ℕ) → a ≤ b → b ≤ length l → length (take (b - a) (drop a l)) ≡ b - a
-  quarter-long a b h k = length-take-le (b - a) (drop a l) (omega (arith, length-drop a l))
+module _ {A : Type 0} (l : List A) (p : A → Bool) where
+  part-apart : (a b : ℕ) → a ≤ b → length (only p (drop a l)) ≡ length (only p (take (b - a) (drop a l))) + length (only p (drop b l))
+  part-apart a b h =
+      ap (λ (t : List A). length (only p t)) (drop-apart a b l h)
+      ∙ ap length (only-append p (take (b - a) (drop a l)) (drop b l))
+      ∙ length-append (only p (take (b - a) (drop a l))) (only p (drop b l))
 
-  module _ (p : A → Bool) where
-    part-apart : (a b : ℕ) → a ≤ b → length (only p (drop a l)) ≡ length (only p (take (b - a) (drop a l))) + length (only p (drop b l))
-    part-apart a b h =
-        let end : a + (b - a) ≡ b = omega arith in
-        ap (λ (t : List A). length (only p t)) (sym (take-append-drop (b - a) (drop a l)) ∙ ap (λ (t : List A). take (b - a) (drop a l) ++ t) (drop-drop (b - a) a l ∙ ap (λ (j : ℕ). drop j l) end))
-        ∙ ap length (only-append p (take (b - a) (drop a l)) (drop b l))
-        ∙ length-append (only p (take (b - a) (drop a l))) (only p (drop b l))
-
-    pub quarters : (q : ℕ) → 4 * q ≤ length l
-        → length (only p l) ≡ length (only p (take (q - 0) (drop 0 l))) + length (only p (take (2 * q - q) (drop q l))) + length (only p (take (3 * q - 2 * q) (drop (2 * q) l))) + length (only p (take (4 * q - 3 * q) (drop (3 * q) l))) + length (only p (take (length l - 4 * q) (drop (4 * q) l)))
-    quarters q h =
-        let last : take (length l - 4 * q) (drop (4 * q) l) ≡ drop (4 * q) l = take-all (length l - 4 * q) (drop (4 * q) l) (omega (arith, length-drop (4 * q) l)) in
-        omega (
-          arith,
-          part-apart 0 q (omega arith),
-          part-apart q (2 * q) (omega arith),
-          part-apart (2 * q) (3 * q) (omega arith),
-          part-apart (3 * q) (4 * q) (omega arith),
-          ap (λ (t : List A). length (only p t)) last,
-        )
+  pub quarters : (q : ℕ) → 4 * q ≤ length l
+      → length (only p l) ≡ length (only p (take (q - 0) (drop 0 l))) + length (only p (take (2 * q - q) (drop q l))) + length (only p (take (3 * q - 2 * q) (drop (2 * q) l))) + length (only p (take (4 * q - 3 * q) (drop (3 * q) l))) + length (only p (take (length l - 4 * q) (drop (4 * q) l)))
+  quarters q h =
+      omega (
+        arith,
+        part-apart 0 q (omega arith),
+        part-apart q (2 * q) (omega arith),
+        part-apart (2 * q) (3 * q) (omega arith),
+        part-apart (3 * q) (4 * q) (omega arith),
+        ap (λ (t : List A). length (only p t)) (drop-rest (4 * q) l),
+      )

@@ -42,11 +42,15 @@ addBlock b x r s p =
     (cond (leb (w * getD (b .col) p 0 + w) (b .cols)) (add binary64 s (asOne ts)) (termByTerm s ts))
     (add binary64 s (termByTerm zero64 ts))
 
+-- row r's number s after the blocks from one place up to another
+unfoldable pub addedBlocks : Blocks → List Float → ℕ → Float → ℕ → ℕ → Float
+addedBlocks b x r s from to = foldl (addBlock b x r) s (between (λ p. true) from to)
+
 -- the number of row r: over the blocks of its block row, from 0.0
 unfoldable pub blockSum : Blocks → List Float → ℕ → Float
 blockSum b x r =
     let R = r / b .width in
-    foldl (addBlock b x r) zero64 (between (λ p. true) (getD (b .ptr) R 0) (getD (b .ptr) (R + 1) 0))
+    addedBlocks b x r zero64 (getD (b .ptr) R 0) (getD (b .ptr) (R + 1) 0)
 
 unfoldable pub blocksProduct : Blocks → List Float → List Float
 blocksProduct b x = each (blockSum b x) (b .rows)

@@ -3,14 +3,14 @@ ghost use mathlib.Core.Path.{_≡_};
 ghost use mathlib.Core.Bool.{cond, _&&_};
 ghost use Prim.Native.Nat.{_+_, _-_, _*_, _/_, _≤_, _<_, _^_};
 ghost use lib.Dec.{ltb};
-ghost use lib.ListN.{length, getD, take};
+ghost use lib.ListN.{length, getD, take, set};
 ghost use lib.Ieee.{nan, binary64, add};
 ghost use Rattle.hybit_core.specs.Answer.{accepted};
 ghost use Rattle.hybit_core.specs.Table.{told};
 ghost use Rattle.lent.specs.Lists.{each};
 ghost use Rattle.lent.specs.Lent.{kept};
 ghost use Rattle.dense_block.specs.Blocks.{widthOf, asBlocks};
-ghost use Rattle.dense_block_apply.specs.Product.{products, termByTerm, asOne, blockSum, blocksProduct, applyBlocksAnswer};
+ghost use Rattle.dense_block_apply.specs.Product.{products, termByTerm, asOne, addedBlocks, blockSum, blocksProduct, applyBlocksAnswer};
 use dense_block::DenseBlockSize;
 use hybit_core::HybitError;
 use hybit_core::Verdict;
@@ -127,8 +127,8 @@ fn fast_end(width: usize, ncols: usize, col_idx: &[u32], start: usize, end: usiz
     end
 }
 
-// The three rows of full block row `row` of accepted blocks.
-fn full_row3(
+// The three rows of full block row `row` of accepted blocks: the blocks from place `from` on are added to `sums`.
+fn add_blocks3(
     nrows: usize,
     ncols: usize,
     row_ptr: &[u32],
@@ -136,29 +136,37 @@ fn full_row3(
     values: &[f64],
     x: &[f64],
     row: usize,
+    from: usize,
+    sums: [f64; 3],
 ) -> [f64; 3]
-    requires { ⌜ applyBlocksAnswer (asBlocks nrows ncols 3 (now «row_ptr») (now «col_idx») (now values)) (now x) nrows ≡ accepted ⌝ ∗ ⌜ 3 * row + 3 ≤ nrows ⌝ }
-    ensures { λ r. ⌜ r ≡ each (λ i. blockSum (asBlocks nrows ncols 3 (now («row_ptr» .entry)) (now («col_idx» .entry)) (now (values .entry))) (now (x .entry)) (3 * row + i)) 3 ⌝ }
+    requires { ⌜ applyBlocksAnswer (asBlocks nrows ncols 3 (now «row_ptr») (now «col_idx») (now values)) (now x) nrows ≡ accepted ⌝ ∗ ⌜ 3 * row + 3 ≤ nrows ⌝ ∗ ⌜ (getD (now «row_ptr») row 0 ≤ from) × (from ≤ getD (now «row_ptr») (row + 1) 0) ⌝ }
+    ensures { λ r. ⌜ r ≡ each (λ i. addedBlocks (asBlocks nrows ncols 3 (now («row_ptr» .entry)) (now («col_idx» .entry)) (now (values .entry))) (now (x .entry)) (3 * row + i) (getD sums i nan) from (getD (now («row_ptr» .entry)) (row + 1) 0)) 3 ⌝ }
 {
-    let start = hybit_core::wide(row_ptr[row]);
     let end = hybit_core::wide(row_ptr[row + 1]);
-    let fast = fast_end(3, ncols, col_idx, start, end);
-    let mut sums = [0.0f64; 3];
-    let mut p = start;
+    let fast = fast_end(3, ncols, col_idx, from, end);
+    let mut all = sums;
+    let mut p = from;
     while p < fast {
-        let full = add_full3(sums, values, 9 * p, x, 3 * hybit_core::wide(col_idx[p]));
-        sums = full;
+        let full = add_full3(all, values, 9 * p, x, 3 * hybit_core::wide(col_idx[p]));
+        all = full;
         p += 1;
     }
     if p == end {
-        return sums;
+        return all;
     }
     let col = 3 * hybit_core::wide(col_idx[p]);
-    add_tail3(sums, ncols - col, values, 9 * p, x, col)
+    add_tail3(all, ncols - col, values, 9 * p, x, col)
 }
 
-// The six rows of full block row `row`.
-fn full_row6(
+// The three rows of two full block rows.
+struct Two3 {
+    first: [f64; 3],
+    second: [f64; 3],
+}
+
+// The full block rows `row` and `other`, side by side as far as the shorter one's full blocks go: rows far from each other are read as
+// two long streams, which memory serves better than one.
+fn two_rows3(
     nrows: usize,
     ncols: usize,
     row_ptr: &[u32],
@@ -166,28 +174,174 @@ fn full_row6(
     values: &[f64],
     x: &[f64],
     row: usize,
-) -> [f64; 6]
-    requires { ⌜ applyBlocksAnswer (asBlocks nrows ncols 6 (now «row_ptr») (now «col_idx») (now values)) (now x) nrows ≡ accepted ⌝ ∗ ⌜ 6 * row + 6 ≤ nrows ⌝ }
-    ensures { λ r. ⌜ r ≡ each (λ i. blockSum (asBlocks nrows ncols 6 (now («row_ptr» .entry)) (now («col_idx» .entry)) (now (values .entry))) (now (x .entry)) (6 * row + i)) 6 ⌝ }
+    other: usize,
+) -> Two3
+    requires { ⌜ applyBlocksAnswer (asBlocks nrows ncols 3 (now «row_ptr») (now «col_idx») (now values)) (now x) nrows ≡ accepted ⌝ ∗ ⌜ (3 * row + 3 ≤ nrows) × (3 * other + 3 ≤ nrows) ⌝ }
+    ensures { λ s. ⌜ (s .first ≡ each (λ i. blockSum (asBlocks nrows ncols 3 (now («row_ptr» .entry)) (now («col_idx» .entry)) (now (values .entry))) (now (x .entry)) (3 * row + i)) 3) × (s .second ≡ each (λ i. blockSum (asBlocks nrows ncols 3 (now («row_ptr» .entry)) (now («col_idx» .entry)) (now (values .entry))) (now (x .entry)) (3 * other + i)) 3) ⌝ }
 {
-    let start = hybit_core::wide(row_ptr[row]);
+    let a = hybit_core::wide(row_ptr[row]);
+    let a_fast = fast_end(3, ncols, col_idx, a, hybit_core::wide(row_ptr[row + 1]));
+    let b = hybit_core::wide(row_ptr[other]);
+    let b_fast = fast_end(3, ncols, col_idx, b, hybit_core::wide(row_ptr[other + 1]));
+    let n = hybit_core::smaller(a_fast - a, b_fast - b);
+    let mut first = [0.0f64; 3];
+    let mut second = [0.0f64; 3];
+    let mut i: usize = 0;
+    while i < n {
+        let one = add_full3(
+            first,
+            values,
+            9 * (a + i),
+            x,
+            3 * hybit_core::wide(col_idx[a + i]),
+        );
+        first = one;
+        let two = add_full3(
+            second,
+            values,
+            9 * (b + i),
+            x,
+            3 * hybit_core::wide(col_idx[b + i]),
+        );
+        second = two;
+        i += 1;
+    }
+    Two3 {
+        first: add_blocks3(nrows, ncols, row_ptr, col_idx, values, x, row, a + i, first),
+        second: add_blocks3(
+            nrows,
+            ncols,
+            row_ptr,
+            col_idx,
+            values,
+            x,
+            other,
+            b + i,
+            second,
+        ),
+    }
+}
+
+// The six rows of full block row `row` of accepted blocks: the blocks from place `from` on are added to `sums`.
+fn add_blocks6(
+    nrows: usize,
+    ncols: usize,
+    row_ptr: &[u32],
+    col_idx: &[u32],
+    values: &[f64],
+    x: &[f64],
+    row: usize,
+    from: usize,
+    sums: [f64; 6],
+) -> [f64; 6]
+    requires { ⌜ applyBlocksAnswer (asBlocks nrows ncols 6 (now «row_ptr») (now «col_idx») (now values)) (now x) nrows ≡ accepted ⌝ ∗ ⌜ 6 * row + 6 ≤ nrows ⌝ ∗ ⌜ (getD (now «row_ptr») row 0 ≤ from) × (from ≤ getD (now «row_ptr») (row + 1) 0) ⌝ }
+    ensures { λ r. ⌜ r ≡ each (λ i. addedBlocks (asBlocks nrows ncols 6 (now («row_ptr» .entry)) (now («col_idx» .entry)) (now (values .entry))) (now (x .entry)) (6 * row + i) (getD sums i nan) from (getD (now («row_ptr» .entry)) (row + 1) 0)) 6 ⌝ }
+{
     let end = hybit_core::wide(row_ptr[row + 1]);
-    let fast = fast_end(6, ncols, col_idx, start, end);
-    let mut sums = [0.0f64; 6];
-    let mut p = start;
+    let fast = fast_end(6, ncols, col_idx, from, end);
+    let mut all = sums;
+    let mut p = from;
     while p < fast {
-        let full = add_full6(sums, values, 36 * p, x, 6 * hybit_core::wide(col_idx[p]));
-        sums = full;
+        let full = add_full6(all, values, 36 * p, x, 6 * hybit_core::wide(col_idx[p]));
+        all = full;
         p += 1;
     }
     if p == end {
-        return sums;
+        return all;
     }
     let col = 6 * hybit_core::wide(col_idx[p]);
-    add_tail6(sums, ncols - col, values, 36 * p, x, col)
+    add_tail6(all, ncols - col, values, 36 * p, x, col)
 }
 
-// The rows of accepted blocks of width 3, the full block rows first.
+// The six rows of two full block rows.
+struct Two6 {
+    first: [f64; 6],
+    second: [f64; 6],
+}
+
+// The full block rows `row` and `other`, side by side as far as the shorter one's full blocks go: rows far from each other are read as
+// two long streams, which memory serves better than one.
+fn two_rows6(
+    nrows: usize,
+    ncols: usize,
+    row_ptr: &[u32],
+    col_idx: &[u32],
+    values: &[f64],
+    x: &[f64],
+    row: usize,
+    other: usize,
+) -> Two6
+    requires { ⌜ applyBlocksAnswer (asBlocks nrows ncols 6 (now «row_ptr») (now «col_idx») (now values)) (now x) nrows ≡ accepted ⌝ ∗ ⌜ (6 * row + 6 ≤ nrows) × (6 * other + 6 ≤ nrows) ⌝ }
+    ensures { λ s. ⌜ (s .first ≡ each (λ i. blockSum (asBlocks nrows ncols 6 (now («row_ptr» .entry)) (now («col_idx» .entry)) (now (values .entry))) (now (x .entry)) (6 * row + i)) 6) × (s .second ≡ each (λ i. blockSum (asBlocks nrows ncols 6 (now («row_ptr» .entry)) (now («col_idx» .entry)) (now (values .entry))) (now (x .entry)) (6 * other + i)) 6) ⌝ }
+{
+    let a = hybit_core::wide(row_ptr[row]);
+    let a_fast = fast_end(6, ncols, col_idx, a, hybit_core::wide(row_ptr[row + 1]));
+    let b = hybit_core::wide(row_ptr[other]);
+    let b_fast = fast_end(6, ncols, col_idx, b, hybit_core::wide(row_ptr[other + 1]));
+    let n = hybit_core::smaller(a_fast - a, b_fast - b);
+    let mut first = [0.0f64; 6];
+    let mut second = [0.0f64; 6];
+    let mut i: usize = 0;
+    while i < n {
+        let one = add_full6(
+            first,
+            values,
+            36 * (a + i),
+            x,
+            6 * hybit_core::wide(col_idx[a + i]),
+        );
+        first = one;
+        let two = add_full6(
+            second,
+            values,
+            36 * (b + i),
+            x,
+            6 * hybit_core::wide(col_idx[b + i]),
+        );
+        second = two;
+        i += 1;
+    }
+    Two6 {
+        first: add_blocks6(nrows, ncols, row_ptr, col_idx, values, x, row, a + i, first),
+        second: add_blocks6(
+            nrows,
+            ncols,
+            row_ptr,
+            col_idx,
+            values,
+            x,
+            other,
+            b + i,
+            second,
+        ),
+    }
+}
+
+// Writes the three rows of a full block row.
+fn write3(sums: [f64; 3], at: usize, y: &mut [f64])
+    requires { ⌜ at + 3 ≤ length (now y) ⌝ ∗ ⌜ at ≤ 2 ^ 20 ⌝ }
+    ensures { λ _. ⌜ now (y .exit) ≡ set (set (set (now (y .entry)) at (getD sums 0 nan)) (at + 1) (getD sums 1 nan)) (at + 2) (getD sums 2 nan) ⌝ }
+{
+    y[at] = sums[0];
+    y[at + 1] = sums[1];
+    y[at + 2] = sums[2];
+}
+
+// Writes the six rows of a full block row.
+fn write6(sums: [f64; 6], at: usize, y: &mut [f64])
+    requires { ⌜ at + 6 ≤ length (now y) ⌝ ∗ ⌜ at ≤ 2 ^ 20 ⌝ }
+    ensures { λ _. ⌜ now (y .exit) ≡ set (set (set (set (set (set (now (y .entry)) at (getD sums 0 nan)) (at + 1) (getD sums 1 nan)) (at + 2) (getD sums 2 nan)) (at + 3) (getD sums 3 nan)) (at + 4) (getD sums 4 nan)) (at + 5) (getD sums 5 nan) ⌝ }
+{
+    y[at] = sums[0];
+    y[at + 1] = sums[1];
+    y[at + 2] = sums[2];
+    y[at + 3] = sums[3];
+    y[at + 4] = sums[4];
+    y[at + 5] = sums[5];
+}
+
+// The rows of accepted blocks of width 3, the full block rows first, those of the two halves side by side. Where the second half is
+// the shorter one, its last row is made again.
 fn apply3(
     nrows: usize,
     ncols: usize,
@@ -201,13 +355,13 @@ fn apply3(
     ensures { λ _. ⌜ now (y .exit) ≡ blocksProduct (asBlocks nrows ncols 3 (now («row_ptr» .entry)) (now («col_idx» .entry)) (now (values .entry))) (now (x .entry)) ⌝ }
 {
     let full = nrows / 3;
+    let half = (full + 1) / 2;
     let mut row: usize = 0;
-    while row < full {
-        let sums = full_row3(nrows, ncols, row_ptr, col_idx, values, x, row);
-        let at = 3 * row;
-        y[at] = sums[0];
-        y[at + 1] = sums[1];
-        y[at + 2] = sums[2];
+    while row < half {
+        let other = hybit_core::smaller(row + half, full - 1);
+        let sums = two_rows3(nrows, ncols, row_ptr, col_idx, values, x, row, other);
+        write3(sums.first, 3 * row, y);
+        write3(sums.second, 3 * other, y);
         row += 1;
     }
     apply_partial_last_row(
@@ -236,16 +390,13 @@ fn apply6(
     ensures { λ _. ⌜ now (y .exit) ≡ blocksProduct (asBlocks nrows ncols 6 (now («row_ptr» .entry)) (now («col_idx» .entry)) (now (values .entry))) (now (x .entry)) ⌝ }
 {
     let full = nrows / 6;
+    let half = (full + 1) / 2;
     let mut row: usize = 0;
-    while row < full {
-        let sums = full_row6(nrows, ncols, row_ptr, col_idx, values, x, row);
-        let at = 6 * row;
-        y[at] = sums[0];
-        y[at + 1] = sums[1];
-        y[at + 2] = sums[2];
-        y[at + 3] = sums[3];
-        y[at + 4] = sums[4];
-        y[at + 5] = sums[5];
+    while row < half {
+        let other = hybit_core::smaller(row + half, full - 1);
+        let sums = two_rows6(nrows, ncols, row_ptr, col_idx, values, x, row, other);
+        write6(sums.first, 6 * row, y);
+        write6(sums.second, 6 * other, y);
         row += 1;
     }
     apply_partial_last_row(

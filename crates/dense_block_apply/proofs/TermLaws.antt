@@ -64,3 +64,8 @@ module _ (f : Float → ℕ → Float) (sums : List Float) (v : ℕ) where
       → (a ∷ b ∷ c ∷ d ∷ e ∷ g ∷ []) ≡ each (λ i. f (getD sums i nan) (v + 6 * i)) 6
   unfolding each joined
   six-rows a b c d e g p q r s t u = rw (p, q, r, s, t, u, add-zero v)
+
+-- the first column of a full block by its block column, which the code has as k
+pub full-column : (w : ℕ) (vals x sums : List Float) (v k C : ℕ) → k ≡ C
+    → each (λ i. add binary64 (getD sums i nan) (asOne (products vals x (v + w * i) (w * k) w))) w ≡ each (λ i. add binary64 (getD sums i nan) (asOne (products vals x (v + w * i) (w * C) w))) w
+full-column w vals x sums v k C e = ap (λ (n : ℕ). each (λ i. add binary64 (getD sums i nan) (asOne (products vals x (v + w * i) (w * n) w))) w) e

@@ -1,8 +1,6 @@
 // dense_block.rs: `LinearOperator::apply` of `DenseBlockCsrOperator`, the product of blocks. Each value is read once.
 ghost use mathlib.Core.Path.{_≡_};
-ghost use mathlib.Core.Bool.{cond, _&&_};
 ghost use Prim.Native.Nat.{_+_, _-_, _*_, _/_, _≤_, _<_, _^_};
-ghost use lib.Dec.{ltb};
 ghost use lib.ListN.{length, getD, take, set};
 ghost use lib.Ieee.{nan, binary64, add};
 ghost use Rattle.hybit_core.specs.Answer.{accepted};
@@ -10,7 +8,7 @@ ghost use Rattle.hybit_core.specs.Table.{told};
 ghost use Rattle.lent.specs.Lists.{each};
 ghost use Rattle.lent.specs.Lent.{kept};
 ghost use Rattle.dense_block.specs.Blocks.{widthOf, asBlocks};
-ghost use Rattle.dense_block_apply.specs.Product.{products, termByTerm, asOne, addedBlocks, blockSum, blocksProduct, applyBlocksAnswer};
+ghost use Rattle.dense_block_apply.specs.Product.{products, termByTerm, asOne, FullBlock, fastEnd, addedBlocks, blockSum, blocksProduct, applyBlocksAnswer};
 use dense_block::DenseBlockSize;
 use hybit_core::HybitError;
 use hybit_core::Verdict;
@@ -51,10 +49,12 @@ fn add_terms(start: f64, count: usize, values: &[f64], at: usize, x: &[f64], col
 }
 
 // The three rows of a full block row after a full block more.
-fn add_full3(sums: [f64; 3], values: &[f64], at: usize, x: &[f64], col: usize) -> [f64; 3]
-    requires { ⌜ at + 9 ≤ length (now values) ⌝ ∗ ⌜ col + 3 ≤ length (now x) ⌝ ∗ ⌜ (at ≤ 2 ^ 39) × (col ≤ 2 ^ 39) ⌝ }
-    ensures { λ r. ⌜ r ≡ each (λ i. add binary64 (getD sums i nan) (asOne (products (now (values .entry)) (now (x .entry)) (at + 3 * i) col 3))) 3 ⌝ }
+fn add_full3(sums: [f64; 3], col_idx: &[u32], values: &[f64], x: &[f64], p: usize) -> [f64; 3]
+    requires { ⌜ FullBlock 3 (now «col_idx») (now values) (now x) p ⌝ }
+    ensures { λ r. ⌜ r ≡ each (λ i. add binary64 (getD sums i nan) (asOne (products (now (values .entry)) (now (x .entry)) (9 * p + 3 * i) (3 * getD (now («col_idx» .entry)) p 0) 3))) 3 ⌝ }
 {
+    let at = 9 * p;
+    let col = 3 * hybit_core::wide(col_idx[p]);
     let a = sums[0] + three(values, at, x, col);
     let b = sums[1] + three(values, at + 3, x, col);
     let c = sums[2] + three(values, at + 6, x, col);
@@ -62,10 +62,12 @@ fn add_full3(sums: [f64; 3], values: &[f64], at: usize, x: &[f64], col: usize) -
 }
 
 // The same of six rows.
-fn add_full6(sums: [f64; 6], values: &[f64], at: usize, x: &[f64], col: usize) -> [f64; 6]
-    requires { ⌜ at + 36 ≤ length (now values) ⌝ ∗ ⌜ col + 6 ≤ length (now x) ⌝ ∗ ⌜ (at ≤ 2 ^ 39) × (col ≤ 2 ^ 39) ⌝ }
-    ensures { λ r. ⌜ r ≡ each (λ i. add binary64 (getD sums i nan) (asOne (products (now (values .entry)) (now (x .entry)) (at + 6 * i) col 6))) 6 ⌝ }
+fn add_full6(sums: [f64; 6], col_idx: &[u32], values: &[f64], x: &[f64], p: usize) -> [f64; 6]
+    requires { ⌜ FullBlock 6 (now «col_idx») (now values) (now x) p ⌝ }
+    ensures { λ r. ⌜ r ≡ each (λ i. add binary64 (getD sums i nan) (asOne (products (now (values .entry)) (now (x .entry)) (36 * p + 6 * i) (6 * getD (now («col_idx» .entry)) p 0) 6))) 6 ⌝ }
 {
+    let at = 36 * p;
+    let col = 6 * hybit_core::wide(col_idx[p]);
     let a = sums[0] + six(values, at, x, col);
     let b = sums[1] + six(values, at + 6, x, col);
     let c = sums[2] + six(values, at + 12, x, col);
@@ -117,7 +119,7 @@ fn add_tail6(
 // Where the full blocks of a row end: of rising block columns only the last can reach past the frame.
 fn fast_end(width: usize, ncols: usize, col_idx: &[u32], start: usize, end: usize) -> usize
     requires { ⌜ (start ≤ end) × (end ≤ length (now «col_idx»)) ⌝ ∗ ⌜ width ≤ 6 ⌝ }
-    ensures { λ r. ⌜ r ≡ cond (ltb start end && ltb ncols (width * getD (now («col_idx» .entry)) (end - 1) 0 + width)) (end - 1) end ⌝ }
+    ensures { λ r. ⌜ r ≡ fastEnd width ncols (now («col_idx» .entry)) start end ⌝ }
 {
     if start < end {
         if width * hybit_core::wide(col_idx[end - 1]) + width > ncols {
@@ -125,6 +127,22 @@ fn fast_end(width: usize, ncols: usize, col_idx: &[u32], start: usize, end: usiz
         }
     }
     end
+}
+
+fn pointer(row_ptr: &[u32], row: usize) -> usize
+    requires { ⌜ row < length (now «row_ptr») ⌝ }
+    ensures { λ r. ⌜ r ≡ getD (now («row_ptr» .entry)) row 0 ⌝ }
+{
+    hybit_core::wide(row_ptr[row])
+}
+
+// How many full blocks a block row starts with.
+fn full_count(width: usize, ncols: usize, row_ptr: &[u32], col_idx: &[u32], row: usize) -> usize
+    requires { ⌜ (row + 1 < length (now «row_ptr»)) × (getD (now «row_ptr») row 0 ≤ getD (now «row_ptr») (row + 1) 0) × (getD (now «row_ptr») (row + 1) 0 ≤ length (now «col_idx»)) ⌝ ∗ ⌜ width ≤ 6 ⌝ }
+    ensures { λ r. ⌜ getD (now («row_ptr» .entry)) row 0 + r ≡ fastEnd width ncols (now («col_idx» .entry)) (getD (now («row_ptr» .entry)) row 0) (getD (now («row_ptr» .entry)) (row + 1) 0) ⌝ }
+{
+    let start = pointer(row_ptr, row);
+    fast_end(width, ncols, col_idx, start, pointer(row_ptr, row + 1)) - start
 }
 
 // The three rows of full block row `row` of accepted blocks: the blocks from place `from` on are added to `sums`.
@@ -142,12 +160,12 @@ fn add_blocks3(
     requires { ⌜ applyBlocksAnswer (asBlocks nrows ncols 3 (now «row_ptr») (now «col_idx») (now values)) (now x) nrows ≡ accepted ⌝ ∗ ⌜ 3 * row + 3 ≤ nrows ⌝ ∗ ⌜ (getD (now «row_ptr») row 0 ≤ from) × (from ≤ getD (now «row_ptr») (row + 1) 0) ⌝ }
     ensures { λ r. ⌜ r ≡ each (λ i. addedBlocks (asBlocks nrows ncols 3 (now («row_ptr» .entry)) (now («col_idx» .entry)) (now (values .entry))) (now (x .entry)) (3 * row + i) (getD sums i nan) from (getD (now («row_ptr» .entry)) (row + 1) 0)) 3 ⌝ }
 {
-    let end = hybit_core::wide(row_ptr[row + 1]);
+    let end = pointer(row_ptr, row + 1);
     let fast = fast_end(3, ncols, col_idx, from, end);
     let mut all = sums;
     let mut p = from;
     while p < fast {
-        let full = add_full3(all, values, 9 * p, x, 3 * hybit_core::wide(col_idx[p]));
+        let full = add_full3(all, col_idx, values, x, p);
         all = full;
         p += 1;
     }
@@ -179,46 +197,37 @@ fn two_rows3(
     requires { ⌜ applyBlocksAnswer (asBlocks nrows ncols 3 (now «row_ptr») (now «col_idx») (now values)) (now x) nrows ≡ accepted ⌝ ∗ ⌜ (3 * row + 3 ≤ nrows) × (3 * other + 3 ≤ nrows) ⌝ }
     ensures { λ s. ⌜ (s .first ≡ each (λ i. blockSum (asBlocks nrows ncols 3 (now («row_ptr» .entry)) (now («col_idx» .entry)) (now (values .entry))) (now (x .entry)) (3 * row + i)) 3) × (s .second ≡ each (λ i. blockSum (asBlocks nrows ncols 3 (now («row_ptr» .entry)) (now («col_idx» .entry)) (now (values .entry))) (now (x .entry)) (3 * other + i)) 3) ⌝ }
 {
-    let a = hybit_core::wide(row_ptr[row]);
-    let a_fast = fast_end(3, ncols, col_idx, a, hybit_core::wide(row_ptr[row + 1]));
-    let b = hybit_core::wide(row_ptr[other]);
-    let b_fast = fast_end(3, ncols, col_idx, b, hybit_core::wide(row_ptr[other + 1]));
-    let n = hybit_core::smaller(a_fast - a, b_fast - b);
+    let a = pointer(row_ptr, row);
+    let b = pointer(row_ptr, other);
+    let n = hybit_core::smaller(
+        full_count(3, ncols, row_ptr, col_idx, row),
+        full_count(3, ncols, row_ptr, col_idx, other),
+    );
     let mut first = [0.0f64; 3];
     let mut second = [0.0f64; 3];
     let mut i: usize = 0;
     while i < n {
-        let one = add_full3(
-            first,
-            values,
-            9 * (a + i),
-            x,
-            3 * hybit_core::wide(col_idx[a + i]),
-        );
+        let one = add_full3(first, col_idx, values, x, a + i);
         first = one;
-        let two = add_full3(
-            second,
-            values,
-            9 * (b + i),
-            x,
-            3 * hybit_core::wide(col_idx[b + i]),
-        );
+        let two = add_full3(second, col_idx, values, x, b + i);
         second = two;
         i += 1;
     }
+    let one = add_blocks3(nrows, ncols, row_ptr, col_idx, values, x, row, a + i, first);
+    let two = add_blocks3(
+        nrows,
+        ncols,
+        row_ptr,
+        col_idx,
+        values,
+        x,
+        other,
+        b + i,
+        second,
+    );
     Two3 {
-        first: add_blocks3(nrows, ncols, row_ptr, col_idx, values, x, row, a + i, first),
-        second: add_blocks3(
-            nrows,
-            ncols,
-            row_ptr,
-            col_idx,
-            values,
-            x,
-            other,
-            b + i,
-            second,
-        ),
+        first: one,
+        second: two,
     }
 }
 
@@ -237,12 +246,12 @@ fn add_blocks6(
     requires { ⌜ applyBlocksAnswer (asBlocks nrows ncols 6 (now «row_ptr») (now «col_idx») (now values)) (now x) nrows ≡ accepted ⌝ ∗ ⌜ 6 * row + 6 ≤ nrows ⌝ ∗ ⌜ (getD (now «row_ptr») row 0 ≤ from) × (from ≤ getD (now «row_ptr») (row + 1) 0) ⌝ }
     ensures { λ r. ⌜ r ≡ each (λ i. addedBlocks (asBlocks nrows ncols 6 (now («row_ptr» .entry)) (now («col_idx» .entry)) (now (values .entry))) (now (x .entry)) (6 * row + i) (getD sums i nan) from (getD (now («row_ptr» .entry)) (row + 1) 0)) 6 ⌝ }
 {
-    let end = hybit_core::wide(row_ptr[row + 1]);
+    let end = pointer(row_ptr, row + 1);
     let fast = fast_end(6, ncols, col_idx, from, end);
     let mut all = sums;
     let mut p = from;
     while p < fast {
-        let full = add_full6(all, values, 36 * p, x, 6 * hybit_core::wide(col_idx[p]));
+        let full = add_full6(all, col_idx, values, x, p);
         all = full;
         p += 1;
     }
@@ -274,46 +283,37 @@ fn two_rows6(
     requires { ⌜ applyBlocksAnswer (asBlocks nrows ncols 6 (now «row_ptr») (now «col_idx») (now values)) (now x) nrows ≡ accepted ⌝ ∗ ⌜ (6 * row + 6 ≤ nrows) × (6 * other + 6 ≤ nrows) ⌝ }
     ensures { λ s. ⌜ (s .first ≡ each (λ i. blockSum (asBlocks nrows ncols 6 (now («row_ptr» .entry)) (now («col_idx» .entry)) (now (values .entry))) (now (x .entry)) (6 * row + i)) 6) × (s .second ≡ each (λ i. blockSum (asBlocks nrows ncols 6 (now («row_ptr» .entry)) (now («col_idx» .entry)) (now (values .entry))) (now (x .entry)) (6 * other + i)) 6) ⌝ }
 {
-    let a = hybit_core::wide(row_ptr[row]);
-    let a_fast = fast_end(6, ncols, col_idx, a, hybit_core::wide(row_ptr[row + 1]));
-    let b = hybit_core::wide(row_ptr[other]);
-    let b_fast = fast_end(6, ncols, col_idx, b, hybit_core::wide(row_ptr[other + 1]));
-    let n = hybit_core::smaller(a_fast - a, b_fast - b);
+    let a = pointer(row_ptr, row);
+    let b = pointer(row_ptr, other);
+    let n = hybit_core::smaller(
+        full_count(6, ncols, row_ptr, col_idx, row),
+        full_count(6, ncols, row_ptr, col_idx, other),
+    );
     let mut first = [0.0f64; 6];
     let mut second = [0.0f64; 6];
     let mut i: usize = 0;
     while i < n {
-        let one = add_full6(
-            first,
-            values,
-            36 * (a + i),
-            x,
-            6 * hybit_core::wide(col_idx[a + i]),
-        );
+        let one = add_full6(first, col_idx, values, x, a + i);
         first = one;
-        let two = add_full6(
-            second,
-            values,
-            36 * (b + i),
-            x,
-            6 * hybit_core::wide(col_idx[b + i]),
-        );
+        let two = add_full6(second, col_idx, values, x, b + i);
         second = two;
         i += 1;
     }
+    let one = add_blocks6(nrows, ncols, row_ptr, col_idx, values, x, row, a + i, first);
+    let two = add_blocks6(
+        nrows,
+        ncols,
+        row_ptr,
+        col_idx,
+        values,
+        x,
+        other,
+        b + i,
+        second,
+    );
     Two6 {
-        first: add_blocks6(nrows, ncols, row_ptr, col_idx, values, x, row, a + i, first),
-        second: add_blocks6(
-            nrows,
-            ncols,
-            row_ptr,
-            col_idx,
-            values,
-            x,
-            other,
-            b + i,
-            second,
-        ),
+        first: one,
+        second: two,
     }
 }
 
@@ -360,8 +360,10 @@ fn apply3(
     while row < half {
         let other = hybit_core::smaller(row + half, full - 1);
         let sums = two_rows3(nrows, ncols, row_ptr, col_idx, values, x, row, other);
-        write3(sums.first, 3 * row, y);
-        write3(sums.second, 3 * other, y);
+        let first = sums.first;
+        let second = sums.second;
+        write3(first, 3 * row, y);
+        write3(second, 3 * other, y);
         row += 1;
     }
     apply_partial_last_row(
@@ -395,8 +397,10 @@ fn apply6(
     while row < half {
         let other = hybit_core::smaller(row + half, full - 1);
         let sums = two_rows6(nrows, ncols, row_ptr, col_idx, values, x, row, other);
-        write6(sums.first, 6 * row, y);
-        write6(sums.second, 6 * other, y);
+        let first = sums.first;
+        let second = sums.second;
+        write6(first, 6 * row, y);
+        write6(second, 6 * other, y);
         row += 1;
     }
     apply_partial_last_row(
@@ -428,9 +432,9 @@ fn partial_sum(
     let width = size.width();
     let last = size.full_blocks(nrows);
     let local_row = row - width * last;
-    let end = hybit_core::wide(row_ptr[last + 1]);
+    let end = pointer(row_ptr, last + 1);
     let mut sum: f64 = 0.0;
-    let mut p = hybit_core::wide(row_ptr[last]);
+    let mut p = pointer(row_ptr, last);
     while p < end {
         let col = width * hybit_core::wide(col_idx[p]);
         let at = p * (width * width) + width * local_row;

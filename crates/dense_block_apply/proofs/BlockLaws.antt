@@ -34,6 +34,13 @@ fits-within h k = omega arith
 pub fits-forty : {a : ℕ} → a ≤ 2 ^ 40 → Fits w64 a
 fits-forty h = omega arith
 
+-- n is the smaller of two numbers
+pub smaller-left : (n k m : ℕ) → n ≡ min k m → n ≤ k
+smaller-left n k m e = omega arith
+
+pub smaller-right : (n k m : ℕ) → n ≡ min k m → n ≤ m
+smaller-right n k m e = omega arith
+
 -- ---- widths
 
 pub data Width : ℕ → Type 0 where
@@ -81,7 +88,7 @@ row-in-block : {w : ℕ} → Width w → (i : ℕ) → i < w → w * i + w ≤ w
 row-in-block three i h = omega arith
 row-in-block six i h = omega arith
 
-at-most-six : {w : ℕ} → Width w → w ≤ 6
+pub at-most-six : {w : ℕ} → Width w → w ≤ 6
 at-most-six three = omega arith
 at-most-six six = omega arith
 

@@ -1,13 +1,15 @@
 -- Sums over the blocks of a block row on the way: those of the rows of a full block row, and that of a row below them. Assumes nothing.
 use mathlib.Core.Bool.{true}
 use mathlib.Core.List.{List, [], _∷_, foldl, foldl-append}
-use mathlib.Core.Path.{_≡_, refl, sym, ap, ap₂, _∙_}
+use mathlib.Core.Path.{_≡_, refl, sym, ap, ap₂, subst, _∙_}
 use Prim.Native.Nat.{ℕ, min, _+_, _-_, _*_, _/_, _%_, _≤_, _<_}
-use native.Mathlib.Nat.{le-refl}
+use native.Mathlib.Nat.{le-refl, le-trans, add-zero}
 use native.Mathlib.Numerals.{add-one}
 use native.Mathlib.Omega.{arith}
 use lib.ListN.{getD}
 use lib.Ieee.{Float, nan, binary64, add}
+use mir.Syntax.{w64}
+use mir.Val.{Fits}
 use borrow.Author.Tests.{le-leb, lt-leb}
 use Rattle.hybit_core.specs.Floats.{zero64}
 use Rattle.lent.specs.Lists.{each}
@@ -15,9 +17,9 @@ use Rattle.lent.proofs.ListLaws.{getD-each, each-cong}
 use Rattle.word.specs.Bits.{between}
 use Rattle.word.proofs.BelowLaws.{between-split, between-none, between-cons}
 use Rattle.dense_block.specs.Blocks.{Blocks, inside}
-use Rattle.dense_block_apply.specs.Product.{products, termByTerm, asOne, blockTerms, addBlock, addedBlocks, blockSum}
-use Rattle.dense_block_apply.proofs.BlockLaws.{Row, row-is, LastRow, row-over, row-under, last-over, last-under, last-short}
-use Rattle.dense_block_apply.proofs.FullLaws.{Fast, TailPlace, tail-place}
+use Rattle.dense_block_apply.specs.Product.{products, termByTerm, asOne, FullBlock, fastEnd, blockTerms, addBlock, addedBlocks, blockSum}
+use Rattle.dense_block_apply.proofs.BlockLaws.{fits-forty, Ready, Row, full-row, row-is, row-small, LastRow, row-over, row-under, last-over, last-under, last-short}
+use Rattle.dense_block_apply.proofs.FullLaws.{Fast, fast-is, TailPlace, tail-place, full-block}
 
 -- ---- the places from a up to p
 
@@ -142,13 +144,66 @@ module _ (b : Blocks) (x : List Float) where
     sums-rest new e = e ∙ sums-more (getD (b .ptr) (R + 1) 0) (λ i t. addedBlocks b x (b .width * R + i) t p (getD (b .ptr) (R + 1) 0)) (rw (inv .row .ends) at sums-in) (λ i t k. refl)
 
   -- the whole row
-  pub sums-row : (R from to fast p : ℕ) (sums new : List Float) → Sums R (λ i. zero64) from to fast p sums → from ≡ getD (b .ptr) R 0
+  sums-row : (R from to fast p : ℕ) (sums new : List Float) → Sums R (λ i. zero64) from to fast p sums → from ≡ getD (b .ptr) R 0
       → new ≡ each (λ i. addedBlocks b x (b .width * R + i) (getD sums i nan) p (getD (b .ptr) (R + 1) 0)) (b .width)
       → new ≡ each (λ i. blockSum b x (b .width * R + i)) (b .width)
   sums-row R from to fast p sums new inv h e =
       sums-rest R (λ i. zero64) from to fast p sums inv new e
       ∙ each-cong (λ i. addedBlocks b x (b .width * R + i) zero64 from (getD (b .ptr) (R + 1) 0)) (λ i. blockSum b x (b .width * R + i)) (b .width)
       (λ i k. added-all (b .width * R + i) R from (getD (b .ptr) (R + 1) 0) (row-over (inv .row .ready .width) R i k) h refl)
+
+  -- ---- a full block row R beside another one: the first i of its blocks are added, of n that are full in both; a is where it starts
+
+  pub record Beside (R a n i : ℕ) (sums : List Float) : Type 0 where
+    pub to : ℕ
+    pub fast : ℕ
+    pub starts : a ≡ getD (b .ptr) R 0
+    pub reach : a + n ≤ fast
+    pub so-far : Sums R (λ k. zero64) a to fast (a + i) sums
+
+  -- count is how many full blocks the row starts with
+  pub beside-none : (R a n count : ℕ) (sums : List Float) → Ready b x → b .width * R + b .width ≤ b .rows → a ≡ getD (b .ptr) R 0
+      → getD (b .ptr) R 0 + count ≡ fastEnd (b .width) (b .cols) (b .col) (getD (b .ptr) R 0) (getD (b .ptr) (R + 1) 0)
+      → n ≤ count → sums ≡ each (λ k. zero64) (b .width) → Beside R a n 0 sums
+  beside-none R a n count sums k h p f l e =
+      let to : ℕ = getD (b .ptr) (R + 1) 0 in
+      let r : Row b x R a to = row-is k R a to (full-row k R h) p refl in
+      let g : a + count ≡ fastEnd (b .width) (b .cols) (b .col) a to = rw p f in
+      record {
+        to = to;
+        fast = a + count;
+        starts = p;
+        reach = omega arith;
+        so-far = sums-none R (λ k. zero64) a to (a + count) (a + 0) sums r h (fast-is r h (a + count) g) (add-zero a) e;
+      }
+
+  module _ (R a n i : ℕ) (sums : List Float) (inv : Beside R a n i sums) where
+    pub beside-fits : Fits w64 (a + i)
+    beside-fits = let h = row-small (inv .so-far .row) (a + i) (sums-in R (λ k. zero64) a (inv .to) (inv .fast) (a + i) sums (inv .so-far)) in fits-forty (omega arith)
+
+    pub beside-block : i < n → FullBlock (b .width) (b .col) (b .vals) x (a + i)
+    beside-block h = full-block (inv .so-far .row) (inv .so-far .ends) (a + i) (inv .so-far .after) (omega (arith, inv .reach))
+
+    -- v is the place of the block's first value as the code has it
+    pub beside-more : (v : ℕ) (new : List Float) → i < n → v ≡ (a + i) * (b .width * b .width)
+        → new ≡ each (λ j. add binary64 (getD sums j nan) (asOne (products (b .vals) x (v + b .width * j) (b .width * getD (b .col) (a + i) 0) (b .width)))) (b .width) → Beside R a n (i + 1) new
+    beside-more v new h ev e =
+        let next : a + i + 1 ≡ a + (i + 1) = omega arith in
+        record {
+          to = inv .to;
+          fast = inv .fast;
+          starts = inv .starts;
+          reach = inv .reach;
+          so-far = subst (λ (p : ℕ). Sums R (λ k. zero64) a (inv .to) (inv .fast) p new) next
+              (sums-full R (λ k. zero64) a (inv .to) (inv .fast) (a + i) sums (inv .so-far) v (b .width * getD (b .col) (a + i) 0) ev refl new (omega (arith, inv .reach)) e);
+        }
+
+    pub beside-place : (getD (b .ptr) R 0 ≤ a + i) × (a + i ≤ getD (b .ptr) (R + 1) 0)
+    beside-place = (le-trans (inv .so-far .row .starts) (inv .so-far .after), rw (inv .so-far .row .ends) at (sums-in R (λ k. zero64) a (inv .to) (inv .fast) (a + i) sums (inv .so-far)))
+
+    -- a callee adds the blocks that are left
+    pub beside-row : (new : List Float) → new ≡ each (λ j. addedBlocks b x (b .width * R + j) (getD sums j nan) (a + i) (getD (b .ptr) (R + 1) 0)) (b .width) → new ≡ each (λ j. blockSum b x (b .width * R + j)) (b .width)
+    beside-row new e = sums-row R a (inv .to) (inv .fast) (a + i) sums new (inv .so-far) (inv .starts) e
 
   -- ---- a row r below the full block rows: the blocks up to place p are added
 

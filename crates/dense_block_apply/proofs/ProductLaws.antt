@@ -94,14 +94,14 @@ module _ (f : ℕ → Float) (at : ℕ) (y : List Float) where
     first-taken : (n : ℕ) → sums ≡ each (λ j. f (at + j)) n → 0 < n → getD sums 0 nan ≡ f at
     first-taken n e h = taken n e 0 h ∙ ap f (add-zero at)
 
-    pub wrote-three : sums ≡ each (λ j. f (at + j)) 3 → z ≡ set (set (set y at (getD sums 0 nan)) (at + 1) (getD sums 1 nan)) (at + 2) (getD sums 2 nan) → Wrote f at 3 y z
+    wrote-three : sums ≡ each (λ j. f (at + j)) 3 → z ≡ set (set (set y at (getD sums 0 nan)) (at + 1) (getD sums 1 nan)) (at + 2) (getD sums 2 nan) → Wrote f at 3 y z
     wrote-three e q =
         let g = taken 3 e in
         let a = wrote-more 0 at _ _ wrote-none (sym (add-zero at)) (first-taken 3 e (omega arith)) in
         let b = wrote-more 1 (at + 1) _ _ a refl (g 1 (omega arith)) in
         rw q (wrote-more 2 (at + 2) _ _ b refl (g 2 (omega arith)))
 
-    pub wrote-six : sums ≡ each (λ j. f (at + j)) 6
+    wrote-six : sums ≡ each (λ j. f (at + j)) 6
         → z ≡ set (set (set (set (set (set y at (getD sums 0 nan)) (at + 1) (getD sums 1 nan)) (at + 2) (getD sums 2 nan)) (at + 3) (getD sums 3 nan)) (at + 4) (getD sums 4 nan)) (at + 5) (getD sums 5 nan)
         → Wrote f at 6 y z
     wrote-six e q =
@@ -152,13 +152,15 @@ module _ (f : ℕ → Float) (top q : ℕ) where
 -- ---- the block rows `row`, in the first half of the full ones, and `other`, in the second
 
 pub record Apart (w n half row other : ℕ) : Type 0 where
+  pub early : w * row ≤ n
+  pub late : w * other ≤ n
   pub first : w * row + w ≤ n
   pub second : w * other + w ≤ n
   pub there : w * row + w * half < w * (n / w) → w * other ≡ w * row + w * half
 
 pub apart : {w : ℕ} → Width w → (n row other : ℕ) → row < (n / w + 1) / 2 → other ≡ min (row + (n / w + 1) / 2) (n / w - 1) → Apart w n ((n / w + 1) / 2) row other
-apart three n row other h e = record { first = omega arith; second = omega arith; there = λ l. omega arith }
-apart six n row other h e = record { first = omega arith; second = omega arith; there = λ l. omega arith }
+apart three n row other h e = record { early = omega arith; late = omega arith; first = omega arith; second = omega arith; there = λ l. omega arith }
+apart six n row other h e = record { early = omega arith; late = omega arith; first = omega arith; second = omega arith; there = λ l. omega arith }
 
 half-reaches : {w : ℕ} → Width w → (n : ℕ) → w * (n / w) ≤ 2 * (w * ((n / w + 1) / 2))
 half-reaches three n = omega arith
@@ -178,6 +180,15 @@ module _ (b : Blocks) (x : List Float) where
     pub long : length y ≡ b .rows
     pub halves : Halves (blockSum b x) (b .width * (b .rows / b .width)) (b .width * ((b .rows / b .width + 1) / 2)) (b .width * row) y
 
+  pub wrote3 : (R : ℕ) (y sums z : List Float) → sums ≡ each (λ j. blockSum b x (3 * R + j)) 3
+      → z ≡ set (set (set y (3 * R) (getD sums 0 nan)) (3 * R + 1) (getD sums 1 nan)) (3 * R + 2) (getD sums 2 nan) → Wrote (blockSum b x) (3 * R) 3 y z
+  wrote3 R y sums z = wrote-three (blockSum b x) (3 * R) y sums z
+
+  pub wrote6 : (R : ℕ) (y sums z : List Float) → sums ≡ each (λ j. blockSum b x (6 * R + j)) 6
+      → z ≡ set (set (set (set (set (set y (6 * R) (getD sums 0 nan)) (6 * R + 1) (getD sums 1 nan)) (6 * R + 2) (getD sums 2 nan)) (6 * R + 3) (getD sums 3 nan)) (6 * R + 4) (getD sums 4 nan)) (6 * R + 5) (getD sums 5 nan)
+      → Wrote (blockSum b x) (6 * R) 6 y z
+  wrote6 R y sums z = wrote-six (blockSum b x) (6 * R) y sums z
+
   pub written-none : Width (b .width) → (y : List Float) → length y ≡ b .rows → Written 0 y
   written-none w y e = record { long = e; halves = subst (λ (n : ℕ). Halves (blockSum b x) (b .width * (b .rows / b .width)) (b .width * ((b .rows / b .width + 1) / 2)) n y) (sym (mul-zero (b .width))) (halves-none (blockSum b x) (b .width * (b .rows / b .width)) (b .width * ((b .rows / b .width + 1) / 2)) y) }
 
@@ -189,6 +200,13 @@ module _ (b : Blocks) (x : List Float) where
       halves =
           halves-more (blockSum b x) (b .width * (b .rows / b .width)) (b .width * ((b .rows / b .width + 1) / 2)) (b .width * row) y (inv .halves) (b .width) (b .width * other) (b .width * (row + 1)) z u one two (a .there) (step-more w row);
     }
+
+    -- y has each place that the rows have, and so has z, which is y with some written
+    pub room : (m : ℕ) → m ≤ b .rows → m ≤ length y
+    room m h = rw (inv .long) h
+
+    pub room-still : (at n : ℕ) (z : List Float) → Wrote (blockSum b x) at n y z → (m : ℕ) → m ≤ b .rows → m ≤ length z
+    room-still at n z one m h = rw (one .long) (room m h)
 
     -- as the call for the rows below asks it
     pub written-answer : (ny : ℕ) → applyBlocksAnswer b x ny ≡ accepted → applyBlocksAnswer b x (length y) ≡ accepted

@@ -203,32 +203,19 @@ fn two_rows3(
         full_count(3, ncols, row_ptr, col_idx, row),
         full_count(3, ncols, row_ptr, col_idx, other),
     );
-    let mut first = [0.0f64; 3];
-    let mut second = [0.0f64; 3];
+    let mut one = [0.0f64; 3];
+    let mut two = [0.0f64; 3];
     let mut i: usize = 0;
     while i < n {
-        let one = add_full3(first, col_idx, values, x, a + i);
-        first = one;
-        let two = add_full3(second, col_idx, values, x, b + i);
-        second = two;
+        let more = add_full3(one, col_idx, values, x, a + i);
+        one = more;
+        let more = add_full3(two, col_idx, values, x, b + i);
+        two = more;
         i += 1;
     }
-    let one = add_blocks3(nrows, ncols, row_ptr, col_idx, values, x, row, a + i, first);
-    let two = add_blocks3(
-        nrows,
-        ncols,
-        row_ptr,
-        col_idx,
-        values,
-        x,
-        other,
-        b + i,
-        second,
-    );
-    Two3 {
-        first: one,
-        second: two,
-    }
+    let first = add_blocks3(nrows, ncols, row_ptr, col_idx, values, x, row, a + i, one);
+    let second = add_blocks3(nrows, ncols, row_ptr, col_idx, values, x, other, b + i, two);
+    Two3 { first, second }
 }
 
 // The six rows of full block row `row` of accepted blocks: the blocks from place `from` on are added to `sums`.
@@ -289,32 +276,19 @@ fn two_rows6(
         full_count(6, ncols, row_ptr, col_idx, row),
         full_count(6, ncols, row_ptr, col_idx, other),
     );
-    let mut first = [0.0f64; 6];
-    let mut second = [0.0f64; 6];
+    let mut one = [0.0f64; 6];
+    let mut two = [0.0f64; 6];
     let mut i: usize = 0;
     while i < n {
-        let one = add_full6(first, col_idx, values, x, a + i);
-        first = one;
-        let two = add_full6(second, col_idx, values, x, b + i);
-        second = two;
+        let more = add_full6(one, col_idx, values, x, a + i);
+        one = more;
+        let more = add_full6(two, col_idx, values, x, b + i);
+        two = more;
         i += 1;
     }
-    let one = add_blocks6(nrows, ncols, row_ptr, col_idx, values, x, row, a + i, first);
-    let two = add_blocks6(
-        nrows,
-        ncols,
-        row_ptr,
-        col_idx,
-        values,
-        x,
-        other,
-        b + i,
-        second,
-    );
-    Two6 {
-        first: one,
-        second: two,
-    }
+    let first = add_blocks6(nrows, ncols, row_ptr, col_idx, values, x, row, a + i, one);
+    let second = add_blocks6(nrows, ncols, row_ptr, col_idx, values, x, other, b + i, two);
+    Two6 { first, second }
 }
 
 // Writes the three rows of a full block row.

@@ -34,6 +34,13 @@ fits-within h k = omega arith
 pub fits-forty : {a : ℕ} → a ≤ 2 ^ 40 → Fits w64 a
 fits-forty h = omega arith
 
+-- a place of a block list, one more, and its place in bytes
+pub fits-next : {a : ℕ} → a < 2 ^ 24 → Fits w64 (a + 1)
+fits-next h = omega arith
+
+pub fits-bytes : {a : ℕ} → a ≤ 2 ^ 24 → Fits w64 (a * 4)
+fits-bytes h = omega arith
+
 -- n is the smaller of two numbers
 pub smaller-left : (n k m : ℕ) → n ≡ min k m → n ≤ k
 smaller-left n k m e = omega arith
@@ -62,6 +69,14 @@ row-under six R i h = omega arith
 pub row-full : {w : ℕ} → Width w → (R n : ℕ) → w * R + w ≤ n → R < blocksFor w n
 row-full three R n h = omega arith
 row-full six R n h = omega arith
+
+pub row-fits : {w : ℕ} → Width w → (R n : ℕ) → w * R + w ≤ n → Fits w64 n → Fits w64 (R + 1)
+row-fits three R n h k = omega arith
+row-fits six R n h k = omega arith
+
+pub place-small : {w : ℕ} → Width w → (p : ℕ) → p < 2 ^ 24 → p * (w * w) ≤ 2 ^ 39
+place-small three p h = omega arith
+place-small six p h = omega arith
 
 -- a row r below the full block rows
 pub last-over : {w : ℕ} → Width w → (n r : ℕ) → w * (n / w) ≤ r → r < n → r / w ≡ n / w

@@ -11,6 +11,8 @@ use lib.Dec.{leb, ltb}
 use lib.ListN.{length, getD, take}
 use lib.Seq.{getD-take, getD-drop}
 use lib.Ieee.{Float}
+use mir.Syntax.{w64}
+use mir.Val.{Fits}
 use borrow.Author.Tests.{leb-true, ltb-true, ltb-false}
 use Rattle.hybit_core.proofs.BoolLaws.{and-left, and-right, is-below, is-not-below}
 use Rattle.lent.specs.Lists.{climbs, part}
@@ -18,7 +20,7 @@ use Rattle.word.proofs.BitLaws.{every-below-at}
 use Rattle.csr32.proofs.FrameLaws.{part-length}
 use Rattle.dense_block.specs.Blocks.{Blocks, blocksFor, rowsClimb}
 use Rattle.dense_block_apply.specs.Product.{FullBlock, fastEnd}
-use Rattle.dense_block_apply.proofs.BlockLaws.{Width, three, six, Row, full-row, row-full, place}
+use Rattle.dense_block_apply.proofs.BlockLaws.{Width, three, six, row-full, place-small, Row, full-row, place}
 
 -- ---- rising lists
 
@@ -143,13 +145,13 @@ tail-place {b} {from} {to} {fast} f p l h u =
 
 -- ---- a block as the code reads it
 
+-- C is its block column, v the place of its first value and n the number of its columns inside
 pub record TailBlock (b : Blocks) (x : List Float) (p C : ℕ) : Type 0 where
-  pub small : p < 2 ^ 24
-  pub column : b .width * C < b .cols
-  pub tail : b .cols < b .width * C + b .width
-  pub x-long : length x ≡ b .cols
-  pub few : b .cols ≤ 2 ^ 20
-  pub values : p * (b .width * b .width) + b .width * b .width ≤ length (b .vals)
+  pub column-fits : Fits w64 (b .width * C)
+  pub inside : b .width * C ≤ b .cols
+  pub value-fits : (v : ℕ) → v ≡ p * (b .width * b .width) → Fits w64 v
+  pub asked : (v n : ℕ) → v ≡ p * (b .width * b .width) → n ≡ b .cols - b .width * C
+      → ((v + b .width * b .width ≤ length (b .vals)) × (n ≤ b .width)) × ((b .width * C + n ≤ length x) × ((v ≤ 2 ^ 39) × (b .width * C ≤ 2 ^ 39)))
 
 module _ {b : Blocks} {x : List Float} {R from to fast : ℕ} (r : Row b x R from to) (f : Fast b from to fast) (p : ℕ) where
   pub full-block : from ≤ p → p < fast → FullBlock (b .width) (b .col) (b .vals) x p
@@ -158,8 +160,18 @@ module _ {b : Blocks} {x : List Float} {R from to fast : ℕ} (r : Row b x R fro
       let q = place (r .ready) p (getD (b .col) p 0) here refl in
       record { here = here; small = q .small; values = q .values; column = rw (r .ready .x-long) (f .full p l h); few = rw (r .ready .x-long) (r .ready .cols-in) }
 
-  -- C is its block column
   pub tail-block : (C : ℕ) → C ≡ getD (b .col) p 0 → p ≤ fast → fast ≤ p → (p ≡ to → ⊥) → TailBlock b x p C
   tail-block C e l h u =
       let q = place (r .ready) p C (omega (arith, f .within, r .inside)) e in
-      record { small = q .small; column = q .column; tail = rw e (tail-place f p l h u .tail); x-long = r .ready .x-long; few = r .ready .cols-in; values = q .values }
+      let column : b .width * C < b .cols = q .column in
+      let values : p * (b .width * b .width) + b .width * b .width ≤ length (b .vals) = q .values in
+      let small : p * (b .width * b .width) ≤ 2 ^ 39 = place-small (r .ready .width) p (q .small) in
+      let tail : b .cols < b .width * C + b .width = rw e (tail-place f p l h u .tail) in
+      let few : b .cols ≤ 2 ^ 20 = r .ready .cols-in in
+      let long : length x ≡ b .cols = r .ready .x-long in
+      record {
+        column-fits = omega arith;
+        inside = omega arith;
+        value-fits = λ v ev. omega arith;
+        asked = λ v n ev en. ((omega arith, omega arith), (omega arith, (omega arith, omega arith)));
+      }

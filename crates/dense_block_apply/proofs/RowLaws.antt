@@ -83,6 +83,9 @@ module _ (b : Blocks) (x : List Float) where
     pub sums-in : p ≤ to
     sums-in = omega (arith, inv .within, inv .ends .within)
 
+    pub sums-left : (p ≡ to → ⊥) → p < to
+    sums-left h = let l = sums-in in omega arith
+
     -- g is what the blocks from p up to q make of the number of row i
     sums-more : (q : ℕ) (g : ℕ → Float → Float) → p ≤ q → ((i : ℕ) (t : Float) → i < b .width → addedBlocks b x (b .width * R + i) t p q ≡ g i t)
         → each (λ i. g i (getD sums i nan)) (b .width) ≡ each (λ i. addedBlocks b x (b .width * R + i) (s i) from q) (b .width)

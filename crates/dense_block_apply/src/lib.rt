@@ -2,7 +2,7 @@
 ghost use mathlib.Core.Path.{_≡_};
 ghost use Prim.Native.Nat.{_+_, _-_, _*_, _/_, _≤_, _<_, _^_};
 ghost use lib.ListN.{length, getD, take, set};
-ghost use lib.Ieee.{nan, binary64, add};
+ghost use lib.Ieee.{nan, binary64, add, mul};
 ghost use Rattle.hybit_core.specs.Answer.{accepted};
 ghost use Rattle.hybit_core.specs.Table.{told};
 ghost use Rattle.lent.specs.Lists.{each};
@@ -13,12 +13,19 @@ use dense_block::DenseBlockSize;
 use hybit_core::HybitError;
 use hybit_core::Verdict;
 
+fn term(values: &[f64], at: usize, x: &[f64], col: usize) -> f64
+    requires { ⌜ at < length (now values) ⌝ ∗ ⌜ col < length (now x) ⌝ }
+    ensures { λ r. ⌜ r ≡ mul binary64 (getD (now (values .entry)) at nan) (getD (now (x .entry)) col nan) ⌝ }
+{
+    values[at] * x[col]
+}
+
 // A full block's terms in one row of three, as one number.
 fn three(values: &[f64], at: usize, x: &[f64], col: usize) -> f64
     requires { ⌜ at + 3 ≤ length (now values) ⌝ ∗ ⌜ col + 3 ≤ length (now x) ⌝ ∗ ⌜ (at ≤ 2 ^ 40) × (col ≤ 2 ^ 40) ⌝ }
     ensures { λ r. ⌜ r ≡ asOne (products (now (values .entry)) (now (x .entry)) at col 3) ⌝ }
 {
-    values[at] * x[col] + values[at + 1] * x[col + 1] + values[at + 2] * x[col + 2]
+    term(values, at, x, col) + term(values, at + 1, x, col + 1) + term(values, at + 2, x, col + 2)
 }
 
 // The same in one row of six.
@@ -26,12 +33,12 @@ fn six(values: &[f64], at: usize, x: &[f64], col: usize) -> f64
     requires { ⌜ at + 6 ≤ length (now values) ⌝ ∗ ⌜ col + 6 ≤ length (now x) ⌝ ∗ ⌜ (at ≤ 2 ^ 40) × (col ≤ 2 ^ 40) ⌝ }
     ensures { λ r. ⌜ r ≡ asOne (products (now (values .entry)) (now (x .entry)) at col 6) ⌝ }
 {
-    values[at] * x[col]
-        + values[at + 1] * x[col + 1]
-        + values[at + 2] * x[col + 2]
-        + values[at + 3] * x[col + 3]
-        + values[at + 4] * x[col + 4]
-        + values[at + 5] * x[col + 5]
+    term(values, at, x, col)
+        + term(values, at + 1, x, col + 1)
+        + term(values, at + 2, x, col + 2)
+        + term(values, at + 3, x, col + 3)
+        + term(values, at + 4, x, col + 4)
+        + term(values, at + 5, x, col + 5)
 }
 
 // Adds `count` terms of a row to `start`, one after the other.

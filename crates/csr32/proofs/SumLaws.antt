@@ -74,13 +74,13 @@ pub row-sum : (m : Csr) (x : List Float) (r a b : ℕ) (s : Float) → a ≡ get
 unfolding addedTo between rowProduct entries part
 row-sum m x r a b s p q e = e ∙ ap₂ (λ (i j : ℕ). addedTo zero64 (between (m .col) (m .val) i j) x) p q
 
--- ---- a list that is written in three thirds: place k of it is f's, if there is such a place
+-- ---- a list that is written in parts: place k of it is f's, if there is such a place
 
 pub record Known (f : ℕ → Float) (y : List Float) (k : ℕ) : Type 0 where
   pub is : k < length y → getD y k nan ≡ f k
 
 module _ (f : ℕ → Float) (y : List Float) (r : ℕ) (v : Float) (e : v ≡ f r) where
-  known-new : (k : ℕ) → (k < length y → r ≡ k) → Known f (set y r v) k
+  pub known-new : (k : ℕ) → (k < length y → r ≡ k) → Known f (set y r v) k
   known-new k h = record {
     is = λ l.
         let l′ : k < length y = omega (arith, length-set y r v) in
@@ -89,7 +89,7 @@ module _ (f : ℕ → Float) (y : List Float) (r : ℕ) (v : Float) (e : v ≡ f
         ap (λ (n : ℕ). getD (set y r v) n nan) (sym same) ∙ getD-set-same y r v nan l″ ∙ e ∙ ap f same;
   }
 
-  known-kept : (k : ℕ) → Known f y k → Known f (set y r v) k
+  pub known-kept : (k : ℕ) → Known f y k → Known f (set y r v) k
   known-kept k h = go (eqb k r) refl
     where
       go : (t : Bool) → eqb k r ≡ t → Known f (set y r v) k

@@ -2,11 +2,13 @@
 use mathlib.Core.Bool.{Bool, true, _&&_}
 use mathlib.Core.List.{List}
 use mathlib.Core.Path.{_≡_, sym, ap, subst, _∙_}
-use Prim.Native.Nat.{ℕ, _+_, _-_, _*_, _/_, _%_, _^_, _≤_, _<_}
+use Prim.Native.Nat.{ℕ, min, _+_, _-_, _*_, _/_, _%_, _^_, _≤_, _<_}
 use native.Mathlib.Omega.{arith}
 use lib.Dec.{ltb}
 use lib.ListN.{length, getD}
 use lib.Ieee.{Float}
+use mir.Syntax.{w64}
+use mir.Val.{Fits}
 use borrow.Author.Tests.{leb-true, eqb-true}
 use Rattle.hybit_core.specs.Answer.{accepted, demand, lengthIs, _andThen_}
 use Rattle.hybit_core.specs.Domain.{few, many, sizesFit}
@@ -20,6 +22,31 @@ use Rattle.dense_block.specs.declared.DenseBlockSize.{DenseBlockSize}
 use Rattle.dense_block.specs.declared.DenseBlockSize.the-variants.{B3, B6}
 use Rattle.dense_block_check.proofs.RuleLaws.{square-small, slots-fit, pointersHold, valuesHold, columnsHold, accepted-frame}
 use Rattle.dense_block_apply.specs.Product.{applyBlocksAnswer}
+
+-- ---- numbers that fit
+
+pub fits-under : {a b : ℕ} → a < b → Fits w64 b → Fits w64 a
+fits-under h k = omega arith
+
+pub fits-within : {a b : ℕ} → a ≤ b → Fits w64 b → Fits w64 a
+fits-within h k = omega arith
+
+pub fits-forty : {a : ℕ} → a ≤ 2 ^ 40 → Fits w64 a
+fits-forty h = omega arith
+
+-- a place of a block list, one more, and its place in bytes
+pub fits-next : {a : ℕ} → a < 2 ^ 24 → Fits w64 (a + 1)
+fits-next h = omega arith
+
+pub fits-bytes : {a : ℕ} → a ≤ 2 ^ 24 → Fits w64 (a * 4)
+fits-bytes h = omega arith
+
+-- n is the smaller of two numbers
+pub smaller-left : (n k m : ℕ) → n ≡ min k m → n ≤ k
+smaller-left n k m e = omega arith
+
+pub smaller-right : (n k m : ℕ) → n ≡ min k m → n ≤ m
+smaller-right n k m e = omega arith
 
 -- ---- widths
 
@@ -42,6 +69,14 @@ row-under six R i h = omega arith
 pub row-full : {w : ℕ} → Width w → (R n : ℕ) → w * R + w ≤ n → R < blocksFor w n
 row-full three R n h = omega arith
 row-full six R n h = omega arith
+
+pub row-fits : {w : ℕ} → Width w → (R n : ℕ) → w * R + w ≤ n → Fits w64 n → Fits w64 (R + 1)
+row-fits three R n h k = omega arith
+row-fits six R n h k = omega arith
+
+pub place-small : {w : ℕ} → Width w → (p : ℕ) → p < 2 ^ 24 → p * (w * w) ≤ 2 ^ 39
+place-small three p h = omega arith
+place-small six p h = omega arith
 
 -- a row r below the full block rows
 pub last-over : {w : ℕ} → Width w → (n r : ℕ) → w * (n / w) ≤ r → r < n → r / w ≡ n / w
@@ -68,7 +103,7 @@ row-in-block : {w : ℕ} → Width w → (i : ℕ) → i < w → w * i + w ≤ w
 row-in-block three i h = omega arith
 row-in-block six i h = omega arith
 
-at-most-six : {w : ℕ} → Width w → w ≤ 6
+pub at-most-six : {w : ℕ} → Width w → w ≤ 6
 at-most-six three = omega arith
 at-most-six six = omega arith
 
@@ -142,14 +177,21 @@ module _ (b : Blocks) (x : List Float) (ny : ℕ) (e : applyBlocksAnswer b x ny 
 pub ready : (s : DenseBlockSize) (w n m : ℕ) (ps cs : List ℕ) (vs x : List Float) (ny : ℕ) → w ≡ widthOf s → applyBlocksAnswer (asBlocks n m (widthOf s) ps cs vs) x ny ≡ accepted → Ready (asBlocks n m w ps cs vs) x
 ready s w n m ps cs vs x ny e a = subst (λ (k : ℕ). Ready (asBlocks n m k ps cs vs) x) (sym e) (facts (asBlocks n m (widthOf s) ps cs vs) x ny a (width-of s))
 
--- ---- a block row, from its pointer up to the next one, as the code reads them
+-- ---- the places of a block row, from one of them up to the next row's pointer
 
 pub record Row (b : Blocks) (x : List Float) (R from to : ℕ) : Type 0 where
   pub ready : Ready b x
-  pub starts : from ≡ getD (b .ptr) R 0
+  pub starts : getD (b .ptr) R 0 ≤ from
   pub ends : to ≡ getD (b .ptr) (R + 1) 0
   pub order : from ≤ to
   pub inside : to ≤ length (b .col)
+
+module _ {b : Blocks} {x : List Float} {R from to : ℕ} (r : Row b x R from to) (p : ℕ) where
+  pub row-here : p < to → p < length (b .col)
+  row-here h = omega (arith, r .inside)
+
+  pub row-small : p ≤ to → p ≤ 2 ^ 24
+  row-small h = omega (arith, r .inside, r .ready .blocks-in)
 
 -- the block at place p, whose block column is C
 pub record Place (b : Blocks) (p C : ℕ) : Type 0 where
@@ -161,8 +203,11 @@ module _ {b : Blocks} {x : List Float} (k : Ready b x) where
   pub full-row : (R : ℕ) → b .width * R + b .width ≤ b .rows → RowIn (b .ptr) (length (b .col)) R
   full-row R h = row-in (blocksFor (b .width) (b .rows)) (b .ptr) (length (b .col)) R (k .frame) (row-full (k .width) R (b .rows) h)
 
+  pub row-from : (R from to : ℕ) → RowIn (b .ptr) (length (b .col)) R → getD (b .ptr) R 0 ≤ from → from ≤ getD (b .ptr) (R + 1) 0 → to ≡ getD (b .ptr) (R + 1) 0 → Row b x R from to
+  row-from R from to i p l q = record { ready = k; starts = p; ends = q; order = omega arith; inside = omega (arith, i .inside) }
+
   pub row-is : (R from to : ℕ) → RowIn (b .ptr) (length (b .col)) R → from ≡ getD (b .ptr) R 0 → to ≡ getD (b .ptr) (R + 1) 0 → Row b x R from to
-  row-is R from to i p q = record { ready = k; starts = p; ends = q; order = omega (arith, i .order); inside = omega (arith, i .inside) }
+  row-is R from to i p q = row-from R from to i (omega arith) (omega (arith, i .order)) q
 
   pub place : (p C : ℕ) → p < length (b .col) → C ≡ getD (b .col) p 0 → Place b p C
   place p C h e = record {
@@ -196,22 +241,38 @@ last-row s w n m ps cs vs x ny r last ew el a h l =
     }
 
 -- the block at place p, whose block column is C, and the row's part of it
-pub record LastPlace (b : Blocks) (r last p C : ℕ) : Type 0 where
-  pub square : b .width * b .width ≤ 36
-  pub row : b .width * (r - b .width * last) + b .width ≤ b .width * b .width
+pub record LastPlace (b : Blocks) (x : List Float) (r last p C : ℕ) : Type 0 where
+  pub square : b .width * b .width ≤ 2 ^ 40
+  pub first : p * (b .width * b .width) ≤ 2 ^ 40
+  pub row : b .width * (r - b .width * last) ≤ 2 ^ 40
+  pub start : p * (b .width * b .width) + b .width * (r - b .width * last) ≤ 2 ^ 40
   pub column : b .width * C < b .cols
-  pub values : p * (b .width * b .width) + b .width * (r - b .width * last) + b .width ≤ length (b .vals)
-  pub few : length (b .vals) ≤ 2 ^ 40
+  pub inside : b .width * C ≤ b .cols
+  -- as many terms as lie inside, asked for as the code does
+  pub terms : (n : ℕ) → n ≡ min (b .width) (b .cols - b .width * C)
+      → (p * (b .width * b .width) + b .width * (r - b .width * last) + n ≤ length (b .vals))
+      × ((b .width * C + n ≤ length x) × ((p * (b .width * b .width) + b .width * (r - b .width * last) ≤ 2 ^ 40) × (b .width * C ≤ 2 ^ 40)))
 
-pub last-place : {b : Blocks} {x : List Float} {r last : ℕ} → LastRow b x r last → (p C : ℕ) → p < length (b .col) → C ≡ getD (b .col) p 0 → LastPlace b r last p C
+pub last-place : {b : Blocks} {x : List Float} {r last : ℕ} → LastRow b x r last → (p C : ℕ) → p < length (b .col) → C ≡ getD (b .col) p 0 → LastPlace b x r last p C
 last-place {b} {x} {r} {last} k p C h e =
     let w = k .ready .width in
     let q = place (k .ready) p C h e in
-    let row : b .width * (r - b .width * last) + b .width ≤ b .width * b .width = row-in-block w (r - b .width * last) (rw (k .is) (local-small w (b .rows) r (k .inside))) in
+    let v : ℕ = b .width * (r - b .width * last) in
+    let sq : ℕ = b .width * b .width in
+    let at : ℕ = p * sq in
+    let row : v + b .width ≤ sq = row-in-block w (r - b .width * last) (rw (k .is) (local-small w (b .rows) r (k .inside))) in
+    let square : sq ≤ 36 = square-small (b .width) (at-most-six w) in
+    let values : at + sq ≤ length (b .vals) = q .values in
+    let few : length (b .vals) ≤ 2 ^ 40 = omega (arith, slots-fit (length (b .col)) (b .width) (k .ready .blocks-in) (at-most-six w), k .ready .values) in
+    let column : b .width * C < b .cols = q .column in
+    let long : length x ≡ b .cols = k .ready .x-long in
+    let cols : b .cols ≤ 2 ^ 20 = k .ready .cols-in in
     record {
-      square = square-small (b .width) (at-most-six w);
-      row = row;
-      column = q .column;
-      values = omega (arith, q .values);
-      few = omega (arith, slots-fit (length (b .col)) (b .width) (k .ready .blocks-in) (at-most-six w), k .ready .values);
+      square = omega arith;
+      first = omega arith;
+      row = omega arith;
+      start = omega arith;
+      column = column;
+      inside = omega arith;
+      terms = λ n g. (omega arith, (omega arith, (omega arith, omega arith)));
     }

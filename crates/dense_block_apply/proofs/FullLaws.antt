@@ -11,13 +11,16 @@ use lib.Dec.{leb, ltb}
 use lib.ListN.{length, getD, take}
 use lib.Seq.{getD-take, getD-drop}
 use lib.Ieee.{Float}
+use mir.Syntax.{w64}
+use mir.Val.{Fits}
 use borrow.Author.Tests.{leb-true, ltb-true, ltb-false}
 use Rattle.hybit_core.proofs.BoolLaws.{and-left, and-right, is-below, is-not-below}
 use Rattle.lent.specs.Lists.{climbs, part}
 use Rattle.word.proofs.BitLaws.{every-below-at}
 use Rattle.csr32.proofs.FrameLaws.{part-length}
 use Rattle.dense_block.specs.Blocks.{Blocks, blocksFor, rowsClimb}
-use Rattle.dense_block_apply.proofs.BlockLaws.{Width, three, six, Row, full-row, row-full, place}
+use Rattle.dense_block_apply.specs.Product.{FullBlock, fastEnd}
+use Rattle.dense_block_apply.proofs.BlockLaws.{Width, three, six, row-full, place-small, Row, full-row, place}
 
 -- ---- rising lists
 
@@ -42,8 +45,8 @@ module _ {b : Blocks} {x : List Float} {R from to : ℕ} (r : Row b x R from to)
   column-next : (p : ℕ) → from ≤ p → p + 1 < to → getD (b .col) p 0 < getD (b .col) (p + 1) 0
   unfolding rowsClimb
   column-next p l u =
-      let k : ℕ = p - from in
       let a : ℕ = getD (b .ptr) R 0 in
+      let k : ℕ = p - a in
       let climb : climbs 0 (part (b .ptr) (b .col) R) ≡ true =
       every-below-at (λ R. climbs 0 (part (b .ptr) (b .col) R)) (λ R. true) (blocksFor (b .width) (b .rows)) R (r .ready .climb) (row-full (r .ready .width) R (b .rows) h) refl in
       let long = part-length (b .ptr) (b .col) R (full-row (r .ready) R h) in
@@ -82,9 +85,29 @@ module _ (from to : ℕ) where
     pub end-full : w * C + w ≤ n → to ≡ cond (ltb from to && ltb n (w * D + w)) (to - 1) to
     end-full h = ap₂ ends (is-below from to l) (is-not-below n (w * D + w) (rw e at h))
 
+-- that number is no place before the first
+end-after : (w n : ℕ) (cs : List ℕ) (from to : ℕ) → from ≤ to → from ≤ fastEnd w n cs from to
+end-after w n cs from to h = go (ltb from to) (ltb n (w * getD cs (to - 1) 0 + w)) refl
+  where
+    go : (s t : Bool) → ltb from to ≡ s → from ≤ cond (s && t) (to - 1) to
+    go true true e = let l : from < to = ltb-true from to e in omega arith
+    go true false e = h
+    go false t e = h
+
+-- a, e and fast as the code has them
+module _ (w n : ℕ) (cs : List ℕ) (from to a e fast : ℕ) (p : a ≡ from) (q : e ≡ to) (h : from ≤ to) (f : fast ≡ fastEnd w n cs a e) where
+  whole : fast ≡ fastEnd w n cs from to
+  whole = f ∙ ap₂ (fastEnd w n cs) p q
+
+  pub count-after : a ≤ fast
+  count-after = rw (whole, p) (end-after w n cs from to h)
+
+  pub count-is : from + (fast - a) ≡ fastEnd w n cs from to
+  count-is = let l = count-after in let k : from + (fast - a) ≡ fast = omega arith in k ∙ whole
+
 -- what that number says
 pub fast-is : {b : Blocks} {x : List Float} {R from to : ℕ} → Row b x R from to → b .width * R + b .width ≤ b .rows → (fast : ℕ)
-    → fast ≡ cond (ltb from to && ltb (b .cols) (b .width * getD (b .col) (to - 1) 0 + b .width)) (to - 1) to → Fast b from to fast
+    → fast ≡ fastEnd (b .width) (b .cols) (b .col) from to → Fast b from to fast
 fast-is {b} {x} {R} {from} {to} r h fast = go (ltb from to) (ltb (b .cols) (final + b .width)) refl refl
   where
     final : ℕ
@@ -120,30 +143,35 @@ tail-place {b} {from} {to} {fast} f p l h u =
     let i : fast < to = omega (arith, f .within) in
     record { last = omega (arith, f .last i); tail = rw e (f .tail i) }
 
--- ---- a block as the code reads it: C is its block column
+-- ---- a block as the code reads it
 
-pub record FullBlock (b : Blocks) (x : List Float) (p C : ℕ) : Type 0 where
-  pub small : p < 2 ^ 24
-  pub column : b .width * C + b .width ≤ length x
-  pub few : length x ≤ 2 ^ 20
-  pub values : p * (b .width * b .width) + b .width * b .width ≤ length (b .vals)
-
+-- C is its block column, v the place of its first value and n the number of its columns inside
 pub record TailBlock (b : Blocks) (x : List Float) (p C : ℕ) : Type 0 where
-  pub small : p < 2 ^ 24
-  pub column : b .width * C < b .cols
-  pub tail : b .cols < b .width * C + b .width
-  pub x-long : length x ≡ b .cols
-  pub few : b .cols ≤ 2 ^ 20
-  pub values : p * (b .width * b .width) + b .width * b .width ≤ length (b .vals)
+  pub column-fits : Fits w64 (b .width * C)
+  pub inside : b .width * C ≤ b .cols
+  pub value-fits : (v : ℕ) → v ≡ p * (b .width * b .width) → Fits w64 v
+  pub asked : (v n : ℕ) → v ≡ p * (b .width * b .width) → n ≡ b .cols - b .width * C
+      → ((v + b .width * b .width ≤ length (b .vals)) × (n ≤ b .width)) × ((b .width * C + n ≤ length x) × ((v ≤ 2 ^ 39) × (b .width * C ≤ 2 ^ 39)))
 
-module _ {b : Blocks} {x : List Float} {R from to fast : ℕ} (r : Row b x R from to) (f : Fast b from to fast) (p C : ℕ) (e : C ≡ getD (b .col) p 0) where
-  pub full-block : from ≤ p → p < fast → FullBlock b x p C
+module _ {b : Blocks} {x : List Float} {R from to fast : ℕ} (r : Row b x R from to) (f : Fast b from to fast) (p : ℕ) where
+  pub full-block : from ≤ p → p < fast → FullBlock (b .width) (b .col) (b .vals) x p
   full-block l h =
-      let q = place (r .ready) p C (omega (arith, f .within, r .inside)) e in
-      let full : b .width * C + b .width ≤ b .cols = rw e (f .full p l h) in
-      record { small = q .small; column = omega (arith, r .ready .x-long); few = omega (arith, r .ready .x-long, r .ready .cols-in); values = q .values }
+      let here : p < length (b .col) = omega (arith, f .within, r .inside) in
+      let q = place (r .ready) p (getD (b .col) p 0) here refl in
+      record { here = here; small = q .small; values = q .values; column = rw (r .ready .x-long) (f .full p l h); few = rw (r .ready .x-long) (r .ready .cols-in) }
 
-  pub tail-block : p ≤ fast → fast ≤ p → (p ≡ to → ⊥) → TailBlock b x p C
-  tail-block l h u =
+  pub tail-block : (C : ℕ) → C ≡ getD (b .col) p 0 → p ≤ fast → fast ≤ p → (p ≡ to → ⊥) → TailBlock b x p C
+  tail-block C e l h u =
       let q = place (r .ready) p C (omega (arith, f .within, r .inside)) e in
-      record { small = q .small; column = q .column; tail = rw e (tail-place f p l h u .tail); x-long = r .ready .x-long; few = r .ready .cols-in; values = q .values }
+      let column : b .width * C < b .cols = q .column in
+      let values : p * (b .width * b .width) + b .width * b .width ≤ length (b .vals) = q .values in
+      let small : p * (b .width * b .width) ≤ 2 ^ 39 = place-small (r .ready .width) p (q .small) in
+      let tail : b .cols < b .width * C + b .width = rw e (tail-place f p l h u .tail) in
+      let few : b .cols ≤ 2 ^ 20 = r .ready .cols-in in
+      let long : length x ≡ b .cols = r .ready .x-long in
+      record {
+        column-fits = omega arith;
+        inside = omega arith;
+        value-fits = λ v ev. omega arith;
+        asked = λ v n ev en. ((omega arith, omega arith), (omega arith, (omega arith, omega arith)));
+      }

@@ -40,17 +40,18 @@ module _ (vals x : List Float) (v c : ℕ) where
     pub adding-done : (n : ℕ) → j ≤ n → n ≤ j → s ≡ termByTerm start (products vals x v c n)
     adding-done n h k = let e : j ≡ n = omega arith in inv .is ∙ ap (λ (m : ℕ). termByTerm start (products vals x v c m)) e
 
-  -- three and six terms as one number
+  -- three and six terms as one number, each as the code has it
   abbrev first : Float
   first = mul binary64 (getD vals v nan) (at x c)
 
-  pub three-terms : add binary64 (add binary64 first (term 1)) (term 2) ≡ asOne (products vals x v c 3)
+  pub three-terms : (a b d : Float) → a ≡ first → b ≡ term 1 → d ≡ term 2 → add binary64 (add binary64 a b) d ≡ asOne (products vals x v c 3)
   unfolding products each joined termByTerm
-  three-terms = rw (add-zero v, add-zero c)
+  three-terms a b d p q r = rw (p, q, r, add-zero v, add-zero c)
 
-  pub six-terms : add binary64 (add binary64 (add binary64 (add binary64 (add binary64 first (term 1)) (term 2)) (term 3)) (term 4)) (term 5) ≡ asOne (products vals x v c 6)
+  pub six-terms : (a b d e f g : Float) → a ≡ first → b ≡ term 1 → d ≡ term 2 → e ≡ term 3 → f ≡ term 4 → g ≡ term 5
+      → add binary64 (add binary64 (add binary64 (add binary64 (add binary64 a b) d) e) f) g ≡ asOne (products vals x v c 6)
   unfolding products each joined termByTerm
-  six-terms = rw (add-zero v, add-zero c)
+  six-terms a b d e f g p q r t u z = rw (p, q, r, t, u, z, add-zero v, add-zero c)
 
 -- the rows of a block: f is a row's number after it, by the number before it and the place of its first value
 module _ (f : Float → ℕ → Float) (sums : List Float) (v : ℕ) where
@@ -64,3 +65,8 @@ module _ (f : Float → ℕ → Float) (sums : List Float) (v : ℕ) where
       → (a ∷ b ∷ c ∷ d ∷ e ∷ g ∷ []) ≡ each (λ i. f (getD sums i nan) (v + 6 * i)) 6
   unfolding each joined
   six-rows a b c d e g p q r s t u = rw (p, q, r, s, t, u, add-zero v)
+
+-- the first column of a full block by its block column, which the code has as k
+pub full-column : (w : ℕ) (vals x sums : List Float) (v k C : ℕ) → k ≡ C
+    → each (λ i. add binary64 (getD sums i nan) (asOne (products vals x (v + w * i) (w * k) w))) w ≡ each (λ i. add binary64 (getD sums i nan) (asOne (products vals x (v + w * i) (w * C) w))) w
+full-column w vals x sums v k C e = ap (λ (n : ℕ). each (λ i. add binary64 (getD sums i nan) (asOne (products vals x (v + w * i) (w * n) w))) w) e

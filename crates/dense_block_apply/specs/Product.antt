@@ -1,8 +1,8 @@
 -- The product of blocks (document 01, "Blocks").
-use Prim.Native.Nat.{ℕ, _+_, _*_, _/_, _%_}
-use mathlib.Core.Bool.{true, cond}
+use Prim.Native.Nat.{ℕ, _+_, _-_, _*_, _/_, _%_, _^_, _≤_, _<_}
+use mathlib.Core.Bool.{true, cond, _&&_}
 use mathlib.Core.List.{List, [], _∷_, foldl}
-use lib.Dec.{leb}
+use lib.Dec.{leb, ltb}
 use lib.ListN.{length, getD}
 use lib.Ieee.{Float, nan, binary64, add, mul}
 use Rattle.hybit_core.specs.Answer.{Answer, lengthIs, _andThen_}
@@ -42,11 +42,15 @@ addBlock b x r s p =
     (cond (leb (w * getD (b .col) p 0 + w) (b .cols)) (add binary64 s (asOne ts)) (termByTerm s ts))
     (add binary64 s (termByTerm zero64 ts))
 
+-- row r's number s after the blocks from one place up to another
+unfoldable pub addedBlocks : Blocks → List Float → ℕ → Float → ℕ → ℕ → Float
+addedBlocks b x r s from to = foldl (addBlock b x r) s (between (λ p. true) from to)
+
 -- the number of row r: over the blocks of its block row, from 0.0
 unfoldable pub blockSum : Blocks → List Float → ℕ → Float
 blockSum b x r =
     let R = r / b .width in
-    foldl (addBlock b x r) zero64 (between (λ p. true) (getD (b .ptr) R 0) (getD (b .ptr) (R + 1) 0))
+    addedBlocks b x r zero64 (getD (b .ptr) R 0) (getD (b .ptr) (R + 1) 0)
 
 unfoldable pub blocksProduct : Blocks → List Float → List Float
 blocksProduct b x = each (blockSum b x) (b .rows)
@@ -54,3 +58,17 @@ blocksProduct b x = each (blockSum b x) (b .rows)
 -- apply: 1; 12; 6 for x; 6 for y, which is ny long
 unfoldable pub applyBlocksAnswer : Blocks → List Float → ℕ → Answer
 applyBlocksAnswer b x ny = blocksAnswer b andThen lengthIs (b .cols) (length x) andThen lengthIs (b .rows) ny
+
+-- ---- what the code of the full block rows asks and says
+
+-- a full block of width w at place p, inside the lists
+pub record FullBlock (w : ℕ) (cs : List ℕ) (vals x : List Float) (p : ℕ) : Type 0 where
+  pub here : p < length cs
+  pub small : p < 2 ^ 24
+  pub values : p * (w * w) + w * w ≤ length vals
+  pub column : w * getD cs p 0 + w ≤ length x
+  pub few : length x ≤ 2 ^ 20
+
+-- where the full blocks of the places from one up to another end: of rising block columns only the last can reach past the frame
+abbrev pub fastEnd : ℕ → ℕ → List ℕ → ℕ → ℕ → ℕ
+fastEnd w cols cs from to = cond (ltb from to && ltb cols (w * getD cs (to - 1) 0 + w)) (to - 1) to

@@ -1,26 +1,31 @@
 // dense_block.rs: `LinearOperator::apply` of `DenseBlockCsrOperator`, the product of blocks. Each value is read once.
 ghost use mathlib.Core.Path.{_≡_};
-ghost use mathlib.Core.Bool.{cond, _&&_};
 ghost use Prim.Native.Nat.{_+_, _-_, _*_, _/_, _≤_, _<_, _^_};
-ghost use lib.Dec.{ltb};
-ghost use lib.ListN.{length, getD, take};
-ghost use lib.Ieee.{nan, binary64, add};
+ghost use lib.ListN.{length, getD, take, set};
+ghost use lib.Ieee.{nan, binary64, add, mul};
 ghost use Rattle.hybit_core.specs.Answer.{accepted};
 ghost use Rattle.hybit_core.specs.Table.{told};
 ghost use Rattle.lent.specs.Lists.{each};
 ghost use Rattle.lent.specs.Lent.{kept};
 ghost use Rattle.dense_block.specs.Blocks.{widthOf, asBlocks};
-ghost use Rattle.dense_block_apply.specs.Product.{products, termByTerm, asOne, blockSum, blocksProduct, applyBlocksAnswer};
+ghost use Rattle.dense_block_apply.specs.Product.{products, termByTerm, asOne, FullBlock, fastEnd, addedBlocks, blockSum, blocksProduct, applyBlocksAnswer};
 use dense_block::DenseBlockSize;
 use hybit_core::HybitError;
 use hybit_core::Verdict;
+
+fn term(values: &[f64], at: usize, x: &[f64], col: usize) -> f64
+    requires { ⌜ at < length (now values) ⌝ ∗ ⌜ col < length (now x) ⌝ }
+    ensures { λ r. ⌜ r ≡ mul binary64 (getD (now (values .entry)) at nan) (getD (now (x .entry)) col nan) ⌝ }
+{
+    values[at] * x[col]
+}
 
 // A full block's terms in one row of three, as one number.
 fn three(values: &[f64], at: usize, x: &[f64], col: usize) -> f64
     requires { ⌜ at + 3 ≤ length (now values) ⌝ ∗ ⌜ col + 3 ≤ length (now x) ⌝ ∗ ⌜ (at ≤ 2 ^ 40) × (col ≤ 2 ^ 40) ⌝ }
     ensures { λ r. ⌜ r ≡ asOne (products (now (values .entry)) (now (x .entry)) at col 3) ⌝ }
 {
-    values[at] * x[col] + values[at + 1] * x[col + 1] + values[at + 2] * x[col + 2]
+    term(values, at, x, col) + term(values, at + 1, x, col + 1) + term(values, at + 2, x, col + 2)
 }
 
 // The same in one row of six.
@@ -28,12 +33,12 @@ fn six(values: &[f64], at: usize, x: &[f64], col: usize) -> f64
     requires { ⌜ at + 6 ≤ length (now values) ⌝ ∗ ⌜ col + 6 ≤ length (now x) ⌝ ∗ ⌜ (at ≤ 2 ^ 40) × (col ≤ 2 ^ 40) ⌝ }
     ensures { λ r. ⌜ r ≡ asOne (products (now (values .entry)) (now (x .entry)) at col 6) ⌝ }
 {
-    values[at] * x[col]
-        + values[at + 1] * x[col + 1]
-        + values[at + 2] * x[col + 2]
-        + values[at + 3] * x[col + 3]
-        + values[at + 4] * x[col + 4]
-        + values[at + 5] * x[col + 5]
+    term(values, at, x, col)
+        + term(values, at + 1, x, col + 1)
+        + term(values, at + 2, x, col + 2)
+        + term(values, at + 3, x, col + 3)
+        + term(values, at + 4, x, col + 4)
+        + term(values, at + 5, x, col + 5)
 }
 
 // Adds `count` terms of a row to `start`, one after the other.
@@ -51,10 +56,12 @@ fn add_terms(start: f64, count: usize, values: &[f64], at: usize, x: &[f64], col
 }
 
 // The three rows of a full block row after a full block more.
-fn add_full3(sums: [f64; 3], values: &[f64], at: usize, x: &[f64], col: usize) -> [f64; 3]
-    requires { ⌜ at + 9 ≤ length (now values) ⌝ ∗ ⌜ col + 3 ≤ length (now x) ⌝ ∗ ⌜ (at ≤ 2 ^ 39) × (col ≤ 2 ^ 39) ⌝ }
-    ensures { λ r. ⌜ r ≡ each (λ i. add binary64 (getD sums i nan) (asOne (products (now (values .entry)) (now (x .entry)) (at + 3 * i) col 3))) 3 ⌝ }
+fn add_full3(sums: [f64; 3], col_idx: &[u32], values: &[f64], x: &[f64], p: usize) -> [f64; 3]
+    requires { ⌜ FullBlock 3 (now «col_idx») (now values) (now x) p ⌝ }
+    ensures { λ r. ⌜ r ≡ each (λ i. add binary64 (getD sums i nan) (asOne (products (now (values .entry)) (now (x .entry)) (9 * p + 3 * i) (3 * getD (now («col_idx» .entry)) p 0) 3))) 3 ⌝ }
 {
+    let at = 9 * p;
+    let col = 3 * hybit_core::wide(col_idx[p]);
     let a = sums[0] + three(values, at, x, col);
     let b = sums[1] + three(values, at + 3, x, col);
     let c = sums[2] + three(values, at + 6, x, col);
@@ -62,10 +69,12 @@ fn add_full3(sums: [f64; 3], values: &[f64], at: usize, x: &[f64], col: usize) -
 }
 
 // The same of six rows.
-fn add_full6(sums: [f64; 6], values: &[f64], at: usize, x: &[f64], col: usize) -> [f64; 6]
-    requires { ⌜ at + 36 ≤ length (now values) ⌝ ∗ ⌜ col + 6 ≤ length (now x) ⌝ ∗ ⌜ (at ≤ 2 ^ 39) × (col ≤ 2 ^ 39) ⌝ }
-    ensures { λ r. ⌜ r ≡ each (λ i. add binary64 (getD sums i nan) (asOne (products (now (values .entry)) (now (x .entry)) (at + 6 * i) col 6))) 6 ⌝ }
+fn add_full6(sums: [f64; 6], col_idx: &[u32], values: &[f64], x: &[f64], p: usize) -> [f64; 6]
+    requires { ⌜ FullBlock 6 (now «col_idx») (now values) (now x) p ⌝ }
+    ensures { λ r. ⌜ r ≡ each (λ i. add binary64 (getD sums i nan) (asOne (products (now (values .entry)) (now (x .entry)) (36 * p + 6 * i) (6 * getD (now («col_idx» .entry)) p 0) 6))) 6 ⌝ }
 {
+    let at = 36 * p;
+    let col = 6 * hybit_core::wide(col_idx[p]);
     let a = sums[0] + six(values, at, x, col);
     let b = sums[1] + six(values, at + 6, x, col);
     let c = sums[2] + six(values, at + 12, x, col);
@@ -117,7 +126,7 @@ fn add_tail6(
 // Where the full blocks of a row end: of rising block columns only the last can reach past the frame.
 fn fast_end(width: usize, ncols: usize, col_idx: &[u32], start: usize, end: usize) -> usize
     requires { ⌜ (start ≤ end) × (end ≤ length (now «col_idx»)) ⌝ ∗ ⌜ width ≤ 6 ⌝ }
-    ensures { λ r. ⌜ r ≡ cond (ltb start end && ltb ncols (width * getD (now («col_idx» .entry)) (end - 1) 0 + width)) (end - 1) end ⌝ }
+    ensures { λ r. ⌜ r ≡ fastEnd width ncols (now («col_idx» .entry)) start end ⌝ }
 {
     if start < end {
         if width * hybit_core::wide(col_idx[end - 1]) + width > ncols {
@@ -127,8 +136,24 @@ fn fast_end(width: usize, ncols: usize, col_idx: &[u32], start: usize, end: usiz
     end
 }
 
-// The three rows of full block row `row` of accepted blocks.
-fn full_row3(
+fn pointer(row_ptr: &[u32], row: usize) -> usize
+    requires { ⌜ row < length (now «row_ptr») ⌝ }
+    ensures { λ r. ⌜ r ≡ getD (now («row_ptr» .entry)) row 0 ⌝ }
+{
+    hybit_core::wide(row_ptr[row])
+}
+
+// How many full blocks a block row starts with.
+fn full_count(width: usize, ncols: usize, row_ptr: &[u32], col_idx: &[u32], row: usize) -> usize
+    requires { ⌜ (row + 1 < length (now «row_ptr»)) × (getD (now «row_ptr») row 0 ≤ getD (now «row_ptr») (row + 1) 0) × (getD (now «row_ptr») (row + 1) 0 ≤ length (now «col_idx»)) ⌝ ∗ ⌜ width ≤ 6 ⌝ }
+    ensures { λ r. ⌜ getD (now («row_ptr» .entry)) row 0 + r ≡ fastEnd width ncols (now («col_idx» .entry)) (getD (now («row_ptr» .entry)) row 0) (getD (now («row_ptr» .entry)) (row + 1) 0) ⌝ }
+{
+    let start = pointer(row_ptr, row);
+    fast_end(width, ncols, col_idx, start, pointer(row_ptr, row + 1)) - start
+}
+
+// The three rows of full block row `row` of accepted blocks: the blocks from place `from` on are added to `sums`.
+fn add_blocks3(
     nrows: usize,
     ncols: usize,
     row_ptr: &[u32],
@@ -136,29 +161,37 @@ fn full_row3(
     values: &[f64],
     x: &[f64],
     row: usize,
+    from: usize,
+    sums: [f64; 3],
 ) -> [f64; 3]
-    requires { ⌜ applyBlocksAnswer (asBlocks nrows ncols 3 (now «row_ptr») (now «col_idx») (now values)) (now x) nrows ≡ accepted ⌝ ∗ ⌜ 3 * row + 3 ≤ nrows ⌝ }
-    ensures { λ r. ⌜ r ≡ each (λ i. blockSum (asBlocks nrows ncols 3 (now («row_ptr» .entry)) (now («col_idx» .entry)) (now (values .entry))) (now (x .entry)) (3 * row + i)) 3 ⌝ }
+    requires { ⌜ applyBlocksAnswer (asBlocks nrows ncols 3 (now «row_ptr») (now «col_idx») (now values)) (now x) nrows ≡ accepted ⌝ ∗ ⌜ 3 * row + 3 ≤ nrows ⌝ ∗ ⌜ (getD (now «row_ptr») row 0 ≤ from) × (from ≤ getD (now «row_ptr») (row + 1) 0) ⌝ }
+    ensures { λ r. ⌜ r ≡ each (λ i. addedBlocks (asBlocks nrows ncols 3 (now («row_ptr» .entry)) (now («col_idx» .entry)) (now (values .entry))) (now (x .entry)) (3 * row + i) (getD sums i nan) from (getD (now («row_ptr» .entry)) (row + 1) 0)) 3 ⌝ }
 {
-    let start = hybit_core::wide(row_ptr[row]);
-    let end = hybit_core::wide(row_ptr[row + 1]);
-    let fast = fast_end(3, ncols, col_idx, start, end);
-    let mut sums = [0.0f64; 3];
-    let mut p = start;
+    let end = pointer(row_ptr, row + 1);
+    let fast = fast_end(3, ncols, col_idx, from, end);
+    let mut all = sums;
+    let mut p = from;
     while p < fast {
-        let full = add_full3(sums, values, 9 * p, x, 3 * hybit_core::wide(col_idx[p]));
-        sums = full;
+        let full = add_full3(all, col_idx, values, x, p);
+        all = full;
         p += 1;
     }
     if p == end {
-        return sums;
+        return all;
     }
     let col = 3 * hybit_core::wide(col_idx[p]);
-    add_tail3(sums, ncols - col, values, 9 * p, x, col)
+    add_tail3(all, ncols - col, values, 9 * p, x, col)
 }
 
-// The six rows of full block row `row`.
-fn full_row6(
+// The three rows of two full block rows.
+struct Two3 {
+    first: [f64; 3],
+    second: [f64; 3],
+}
+
+// The full block rows `row` and `other`, side by side as far as the shorter one's full blocks go: rows far from each other are read as
+// two long streams, which memory serves better than one.
+fn two_rows3(
     nrows: usize,
     ncols: usize,
     row_ptr: &[u32],
@@ -166,28 +199,130 @@ fn full_row6(
     values: &[f64],
     x: &[f64],
     row: usize,
-) -> [f64; 6]
-    requires { ⌜ applyBlocksAnswer (asBlocks nrows ncols 6 (now «row_ptr») (now «col_idx») (now values)) (now x) nrows ≡ accepted ⌝ ∗ ⌜ 6 * row + 6 ≤ nrows ⌝ }
-    ensures { λ r. ⌜ r ≡ each (λ i. blockSum (asBlocks nrows ncols 6 (now («row_ptr» .entry)) (now («col_idx» .entry)) (now (values .entry))) (now (x .entry)) (6 * row + i)) 6 ⌝ }
+    other: usize,
+) -> Two3
+    requires { ⌜ applyBlocksAnswer (asBlocks nrows ncols 3 (now «row_ptr») (now «col_idx») (now values)) (now x) nrows ≡ accepted ⌝ ∗ ⌜ (3 * row + 3 ≤ nrows) × (3 * other + 3 ≤ nrows) ⌝ }
+    ensures { λ s. ⌜ (s .first ≡ each (λ i. blockSum (asBlocks nrows ncols 3 (now («row_ptr» .entry)) (now («col_idx» .entry)) (now (values .entry))) (now (x .entry)) (3 * row + i)) 3) × (s .second ≡ each (λ i. blockSum (asBlocks nrows ncols 3 (now («row_ptr» .entry)) (now («col_idx» .entry)) (now (values .entry))) (now (x .entry)) (3 * other + i)) 3) ⌝ }
 {
-    let start = hybit_core::wide(row_ptr[row]);
-    let end = hybit_core::wide(row_ptr[row + 1]);
-    let fast = fast_end(6, ncols, col_idx, start, end);
-    let mut sums = [0.0f64; 6];
-    let mut p = start;
+    let a = pointer(row_ptr, row);
+    let b = pointer(row_ptr, other);
+    let n = hybit_core::smaller(
+        full_count(3, ncols, row_ptr, col_idx, row),
+        full_count(3, ncols, row_ptr, col_idx, other),
+    );
+    let mut one = [0.0f64; 3];
+    let mut two = [0.0f64; 3];
+    let mut i: usize = 0;
+    while i < n {
+        let more = add_full3(one, col_idx, values, x, a + i);
+        one = more;
+        let more = add_full3(two, col_idx, values, x, b + i);
+        two = more;
+        i += 1;
+    }
+    let first = add_blocks3(nrows, ncols, row_ptr, col_idx, values, x, row, a + i, one);
+    let second = add_blocks3(nrows, ncols, row_ptr, col_idx, values, x, other, b + i, two);
+    Two3 { first, second }
+}
+
+// The six rows of full block row `row` of accepted blocks: the blocks from place `from` on are added to `sums`.
+fn add_blocks6(
+    nrows: usize,
+    ncols: usize,
+    row_ptr: &[u32],
+    col_idx: &[u32],
+    values: &[f64],
+    x: &[f64],
+    row: usize,
+    from: usize,
+    sums: [f64; 6],
+) -> [f64; 6]
+    requires { ⌜ applyBlocksAnswer (asBlocks nrows ncols 6 (now «row_ptr») (now «col_idx») (now values)) (now x) nrows ≡ accepted ⌝ ∗ ⌜ 6 * row + 6 ≤ nrows ⌝ ∗ ⌜ (getD (now «row_ptr») row 0 ≤ from) × (from ≤ getD (now «row_ptr») (row + 1) 0) ⌝ }
+    ensures { λ r. ⌜ r ≡ each (λ i. addedBlocks (asBlocks nrows ncols 6 (now («row_ptr» .entry)) (now («col_idx» .entry)) (now (values .entry))) (now (x .entry)) (6 * row + i) (getD sums i nan) from (getD (now («row_ptr» .entry)) (row + 1) 0)) 6 ⌝ }
+{
+    let end = pointer(row_ptr, row + 1);
+    let fast = fast_end(6, ncols, col_idx, from, end);
+    let mut all = sums;
+    let mut p = from;
     while p < fast {
-        let full = add_full6(sums, values, 36 * p, x, 6 * hybit_core::wide(col_idx[p]));
-        sums = full;
+        let full = add_full6(all, col_idx, values, x, p);
+        all = full;
         p += 1;
     }
     if p == end {
-        return sums;
+        return all;
     }
     let col = 6 * hybit_core::wide(col_idx[p]);
-    add_tail6(sums, ncols - col, values, 36 * p, x, col)
+    add_tail6(all, ncols - col, values, 36 * p, x, col)
 }
 
-// The rows of accepted blocks of width 3, the full block rows first.
+// The six rows of two full block rows.
+struct Two6 {
+    first: [f64; 6],
+    second: [f64; 6],
+}
+
+// The full block rows `row` and `other`, side by side as far as the shorter one's full blocks go: rows far from each other are read as
+// two long streams, which memory serves better than one.
+fn two_rows6(
+    nrows: usize,
+    ncols: usize,
+    row_ptr: &[u32],
+    col_idx: &[u32],
+    values: &[f64],
+    x: &[f64],
+    row: usize,
+    other: usize,
+) -> Two6
+    requires { ⌜ applyBlocksAnswer (asBlocks nrows ncols 6 (now «row_ptr») (now «col_idx») (now values)) (now x) nrows ≡ accepted ⌝ ∗ ⌜ (6 * row + 6 ≤ nrows) × (6 * other + 6 ≤ nrows) ⌝ }
+    ensures { λ s. ⌜ (s .first ≡ each (λ i. blockSum (asBlocks nrows ncols 6 (now («row_ptr» .entry)) (now («col_idx» .entry)) (now (values .entry))) (now (x .entry)) (6 * row + i)) 6) × (s .second ≡ each (λ i. blockSum (asBlocks nrows ncols 6 (now («row_ptr» .entry)) (now («col_idx» .entry)) (now (values .entry))) (now (x .entry)) (6 * other + i)) 6) ⌝ }
+{
+    let a = pointer(row_ptr, row);
+    let b = pointer(row_ptr, other);
+    let n = hybit_core::smaller(
+        full_count(6, ncols, row_ptr, col_idx, row),
+        full_count(6, ncols, row_ptr, col_idx, other),
+    );
+    let mut one = [0.0f64; 6];
+    let mut two = [0.0f64; 6];
+    let mut i: usize = 0;
+    while i < n {
+        let more = add_full6(one, col_idx, values, x, a + i);
+        one = more;
+        let more = add_full6(two, col_idx, values, x, b + i);
+        two = more;
+        i += 1;
+    }
+    let first = add_blocks6(nrows, ncols, row_ptr, col_idx, values, x, row, a + i, one);
+    let second = add_blocks6(nrows, ncols, row_ptr, col_idx, values, x, other, b + i, two);
+    Two6 { first, second }
+}
+
+// Writes the three rows of a full block row.
+fn write3(sums: [f64; 3], at: usize, y: &mut [f64])
+    requires { ⌜ at + 3 ≤ length (now y) ⌝ ∗ ⌜ at ≤ 2 ^ 20 ⌝ }
+    ensures { λ _. ⌜ now (y .exit) ≡ set (set (set (now (y .entry)) at (getD sums 0 nan)) (at + 1) (getD sums 1 nan)) (at + 2) (getD sums 2 nan) ⌝ }
+{
+    y[at] = sums[0];
+    y[at + 1] = sums[1];
+    y[at + 2] = sums[2];
+}
+
+// Writes the six rows of a full block row.
+fn write6(sums: [f64; 6], at: usize, y: &mut [f64])
+    requires { ⌜ at + 6 ≤ length (now y) ⌝ ∗ ⌜ at ≤ 2 ^ 20 ⌝ }
+    ensures { λ _. ⌜ now (y .exit) ≡ set (set (set (set (set (set (now (y .entry)) at (getD sums 0 nan)) (at + 1) (getD sums 1 nan)) (at + 2) (getD sums 2 nan)) (at + 3) (getD sums 3 nan)) (at + 4) (getD sums 4 nan)) (at + 5) (getD sums 5 nan) ⌝ }
+{
+    y[at] = sums[0];
+    y[at + 1] = sums[1];
+    y[at + 2] = sums[2];
+    y[at + 3] = sums[3];
+    y[at + 4] = sums[4];
+    y[at + 5] = sums[5];
+}
+
+// The rows of accepted blocks of width 3, the full block rows first, those of the two halves side by side. Where the second half is
+// the shorter one, its last row is made again.
 fn apply3(
     nrows: usize,
     ncols: usize,
@@ -201,13 +336,15 @@ fn apply3(
     ensures { λ _. ⌜ now (y .exit) ≡ blocksProduct (asBlocks nrows ncols 3 (now («row_ptr» .entry)) (now («col_idx» .entry)) (now (values .entry))) (now (x .entry)) ⌝ }
 {
     let full = nrows / 3;
+    let half = (full + 1) / 2;
     let mut row: usize = 0;
-    while row < full {
-        let sums = full_row3(nrows, ncols, row_ptr, col_idx, values, x, row);
-        let at = 3 * row;
-        y[at] = sums[0];
-        y[at + 1] = sums[1];
-        y[at + 2] = sums[2];
+    while row < half {
+        let other = hybit_core::smaller(row + half, full - 1);
+        let sums = two_rows3(nrows, ncols, row_ptr, col_idx, values, x, row, other);
+        let first = sums.first;
+        let second = sums.second;
+        write3(first, 3 * row, y);
+        write3(second, 3 * other, y);
         row += 1;
     }
     apply_partial_last_row(
@@ -236,16 +373,15 @@ fn apply6(
     ensures { λ _. ⌜ now (y .exit) ≡ blocksProduct (asBlocks nrows ncols 6 (now («row_ptr» .entry)) (now («col_idx» .entry)) (now (values .entry))) (now (x .entry)) ⌝ }
 {
     let full = nrows / 6;
+    let half = (full + 1) / 2;
     let mut row: usize = 0;
-    while row < full {
-        let sums = full_row6(nrows, ncols, row_ptr, col_idx, values, x, row);
-        let at = 6 * row;
-        y[at] = sums[0];
-        y[at + 1] = sums[1];
-        y[at + 2] = sums[2];
-        y[at + 3] = sums[3];
-        y[at + 4] = sums[4];
-        y[at + 5] = sums[5];
+    while row < half {
+        let other = hybit_core::smaller(row + half, full - 1);
+        let sums = two_rows6(nrows, ncols, row_ptr, col_idx, values, x, row, other);
+        let first = sums.first;
+        let second = sums.second;
+        write6(first, 6 * row, y);
+        write6(second, 6 * other, y);
         row += 1;
     }
     apply_partial_last_row(
@@ -277,9 +413,9 @@ fn partial_sum(
     let width = size.width();
     let last = size.full_blocks(nrows);
     let local_row = row - width * last;
-    let end = hybit_core::wide(row_ptr[last + 1]);
+    let end = pointer(row_ptr, last + 1);
     let mut sum: f64 = 0.0;
-    let mut p = hybit_core::wide(row_ptr[last]);
+    let mut p = pointer(row_ptr, last);
     while p < end {
         let col = width * hybit_core::wide(col_idx[p]);
         let at = p * (width * width) + width * local_row;

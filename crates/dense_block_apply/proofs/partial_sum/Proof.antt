@@ -5,7 +5,7 @@ use Prim.Native.Nat.{ℕ, _-_, _*_}
 use native.Mathlib.Omega.{arith}
 use Rattle.dense_block.specs.Blocks.{asBlocks}
 use Rattle.dense_block_apply.specs.Product.{blockSum}
-use Rattle.dense_block_apply.proofs.BlockLaws.{last-row, row-is, last-place}
+use Rattle.dense_block_apply.proofs.BlockLaws.{fits-under, fits-within, fits-forty, row-here, last-row, last-place}
 use Rattle.dense_block_apply.proofs.RowLaws.{Sum, sum-none, sum-more, sum-done}
 use Rattle.dense_block_apply.proofs.partial_sum.Statement.{statement}
 use Rattle.dense_block_apply.proofs.partial_sum.Tie as tie
@@ -27,137 +27,113 @@ mul-local-row c =
     let s = c .before .before .before .before .before .before in
     let a = s .args in
     let k = last-row (a .size) _ (a .nrows) (a .ncols) (a .row-ptr .now) (a .col-idx .now) (a .values .now) (a .x .now) (a .nrows) (a .row) _ (c .before .width .ensures) (c .full-blocks .ensures) (s .pre .0) (s .pre .1 .0) (s .pre .1 .1) in
-    omega (arith, k .ready .rows-in)
+    fits-within (k .below) (s .fits .row)
 
 sub-local-row : tie.Need-sub-local-row Inv-loop μ-loop
 sub-local-row c =
     let s = c .before .before .before .before .before .before in
     let a = s .args in
     let k = last-row (a .size) _ (a .nrows) (a .ncols) (a .row-ptr .now) (a .col-idx .now) (a .values .now) (a .x .now) (a .nrows) (a .row) _ (c .before .width .ensures) (c .full-blocks .ensures) (s .pre .0) (s .pre .1 .0) (s .pre .1 .1) in
-    omega arith
+    k .below
 
-add-wide : tie.Need-add-wide Inv-loop μ-loop
-add-wide c =
+add-pointer : tie.Need-add-pointer Inv-loop μ-loop
+add-pointer c =
     let s = c .before .before .before .before .before .before in
     let a = s .args in
     let k = last-row (a .size) _ (a .nrows) (a .ncols) (a .row-ptr .now) (a .col-idx .now) (a .values .now) (a .x .now) (a .nrows) (a .row) _ (c .before .width .ensures) (c .full-blocks .ensures) (s .pre .0) (s .pre .1 .0) (s .pre .1 .1) in
     omega (arith, k .pointers .next)
 
-mul-wide : tie.Need-mul-wide Inv-loop μ-loop
-mul-wide c =
+pointer-requires : tie.Need-pointer-requires Inv-loop μ-loop
+pointer-requires c κs =
     let s = c .before .before .before .before .before .before in
     let a = s .args in
     let k = last-row (a .size) _ (a .nrows) (a .ncols) (a .row-ptr .now) (a .col-idx .now) (a .values .now) (a .x .now) (a .nrows) (a .row) _ (c .before .width .ensures) (c .full-blocks .ensures) (s .pre .0) (s .pre .1 .0) (s .pre .1 .1) in
-    omega (arith, k .pointers .next)
+    k .pointers .next
 
-shared-slice-read-wide : tie.Need-shared-slice-read-wide Inv-loop μ-loop
-shared-slice-read-wide c =
+pointer-requires-2 : tie.Need-pointer-requires-2 Inv-loop μ-loop
+pointer-requires-2 c κs =
     let s = c .before .before .before .before .before .before .before in
     let a = s .args in
     let k = last-row (a .size) _ (a .nrows) (a .ncols) (a .row-ptr .now) (a .col-idx .now) (a .values .now) (a .x .now) (a .nrows) (a .row) _ (c .before .before .width .ensures) (c .before .full-blocks .ensures) (s .pre .0) (s .pre .1 .0) (s .pre .1 .1) in
-    omega (arith, k .pointers .next)
+    k .pointers .here
+
+loop-holds : tie.Need-loop-holds Inv-loop μ-loop
+loop-holds c =
+    let s = c .before .before .before .before .before .before .before .before in
+    let a = s .args in
+    let k = last-row (a .size) _ (a .nrows) (a .ncols) (a .row-ptr .now) (a .col-idx .now) (a .values .now) (a .x .now) (a .nrows) (a .row) _ (c .before .before .before .width .ensures) (c .before .before .full-blocks .ensures) (s .pre .0) (s .pre .1 .0) (s .pre .1 .1) in
+    sum-none _ _ _ _ _ _ k (c .pointer2 .ensures) (c .before .pointer .ensures)
+
+mul-wide : tie.Need-mul-wide Inv-loop μ-loop
+mul-wide c = let inv = c .before .loop .inv in omega (arith, inv .row .inside)
+
+shared-slice-read-wide : tie.Need-shared-slice-read-wide Inv-loop μ-loop
+shared-slice-read-wide c = let l = c .before .before .loop in row-here (l .inv .row) (l .p) (c .before .loop-test .taken)
 
 wide-requires : tie.Need-wide-requires Inv-loop μ-loop
 wide-requires c κs = search needs
 
-mul-wide-2 : tie.Need-mul-wide-2 Inv-loop μ-loop
-mul-wide-2 c =
-    let s = c .before .before .before .before .before .before .before .before in
-    let a = s .args in
-    let k = last-row (a .size) _ (a .nrows) (a .ncols) (a .row-ptr .now) (a .col-idx .now) (a .values .now) (a .x .now) (a .nrows) (a .row) _ (c .before .before .before .width .ensures) (c .before .before .full-blocks .ensures) (s .pre .0) (s .pre .1 .0) (s .pre .1 .1) in
-    omega (arith, k .pointers .next)
-
-shared-slice-read-wide-2 : tie.Need-shared-slice-read-wide-2 Inv-loop μ-loop
-shared-slice-read-wide-2 c =
-    let s = c .before .before .before .before .before .before .before .before .before in
-    let a = s .args in
-    let k = last-row (a .size) _ (a .nrows) (a .ncols) (a .row-ptr .now) (a .col-idx .now) (a .values .now) (a .x .now) (a .nrows) (a .row) _ (c .before .before .before .before .width .ensures) (c .before .before .before .full-blocks .ensures) (s .pre .0) (s .pre .1 .0) (s .pre .1 .1) in
-    omega (arith, k .pointers .next)
-
-wide-requires-2 : tie.Need-wide-requires-2 Inv-loop μ-loop
-wide-requires-2 c κs = search needs
-
-loop-holds : tie.Need-loop-holds Inv-loop μ-loop
-loop-holds c =
-    let s = c .before .before .before .before .before .before .before .before .before .before in
-    let a = s .args in
-    let k = last-row (a .size) _ (a .nrows) (a .ncols) (a .row-ptr .now) (a .col-idx .now) (a .values .now) (a .x .now) (a .nrows) (a .row) _ (c .before .before .before .before .before .width .ensures) (c .before .before .before .before .full-blocks .ensures) (s .pre .0) (s .pre .1 .0) (s .pre .1 .1) in
-    sum-none _ _ _ _ _ _ k (row-is (k .ready) _ _ _ (k .pointers) (c .wide2 .ensures) (c .before .before .wide .ensures))
-
-mul-wide-3 : tie.Need-mul-wide-3 Inv-loop μ-loop
-mul-wide-3 c =
-    let inv = c .before .loop .inv in
-    omega (arith, inv .row .inside, inv .row .ready .blocks-in)
-
-shared-slice-read-wide-3 : tie.Need-shared-slice-read-wide-3 Inv-loop μ-loop
-shared-slice-read-wide-3 c =
-    let inv = c .before .before .loop .inv in
-    omega (arith, inv .row .inside)
-
-wide-requires-3 : tie.Need-wide-requires-3 Inv-loop μ-loop
-wide-requires-3 c κs = search needs
-
 mul-col : tie.Need-mul-col Inv-loop μ-loop
 mul-col c =
-    let inv = c .before .before .before .loop .inv in
-    let q = last-place (inv .of) (c .before .before .before .loop .p) _ (omega (arith, inv .row .inside)) (c .wide3 .ensures) in
-    omega (arith, inv .row .ready .cols-in)
+    let l = c .before .before .before .loop in
+    let q = last-place (l .inv .of) (l .p) _ (row-here (l .inv .row) (l .p) (c .before .before .loop-test .taken)) (c .wide .ensures) in
+    fits-under (q .column) (c .before .before .before .before .before .before .before .before .before .before .before .before .fits .ncols)
 
 mul-at : tie.Need-mul-at Inv-loop μ-loop
 mul-at c =
-    let inv = c .before .before .before .loop .inv in
-    let q = last-place (inv .of) (c .before .before .before .loop .p) _ (omega (arith, inv .row .inside)) (c .wide3 .ensures) in
-    omega arith
+    let l = c .before .before .before .loop in
+    let q = last-place (l .inv .of) (l .p) _ (row-here (l .inv .row) (l .p) (c .before .before .loop-test .taken)) (c .wide .ensures) in
+    fits-forty (q .square)
 
 mul-at-2 : tie.Need-mul-at-2 Inv-loop μ-loop
 mul-at-2 c =
-    let inv = c .before .before .before .loop .inv in
-    let q = last-place (inv .of) (c .before .before .before .loop .p) _ (omega (arith, inv .row .inside)) (c .wide3 .ensures) in
-    omega arith
+    let l = c .before .before .before .loop in
+    let q = last-place (l .inv .of) (l .p) _ (row-here (l .inv .row) (l .p) (c .before .before .loop-test .taken)) (c .wide .ensures) in
+    fits-forty (q .first)
 
 mul-at-3 : tie.Need-mul-at-3 Inv-loop μ-loop
 mul-at-3 c =
-    let inv = c .before .before .before .loop .inv in
-    let q = last-place (inv .of) (c .before .before .before .loop .p) _ (omega (arith, inv .row .inside)) (c .wide3 .ensures) in
-    omega arith
+    let l = c .before .before .before .loop in
+    let q = last-place (l .inv .of) (l .p) _ (row-here (l .inv .row) (l .p) (c .before .before .loop-test .taken)) (c .wide .ensures) in
+    fits-forty (q .row)
 
 add-at : tie.Need-add-at Inv-loop μ-loop
 add-at c =
-    let inv = c .before .before .before .loop .inv in
-    let q = last-place (inv .of) (c .before .before .before .loop .p) _ (omega (arith, inv .row .inside)) (c .wide3 .ensures) in
-    omega arith
+    let l = c .before .before .before .loop in
+    let q = last-place (l .inv .of) (l .p) _ (row-here (l .inv .row) (l .p) (c .before .before .loop-test .taken)) (c .wide .ensures) in
+    fits-forty (q .start)
 
 sub-smaller : tie.Need-sub-smaller Inv-loop μ-loop
 sub-smaller c =
-    let inv = c .before .before .before .loop .inv in
-    let q = last-place (inv .of) (c .before .before .before .loop .p) _ (omega (arith, inv .row .inside)) (c .wide3 .ensures) in
-    omega (arith, inv .row .ready .cols-in)
+    let l = c .before .before .before .loop in
+    let q = last-place (l .inv .of) (l .p) _ (row-here (l .inv .row) (l .p) (c .before .before .loop-test .taken)) (c .wide .ensures) in
+    q .inside
 
 smaller-requires : tie.Need-smaller-requires Inv-loop μ-loop
 smaller-requires c κs = search needs
 
 add-terms-requires : tie.Need-add-terms-requires Inv-loop μ-loop
 add-terms-requires c κs =
-    let inv = c .before .before .before .before .loop .inv in
-    let q = last-place (inv .of) (c .before .before .before .before .loop .p) _ (omega (arith, inv .row .inside)) (c .before .wide3 .ensures) in
-    (omega (arith, c .smaller .ensures), (omega (arith, c .smaller .ensures, inv .row .ready .x-long), (omega arith, omega (arith, inv .row .ready .cols-in))))
+    let l = c .before .before .before .before .loop in
+    let q = last-place (l .inv .of) (l .p) _ (row-here (l .inv .row) (l .p) (c .before .before .before .loop-test .taken)) (c .before .wide .ensures) in
+    q .terms _ (c .smaller .ensures)
 
 add-p : tie.Need-add-p Inv-loop μ-loop
-add-p c =
-    let inv = c .before .before .before .before .before .loop .inv in
-    omega (arith, inv .row .inside, inv .row .ready .blocks-in)
+add-p c = omega arith
 
 loop-less : tie.Need-loop-less Inv-loop μ-loop
-loop-less c = omega arith
+loop-less c = search needs
 
 loop-again : tie.Need-loop-again Inv-loop μ-loop
-loop-again c = sum-more _ _ _ _ _ _ _ _ (c .before .before .before .before .before .loop .inv) _ _ _ _ refl (ap (λ (k : ℕ). c .before .before .before .before .before .before .before .before .before .before .before .width .result * k) (c .before .before .wide3 .ensures)) (c .before .smaller .ensures) (omega arith) (c .add-terms .ensures)
+loop-again c =
+    let l = c .before .before .before .before .before .loop in
+    sum-more _ _ _ _ _ _ _ _ (l .inv) _ _ _ _ refl (ap (λ (k : ℕ). c .before .before .before .before .before .before .before .before .before .width .result * k) (c .before .before .wide .ensures)) (c .before .smaller .ensures) (c .before .before .before .before .loop-test .taken) (c .add-terms .ensures)
 
 returns : tie.Need-returns Inv-loop μ-loop
 returns c =
-    let a = c .before .before .before .before .before .before .before .before .before .before .before .before .args in
-    sum-done _ _ _ _ _ _ _ _ (c .before .loop .inv) (omega arith)
-    ∙ ap (λ (w : ℕ). blockSum (asBlocks (a .nrows) (a .ncols) w (a .row-ptr .now) (a .col-idx .now) (a .values .now)) (a .x .now) (a .row)) (c .before .before .before .before .before .before .before .width .ensures)
+    let a = c .before .before .before .before .before .before .before .before .before .before .args in
+    sum-done _ _ _ _ _ _ _ _ (c .before .loop .inv) (c .loop-test .left)
+    ∙ ap (λ (w : ℕ). blockSum (asBlocks (a .nrows) (a .ncols) w (a .row-ptr .now) (a .col-idx .now) (a .values .now)) (a .x .now) (a .row)) (c .before .before .before .before .before .width .ensures)
 
 pub partial-sum-spec : {M : Type 1} → statement M
 partial-sum-spec =
@@ -169,17 +145,13 @@ partial-sum-spec =
     full-blocks-requires
     mul-local-row
     sub-local-row
-    add-wide
+    add-pointer
+    pointer-requires
+    pointer-requires-2
+    loop-holds
     mul-wide
     shared-slice-read-wide
     wide-requires
-    mul-wide-2
-    shared-slice-read-wide-2
-    wide-requires-2
-    loop-holds
-    mul-wide-3
-    shared-slice-read-wide-3
-    wide-requires-3
     mul-col
     mul-at
     mul-at-2

@@ -3,7 +3,7 @@
 ghost use mathlib.Core.Path.{_≡_};
 ghost use mathlib.Core.Bool.{true};
 ghost use mathlib.Core.List.{map, zip};
-ghost use Prim.Native.Nat.{_+_, _*_, _≤_, _^_};
+ghost use Prim.Native.Nat.{_+_, _*_, _≤_, _<_, _^_};
 ghost use lib.Dec.{ltb};
 ghost use lib.ListN.{length, take};
 ghost use Rattle.hybit_core.specs.Answer.{accepted, answers, demand, _andThen_};
@@ -49,8 +49,8 @@ fn keep_tile(
 ) -> usize
     requires { ⌜ 64 * wordIn meta ≤ 2 ^ 20 ⌝ ∗ ⌜ bitsInside (length (now values)) bits mask offset meta ≡ true ⌝ ∗ ⌜ (room ≤ length (now «out_col_idx»)) × (room ≤ length (now «out_values»)) ⌝ ∗ ⌜ from ≤ 2 ^ 40 ⌝ }
     ensures next { λ r. ⌜ r ≡ from + length (members bits) ⌝ }
-    ensures columns { λ r. ⌜ r ≤ room → Appended (map (λ i. 64 * wordIn meta + i) (members bits)) from r (now («out_col_idx» .entry)) (now («out_col_idx» .exit)) ⌝ }
-    ensures values { λ r. ⌜ r ≤ room → Appended (map (valueIn (now (values .entry)) mask offset meta) (members bits)) from r (now («out_values» .entry)) (now («out_values» .exit)) ⌝ }
+    ensures columns { λ r. ⌜ (r ≤ room → Appended (map (λ i. 64 * wordIn meta + i) (members bits)) from r (now («out_col_idx» .entry)) (now («out_col_idx» .exit))) ⌝ }
+    ensures values { λ r. ⌜ (r ≤ room → Appended (map (valueIn (now (values .entry)) mask offset meta) (members bits)) from r (now («out_values» .entry)) (now («out_values» .exit))) ⌝ }
 {
     let base = 64 * hybit_core::wide(abtm::word_in(meta));
     let mut next = from;
@@ -84,8 +84,8 @@ fn keep_row(
 ) -> usize
     requires { ⌜ (length (now «value_offsets») ≡ length (now masks)) × (length (now metas) ≡ length (now masks)) ⌝ ∗ ⌜ every (tileReady (length (now values)) (length (now mask))) (zip (now masks) (zip (now «value_offsets») (now metas))) ≡ true ⌝ ∗ ⌜ length (now mask) ≤ 2 ^ 14 ⌝ ∗ ⌜ (room ≤ length (now «out_col_idx»)) × (room ≤ length (now «out_values»)) ⌝ ∗ ⌜ from + 64 * length (now masks) ≤ 2 ^ 31 ⌝ }
     ensures next { λ r. ⌜ r ≡ from + length (keptAll (now (values .entry)) (now (mask .entry)) (zip (now (masks .entry)) (zip (now («value_offsets» .entry)) (now (metas .entry))))) ⌝ }
-    ensures columns { λ r. ⌜ r ≤ room → Appended (map (λ (e : Entry). e .0) (keptAll (now (values .entry)) (now (mask .entry)) (zip (now (masks .entry)) (zip (now («value_offsets» .entry)) (now (metas .entry)))))) from r (now («out_col_idx» .entry)) (now («out_col_idx» .exit)) ⌝ }
-    ensures values { λ r. ⌜ r ≤ room → Appended (map (λ (e : Entry). e .1) (keptAll (now (values .entry)) (now (mask .entry)) (zip (now (masks .entry)) (zip (now («value_offsets» .entry)) (now (metas .entry)))))) from r (now («out_values» .entry)) (now («out_values» .exit)) ⌝ }
+    ensures columns { λ r. ⌜ (r ≤ room → Appended (map (λ (e : Entry). e .0) (keptAll (now (values .entry)) (now (mask .entry)) (zip (now (masks .entry)) (zip (now («value_offsets» .entry)) (now (metas .entry)))))) from r (now («out_col_idx» .entry)) (now («out_col_idx» .exit))) ⌝ }
+    ensures values { λ r. ⌜ (r ≤ room → Appended (map (λ (e : Entry). e .1) (keptAll (now (values .entry)) (now (mask .entry)) (zip (now (masks .entry)) (zip (now («value_offsets» .entry)) (now (metas .entry)))))) from r (now («out_values» .entry)) (now («out_values» .exit))) ⌝ }
 {
     let mut at = from;
     let mut k: usize = 0;
@@ -128,8 +128,8 @@ fn fill_rows(
     requires { ⌜ recordsAnswer (asTiles nrows ncols (now «row_tile_ptr») (now masks) (now «value_offsets») (now metas) (now values) «matrix_nnz») (asMask «mask_len» (now mask)) ≡ accepted ⌝ ∗ ⌜ nrows < length (now «out_row_ptr») ⌝ ∗ ⌜ (room ≤ length (now «out_col_idx»)) × (room ≤ length (now «out_values»)) ⌝ }
     ensures kept { λ r. ⌜ r ≡ length (restrictedTiles (asTiles nrows ncols (now («row_tile_ptr» .entry)) (now (masks .entry)) (now («value_offsets» .entry)) (now (metas .entry)) (now (values .entry)) «matrix_nnz») (asMask «mask_len» (now (mask .entry))) .val) ⌝ }
     ensures pointers { λ r. ⌜ Appended (restrictedTiles (asTiles nrows ncols (now («row_tile_ptr» .entry)) (now (masks .entry)) (now («value_offsets» .entry)) (now (metas .entry)) (now (values .entry)) «matrix_nnz») (asMask «mask_len» (now (mask .entry))) .ptr) 0 (nrows + 1) (now («out_row_ptr» .entry)) (now («out_row_ptr» .exit)) ⌝ }
-    ensures columns { λ r. ⌜ r ≤ room → Appended (restrictedTiles (asTiles nrows ncols (now («row_tile_ptr» .entry)) (now (masks .entry)) (now («value_offsets» .entry)) (now (metas .entry)) (now (values .entry)) «matrix_nnz») (asMask «mask_len» (now (mask .entry))) .col) 0 r (now («out_col_idx» .entry)) (now («out_col_idx» .exit)) ⌝ }
-    ensures values { λ r. ⌜ r ≤ room → Appended (restrictedTiles (asTiles nrows ncols (now («row_tile_ptr» .entry)) (now (masks .entry)) (now («value_offsets» .entry)) (now (metas .entry)) (now (values .entry)) «matrix_nnz») (asMask «mask_len» (now (mask .entry))) .val) 0 r (now («out_values» .entry)) (now («out_values» .exit)) ⌝ }
+    ensures columns { λ r. ⌜ (r ≤ room → Appended (restrictedTiles (asTiles nrows ncols (now («row_tile_ptr» .entry)) (now (masks .entry)) (now («value_offsets» .entry)) (now (metas .entry)) (now (values .entry)) «matrix_nnz») (asMask «mask_len» (now (mask .entry))) .col) 0 r (now («out_col_idx» .entry)) (now («out_col_idx» .exit))) ⌝ }
+    ensures values { λ r. ⌜ (r ≤ room → Appended (restrictedTiles (asTiles nrows ncols (now («row_tile_ptr» .entry)) (now (masks .entry)) (now («value_offsets» .entry)) (now (metas .entry)) (now (values .entry)) «matrix_nnz») (asMask «mask_len» (now (mask .entry))) .val) 0 r (now («out_values» .entry)) (now («out_values» .exit))) ⌝ }
 {
     let mut at: usize = 0;
     let mut row: usize = 0;
@@ -347,7 +347,7 @@ fn fill(
 ) -> Filled
     requires { ⌜ recordsAnswer (asTiles nrows ncols (now «row_tile_ptr») (now masks) (now «value_offsets») (now metas) (now values) «matrix_nnz») (asMask «mask_len» (now mask)) ≡ accepted ⌝ }
     ensures answer { λ f. ⌜ told (f .verdict) ≡ lastAnswer (asTiles nrows ncols (now («row_tile_ptr» .entry)) (now (masks .entry)) (now («value_offsets» .entry)) (now (metas .entry)) (now (values .entry)) «matrix_nnz») (asMask «mask_len» (now (mask .entry))) (asCsrRoom (length (now («out_row_ptr» .entry))) (length (now («out_col_idx» .entry))) (length (now («out_values» .entry)))) ⌝ }
-    ensures lists { λ f. ⌜ told (f .verdict) ≡ accepted → Restriction (asTiles nrows ncols (now («row_tile_ptr» .entry)) (now (masks .entry)) (now («value_offsets» .entry)) (now (metas .entry)) (now (values .entry)) «matrix_nnz») (asMask «mask_len» (now (mask .entry))) (f .kept) (now («out_row_ptr» .entry)) (now («out_row_ptr» .exit)) (now («out_col_idx» .entry)) (now («out_col_idx» .exit)) (now («out_values» .entry)) (now («out_values» .exit)) ⌝ }
+    ensures lists { λ f. ⌜ (told (f .verdict) ≡ accepted → Restriction (asTiles nrows ncols (now («row_tile_ptr» .entry)) (now (masks .entry)) (now («value_offsets» .entry)) (now (metas .entry)) (now (values .entry)) «matrix_nnz») (asMask «mask_len» (now (mask .entry))) (f .kept) (now («out_row_ptr» .entry)) (now («out_row_ptr» .exit)) (now («out_col_idx» .entry)) (now («out_col_idx» .exit)) (now («out_values» .entry)) (now («out_values» .exit))) ⌝ }
 {
     if out_row_ptr.len() <= nrows {
         let short = examine_kept(

@@ -68,6 +68,19 @@ module _ (rows : ℕ) (kept : List Entry) (np nc nv : ℕ) where
           pub kept-good : k ≤ nv → accepted ≡ keptAnswer rows kept (asCsrRoom np nc nv)
           kept-good l = by-room _ (last-passes _ 13 (and-next (leb (rows + 1) np && leb (length kept) nc) (leb (length kept) nv) true columns-in (is-within (length kept) nv (omega arith))))
 
+-- ---- the tests of values that were written
+
+module _ (vs : List Float) where
+  pub written-infinite : false ≡ every finite vs → refused (plain 4) ≡ demand (every finite vs) 4 andThen demand (many (length vs)) 1
+  written-infinite e = test-fails (every finite vs) 4 _ e
+
+  module _ (f : true ≡ every finite vs) where
+    pub written-many : false ≡ many (length vs) → refused (plain 1) ≡ demand (every finite vs) 4 andThen demand (many (length vs)) 1
+    written-many e = test-passes (every finite vs) 4 _ _ f (last-fails (many (length vs)) 1 e)
+
+    pub written-good : true ≡ many (length vs) → accepted ≡ demand (every finite vs) 4 andThen demand (many (length vs)) 1
+    written-good e = test-passes (every finite vs) 4 _ _ f (last-passes (many (length vs)) 1 e)
+
 -- ---- the checks of the two records, as the calls of theirs give them
 
 module _ (t : Tiles) (n : ℕ) (ws : List ℕ) where

@@ -2,7 +2,7 @@
 use mathlib.Core.Bool.{Bool, true, false, _&&_}
 use mathlib.Core.List.{List, zip}
 use mathlib.Core.Path.{_≡_, refl, sym, ap, _∙_}
-use Prim.Native.Nat.{ℕ, _+_, _≤_, _<_, _^_}
+use Prim.Native.Nat.{ℕ, _+_, _≤_, _<_, _^_, min}
 use native.Mathlib.Numerals.{add-one}
 use native.Mathlib.Omega.{arith}
 use lib.Dec.{leb}
@@ -145,9 +145,11 @@ module _ (t : Tiles) (n : ℕ) (ws : List ℕ) (ok : recordsAnswer t (asMask n w
   unfolding listedTiles
   tiles-ready fits = all-ready t (facts t n ws ok .tiles) n ws (facts t n ws ok .mask) (facts t n ws ok .size) fits
 
-  pub by-kept : (a : Answer) (room : CsrRoom) → a ≡ keptAnswer (t .rows) (keptAll (t .vals) ws (zip (t .mask) (zip (t .offset) (t .meta)))) room → a ≡ lastAnswer t (asMask n ws) room
+  -- the lists have their lengths still
+  pub by-kept : (a : Answer) (p c v np nc nv : ℕ) → p ≡ np → c ≡ nc → v ≡ nv → a ≡ keptAnswer (t .rows) (keptAll (t .vals) ws (zip (t .mask) (zip (t .offset) (t .meta)))) (asCsrRoom p c v)
+      → a ≡ lastAnswer t (asMask n ws) (asCsrRoom np nc nv)
   unfolding listedTiles
-  by-kept a room e = e ∙ last-is t (facts t n ws ok .tiles) n ws (facts t n ws ok .mask) room
+  by-kept a p c v np nc nv ep ec ev e = e ∙ last-is t (facts t n ws ok .tiles) n ws (facts t n ws ok .mask) (asCsrRoom p c v) ∙ (λ i. lastAnswer t (asMask n ws) (asCsrRoom (ep i) (ec i) (ev i)))
 
 -- ---- the room that is asked for
 
@@ -185,17 +187,24 @@ module _ (t : Tiles) (n : ℕ) (ws : List ℕ) (np nc nv : ℕ) where
         values = leb-true kept nv (and-right (p && c) v all);
       }
 
-  -- with it, the tests of the values that were written decide
-  pub last-written : Held → (to : ℕ) (old out : List Float) (a : Answer) → Appended (restrictedTiles t (asMask n ws) .val) 0 to old out → a ≡ demand (every finite (take to out)) 4 andThen demand (many (length (take to out))) 1 → a ≡ lastAnswer t (asMask n ws) (asCsrRoom np nc nv)
+  pub pointers-short : np ≤ t .rows → (a : Answer) → a ≡ lastAnswer t (asMask n ws) (asCsrRoom np nc nv) → a ≡ accepted → ⊥
+  pointers-short l a e h = omega (arith, last-held (sym e ∙ h) .pointers)
+
+  pub entries-short : (to room : ℕ) → to ≡ kept → room ≡ min nc nv → room < to → (a : Answer) → a ≡ lastAnswer t (asMask n ws) (asCsrRoom np nc nv) → a ≡ accepted → ⊥
+  entries-short to room et er l a e h = let held : Held = last-held (sym e ∙ h) in omega (arith, held .columns, held .values)
+
+  -- where there is room, the tests of the values that were written decide
+  pub last-written : (to room : ℕ) → to ≡ kept → room ≡ min nc nv → to ≤ room → t .rows < np → (old out : List Float) (a : Answer) → Appended (restrictedTiles t (asMask n ws) .val) 0 to old out
+      → a ≡ demand (every finite (take to out)) 4 andThen demand (many (length (take to out))) 1 → a ≡ lastAnswer t (asMask n ws) (asCsrRoom np nc nv)
   unfolding lastAnswer
-  last-written h to old out a w e =
+  last-written to room et er l p old out a w e =
       let val : List Float = restrictedTiles t (asMask n ws) .val in
-      let room : true ≡ fitsCsr (restrictedTiles t (asMask n ws)) (asCsrRoom np nc nv) =
+      let fit : true ≡ fitsCsr (restrictedTiles t (asMask n ws)) (asCsrRoom np nc nv) =
       fits true (and-next (leb (t .rows + 1) np && leb kept nc) (leb kept nv) true
-      (and-next (leb (t .rows + 1) np) (leb kept nc) true (is-within (t .rows + 1) np (omega (arith, h .pointers))) (is-within kept nc (h .columns)))
-      (is-within kept nv (h .values))) in
+      (and-next (leb (t .rows + 1) np) (leb kept nc) true (is-within (t .rows + 1) np (omega arith)) (is-within kept nc (omega arith)))
+      (is-within kept nv (omega arith))) in
       e ∙ ap (λ (l : List Float). demand (every finite l) 4 andThen demand (many (length l)) 1) (w .list)
-      ∙ ends (demand (every finite val) 4) (demand (many (length val)) 1) (demand (fitsCsr (restrictedTiles t (asMask n ws)) (asCsrRoom np nc nv)) 13) (last-passes _ 13 room)
+      ∙ ends (demand (every finite val) 4) (demand (many (length val)) 1) (demand (fitsCsr (restrictedTiles t (asMask n ws)) (asCsrRoom np nc nv)) 13) (last-passes _ 13 fit)
     where
       ends : (a b c : Answer) → accepted ≡ c → a andThen b ≡ a andThen b andThen c
       ends accepted accepted c e = e

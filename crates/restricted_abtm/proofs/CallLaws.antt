@@ -1,6 +1,6 @@
 -- The checks at each return of the code, and what a call answers. Assumes nothing.
 use mathlib.Core.Bool.{Bool, true, false, _&&_}
-use mathlib.Core.List.{List, zip}
+use mathlib.Core.List.{List, [], zip}
 use mathlib.Core.Path.{_≡_, refl, sym, ap, _∙_}
 use Prim.Native.Nat.{ℕ, _+_, _≤_, _<_, _^_, min}
 use native.Mathlib.Numerals.{add-one}
@@ -19,7 +19,7 @@ use Rattle.hybit_core.specs.declared.HybitError.{HybitError}
 use Rattle.hybit_core.proofs.BoolLaws.{and-first, and-next, and-left, and-right, is-within, is-above}
 use Rattle.hybit_core.proofs.AnswerLaws.{demand-accepted, then-second, test-fails, test-passes, last-fails, last-passes, last-length-wrong, last-length-right, call-refused, call-accepted, by-records}
 use Rattle.lent.specs.Lists.{joined, every}
-use Rattle.lent.specs.Lent.{Appended}
+use Rattle.lent.specs.Lent.{Appended, padded}
 use Rattle.lent.proofs.ListLaws.{every-map}
 use Rattle.mask.specs.Mask.{Mask, asMask, maskRules, maskAnswer}
 use Rattle.mask.proofs.MaskLaws.{Valid}
@@ -229,6 +229,10 @@ module _ (t : Tiles) (a : Mask) (room : CsrRoom) where
 
   pub last-decides : (v w : Verdict) → told v ≡ recordsAnswer t a → v ≡ Accepted → told w ≡ lastAnswer t a room → told w ≡ restrictTilesAnswer t a room
   last-decides v w h k l = call-accepted (recordsAnswer t a) (lastAnswer t a room) (told w) v h k l ∙ sym whole-is
+
+-- lists that a refused call has written to, cleared
+pub wiped : {A : Type 0} (z : A) (m n : ℕ) (last : List A) → m ≡ n → last ≡ padded z m [] → last ≡ padded z n []
+wiped z m n last s e = e ∙ ap (λ (k : ℕ). padded z k []) s
 
 -- ---- the numbers of an accepted build
 

@@ -8,11 +8,11 @@ use Rattle.restricted_abtm.proofs.fill.Statement.{statement}
 use Rattle.restricted_abtm.proofs.fill.Tie as tie
 
 examine-kept-requires : tie.Need-examine-kept-requires
-examine-kept-requires c κs = 
+examine-kept-requires c κs =
     ((offsets-long _ _ _ (c .before .before .before .before .before .before .before .before .before .before .pre), metas-long _ _ _ (c .before .before .before .before .before .before .before .before .before .before .pre)), (tiles-ready _ _ _ (c .before .before .before .before .before .before .before .before .before .before .pre) (λ k. c .before .before .before .before .before .before .before .before .shared-slice-known2 .given k .fits), many-tiles _ _ _ (c .before .before .before .before .before .before .before .before .before .before .pre)))
 
 returns : tie.Need-returns
-returns c = 
+returns c =
     let answer = by-kept _ _ _ (c .before .before .before .before .before .before .before .before .before .before .before .pre) _ _ _ _ _ _ _ refl refl refl (c .examine-kept .ensures) in
     (answer, λ a. absurd (pointers-short _ _ _ _ _ _ (c .before .if1 .taken) _ answer a))
 
@@ -23,7 +23,7 @@ fill-rows-requires : tie.Need-fill-rows-requires
 fill-rows-requires c κs = (c .before .before .before .before .before .before .before .before .before .before .before .before .before .before .pre, (omega arith, (omega (arith, c .before .before .before .smaller .ensures), omega (arith, c .before .before .before .smaller .ensures))))
 
 examine-kept-requires-2 : tie.Need-examine-kept-requires-2
-examine-kept-requires-2 c κs = 
+examine-kept-requires-2 c κs =
     ((offsets-long _ _ _ (c .before .before .before .before .before .before .before .before .before .before .before .before .before .before .before .before .before .before .before .before .before .before .pre), metas-long _ _ _ (c .before .before .before .before .before .before .before .before .before .before .before .before .before .before .before .before .before .before .before .before .before .before .pre)), (tiles-ready _ _ _ (c .before .before .before .before .before .before .before .before .before .before .before .before .before .before .before .before .before .before .before .before .before .before .pre) (λ k. c .before .before .before .before .before .before .before .before .before .before .before .before .before .before .before .before .before .before .before .before .shared-slice-known2 .given k .fits), many-tiles _ _ _ (c .before .before .before .before .before .before .before .before .before .before .before .before .before .before .before .before .before .before .before .before .before .before .pre)))
 
 same-length : tie.Need-same-length
@@ -36,7 +36,7 @@ same-length-3 : tie.Need-same-length-3
 same-length-3 c = search needs
 
 returns-2 : tie.Need-returns-2
-returns-2 c = 
+returns-2 c =
     let answer = by-kept _ _ _ (c .before .before .before .before .before .before .before .before .before .before .before .before .before .before .before .before .before .before .before .before .before .before .before .pre) _ _ _ _ _ _ _ (c .before .before .before .before .before .before .before .before .fill-rows .kept .1 .1 .1 .1 .1 .1 .1 .1 .1 .1 .1 .0) (c .before .before .before .before .before .before .before .before .fill-rows .kept .1 .1 .1 .1 .1 .1 .1 .1 .1 .1 .1 .1 .0) (c .before .before .before .before .before .before .before .before .fill-rows .kept .1 .1 .1 .1 .1 .1 .1 .1 .1 .1 .1 .1 .1 .0) (c .examine-kept2 .ensures) in
     (answer, λ a. absurd (entries-short _ _ _ _ _ _ _ _ (c .before .before .before .before .before .before .before .before .fill-rows .ensures .0) (c .before .before .before .before .before .before .before .before .before .before .before .before .smaller .ensures) (c .before .if2 .taken) _ answer a))
 
@@ -59,7 +59,7 @@ same-length-6 : tie.Need-same-length-6
 same-length-6 c = search needs
 
 returns-3 : tie.Need-returns-3
-returns-3 c = 
+returns-3 c =
     let f = c .before .before .before .before .before .before .before .before .before .fill-rows .ensures in
     (last-written _ _ _ _ _ _ _ _ (f .0) (c .before .before .before .before .before .before .before .before .before .before .before .before .before .smaller .ensures) (omega arith) (omega arith) _ _ _ (f .1 .1 .1 (omega arith)) (c .examine-written .ensures), λ a. record { number = f .0; pointers = f .1 .0; columns = f .1 .1 .0 (omega arith); values = f .1 .1 .1 (omega arith) })
 

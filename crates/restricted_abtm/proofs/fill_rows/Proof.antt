@@ -110,7 +110,7 @@ part-keep-row-end-3 c =
     omega (arith, p .order, p .in-metas)
 
 keep-row-requires : tie.Need-keep-row-requires Inv-loop μ-loop
-keep-row-requires c κs = 
+keep-row-requires c κs =
     ((lent-offsets _ (facts _ _ _ (c .before .before .before .before .before .before .before .before .before .before .before .before .before .before .before .before .before .before .before .before .before .pre .0) .tiles) (c .before .before .before .before .before .before .before .before .before .before .before .loop .row) _ _ (omega arith) (c .before .before .before .before .before .before .before .wide .ensures) (c .before .before .before .before .before .wide2 .ensures), lent-metas _ (facts _ _ _ (c .before .before .before .before .before .before .before .before .before .before .before .before .before .before .before .before .before .before .before .before .before .pre .0) .tiles) (c .before .before .before .before .before .before .before .before .before .before .before .loop .row) _ _ (omega arith) (c .before .before .before .before .before .before .before .wide .ensures) (c .before .before .before .before .before .wide2 .ensures)), (lent-ready _ _ _ (c .before .before .before .before .before .before .before .before .before .before .before .before .before .before .before .before .before .before .before .before .before .pre .0) (c .before .before .before .before .before .before .before .before .before .before .before .loop .row) _ _ (omega arith) (c .before .before .before .before .before .before .before .wide .ensures) (c .before .before .before .before .before .wide2 .ensures) (λ k. c .before .before .before .before .before .before .before .before .before .before .before .before .before .before .before .before .before .before .before .shared-slice-known2 .given k .fits), (words-few _ _ _ (c .before .before .before .before .before .before .before .before .before .before .before .before .before .before .before .before .before .before .before .before .before .pre .0), ((omega (arith, c .before .before .before .before .before .before .before .before .before .before .before .loop .inv .columns .same, c .before .before .before .before .before .before .before .before .before .before .before .before .before .before .before .before .before .before .before .before .before .pre .1 .1), omega (arith, c .before .before .before .before .before .before .before .before .before .before .before .loop .inv .values .same, c .before .before .before .before .before .before .before .before .before .before .before .before .before .before .before .before .before .before .before .before .before .pre .1 .1)), row-small _ _ _ (c .before .before .before .before .before .before .before .before .before .before .before .before .before .before .before .before .before .before .before .before .before .pre .0) (c .before .before .before .before .before .before .before .before .before .before .before .loop .row) _ _ (omega arith) (c .before .before .before .before .before .before .before .wide .ensures) (c .before .before .before .before .before .wide2 .ensures) _ _ _ _ (c .before .before .before .before .before .before .before .before .before .before .before .before .before .before .before .before .before .before .before .before .before .pre .1 .0) _ _ _ _ (c .before .before .before .before .before .before .before .before .before .before .before .loop .inv)))))
 
 add-row : tie.Need-add-row Inv-loop μ-loop
@@ -120,7 +120,7 @@ loop-less : tie.Need-loop-less Inv-loop μ-loop
 loop-less c = search needs
 
 loop-again : tie.Need-loop-again Inv-loop μ-loop
-loop-again c = 
+loop-again c =
     filling-more _ _ _ (c .before .before .before .before .before .before .before .before .before .before .before .before .before .before .before .before .before .before .before .before .before .before .before .before .before .before .pre .0) (c .before .before .before .before .before .before .before .before .before .before .before .before .before .before .before .before .loop .row) _ _ (omega arith) (c .before .before .before .before .before .before .before .before .before .before .before .before .wide .ensures) (c .before .before .before .before .before .before .before .before .before .before .wide2 .ensures) _ _ _ _ (c .before .before .before .before .before .before .before .before .before .before .before .before .before .before .before .before .before .before .before .before .before .before .before .before .before .before .pre .1 .0) _ _ _ _ (c .before .before .before .before .before .before .before .before .before .before .before .before .before .before .before .before .loop .inv) _ _ _ _ (c .before .before .before .before .before .before .before .before .before .before .before .before .before .before .narrow .ensures)
     (c .before .before .before .before .keep-row .ensures .0) (c .before .before .before .before .keep-row .ensures .1 .0) (c .before .before .before .before .keep-row .ensures .1 .1) (c .before .before .before .before .keep-row .kept .1 .1 .1 .1 .1 .1 .1 .0) (c .before .before .before .before .keep-row .kept .1 .1 .1 .1 .1 .1 .1 .1 .0)
 
@@ -143,7 +143,7 @@ same-length-3 : tie.Need-same-length-3 Inv-loop μ-loop
 same-length-3 c = c .before .before .loop .inv .values .same
 
 returns : tie.Need-returns Inv-loop μ-loop
-returns c = 
+returns c =
     let ok = c .before .before .before .before .before .before .before .before .before .before .before .before .pre .0 in
     let inv = c .before .before .loop .inv in
     (filled-kept _ _ _ ok _ _ _ _ _ _ _ _ _ inv (omega arith), (filled-pointers _ _ _ ok _ _ _ _ _ _ _ _ _ inv (omega arith) _ (c .narrow2 .ensures) (omega (arith, inv .pointers-same, c .before .before .before .before .before .before .before .before .before .before .before .before .pre .1 .0)), (filled-columns _ _ _ ok _ _ _ _ _ _ _ _ _ inv (omega arith), filled-values _ _ _ ok _ _ _ _ _ _ _ _ _ inv (omega arith))))

@@ -29,7 +29,7 @@ same-length-3 : tie.Need-same-length-3
 same-length-3 c = search needs
 
 returns : tie.Need-returns
-returns c = 
+returns c =
     let no = c .before .before .before .before .before .before .before .before .before .before .before .v .given .1 in
     let said = records-refuse _ _ _ _ _ (c .before .before .before .before .before .before .before .before .before .before .before .before .before .examine .ensures) no in
     let z = c .before .before .before .before .before .before .clear-lists .ensures in
@@ -57,7 +57,7 @@ same-length-6 : tie.Need-same-length-6
 same-length-6 c = search needs
 
 returns-2 : tie.Need-returns-2
-returns-2 c = 
+returns-2 c =
     let no = c .before .before .before .before .before .before .before .before .before .before .before .w .given .1 in
     let said = last-decides _ _ _ _ (c .before .before .before .before .before .before .before .before .before .before .before .before .before .before .before .before .before .before .before .fill .result .verdict) (c .before .before .before .before .before .before .before .before .before .before .before .before .before .before .before .before .before .before .before .before .before .before .before .before .before .examine .ensures) (c .before .before .before .before .before .before .before .before .before .before .before .before .before .before .before .before .before .before .before .before .before .before .before .enum-told .given .1) (c .before .before .before .before .before .before .before .before .before .before .before .before .before .before .before .before .before .before .before .fill .ensures .0) in
     let z = c .before .before .before .before .before .before .clear-lists2 .ensures in
@@ -82,7 +82,7 @@ same-length-9 : tie.Need-same-length-9
 same-length-9 c = search needs
 
 returns-3 : tie.Need-returns-3
-returns-3 c = 
+returns-3 c =
     let good = c .before .before .before .before .before .before .before .before .before .before .enum-told2 .given .1 in
     let said = last-decides _ _ _ _ (c .before .before .before .before .before .before .before .before .before .before .before .before .before .before .before .before .before .before .fill .result .verdict) (c .before .before .before .before .before .before .before .before .before .before .before .before .before .before .before .before .before .before .before .before .before .before .before .before .examine .ensures) (c .before .before .before .before .before .before .before .before .before .before .before .before .before .before .before .before .before .before .before .before .before .before .enum-told .given .1) (c .before .before .before .before .before .before .before .before .before .before .before .before .before .before .before .before .before .before .fill .ensures .0) in
     let f = c .before .before .before .before .before .before .before .before .before .before .before .before .before .before .before .before .before .before .fill .ensures .1 (ap told good) in

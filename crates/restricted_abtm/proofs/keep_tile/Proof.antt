@@ -70,7 +70,7 @@ loop-less : tie.Need-loop-less Inv-loop μ-loop
 loop-less c = walk-less _ (c .before .before .before .before .before .before .before .loop .inv .fits) (c .before .before .before .before .before .before .loop-test .taken) _ (c .before .before .before .before .without-lowest .ensures)
 
 loop-again : tie.Need-loop-again Inv-loop μ-loop
-loop-again c = 
+loop-again c =
     keeping-more _ _ _ _ _ _ _ _ _ _ _ _ _ (c .before .before .before .before .before .before .before .loop .inv) (c .before .before .before .before .before .before .loop-test .taken) _ (c .before .before .before .before .before .lowest .ensures) _ (c .before .before .before .before .without-lowest .ensures) (c .before .before .before .before .without-lowest .ok) _ _ _ (c .before .before .before .if1 .taken) (c .before .before .before .before .before .before .before .before .before .before .before .before .before .pre .1 .1 .0 .0) (c .before .before .before .before .before .before .before .before .before .before .before .before .before .pre .1 .1 .0 .1)
     (c .before .before .before .before .before .before .before .before .wide .ensures ∙ c .before .before .before .before .before .before .before .before .before .word-in .ensures) (c .before .before .before .before .before .before .before .before .before .before .before .before .before .pre .0) (c .before .narrow .ensures) (c .before .before .place-in .ensures)
 
@@ -87,7 +87,7 @@ same-length-2 : tie.Need-same-length-2 Inv-loop μ-loop
 same-length-2 c = c .before .loop .inv .values .same
 
 returns : tie.Need-returns Inv-loop μ-loop
-returns c = 
+returns c =
     let inv = c .before .loop .inv in
     (kept-next _ _ _ _ _ _ _ _ _ _ _ _ _ inv (c .loop-test .left), (kept-columns _ _ _ _ _ _ _ _ _ _ _ _ _ inv (c .loop-test .left), kept-values _ _ _ _ _ _ _ _ _ _ _ _ _ inv (c .loop-test .left)))
 

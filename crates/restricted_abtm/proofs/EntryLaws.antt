@@ -26,6 +26,7 @@ use Rattle.topology.proofs.RowLaws.{small-is, word-inside}
 use Rattle.abtm.specs.Tiles.{Tile, Tiles, Listed, wordIn, kindIn, placesOf, places, stored, tileAt, listedTiles, rowTiles, tileEntries}
 use Rattle.abtm_check.proofs.TilesLaws.{AcceptedTiles, slotsInside, rowListed, row-listed, row-inside, row-words, length-listed}
 use Rattle.restricted_abtm.specs.Kept.{placeIn, valueIn, entryIn, activeBits, keptOf, keptAll, tileReady}
+use Rattle.restricted_abtm.proofs.ReadyLaws.{kept-few}
 
 -- ---- the values of a tile, by the places of its columns
 
@@ -164,6 +165,9 @@ module _ (t : Tiles) (acc : AcceptedTiles t) (n : ℕ) (ws : List ℕ) (ok : Val
   all-kept =
       joined-cong (rowKept t (asMask n ws)) (λ r. spread (keptOf (t .vals) ws) (rowListed t r)) (t .rows) row-kept
       ∙ spread-joined (keptOf (t .vals) ws) (rowListed t) (t .rows) ∙ ap (spread (keptOf (t .vals) ws)) listed-rows
+
+  pub all-few : length (joined (rowKept t (asMask n ws)) (t .rows)) ≤ 2 ^ 30
+  all-few = omega (arith, ap length all-kept, kept-few (t .vals) ws (listedTiles t), listed-long, acc .tiles-in)
 
   -- the values and words of its tiles lie in their lists
   module _ (size : n ≡ t .cols) (fits : (k : ℕ) → getD (t .mask) k 0 < 2 ^ 64) where

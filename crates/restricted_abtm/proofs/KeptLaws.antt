@@ -5,7 +5,7 @@ use mathlib.Core.Path.{_≡_, refl, sym, ap, _∙_}
 use Prim.Native.Nat.{ℕ, _+_, _*_, _≤_, _<_}
 use native.Mathlib.Omega.{arith}
 use lib.Dec.{ltb}
-use lib.ListN.{length, getD, take, drop, length-map, length-append}
+use lib.ListN.{length, getD, take, drop, length-append}
 use lib.Seq.{take-all}
 use lib.Ieee.{Float}
 use borrow.Author.Tests.{ltb-true}
@@ -13,7 +13,6 @@ use Rattle.hybit_core.specs.Floats.{finite}
 use Rattle.lent.specs.Lists.{every, spread}
 use Rattle.lent.specs.Lent.{Appended}
 use Rattle.lent.proofs.ListLaws.{every-getD, spread-append, every-join}
-use Rattle.lent.proofs.LentLaws.{appended-none, appended-join}
 use Rattle.lent.proofs.PartLaws.{length-zip, zip-suc}
 use Rattle.word.specs.Bits.{has, count, members, wordOf}
 use Rattle.word.proofs.BelowLaws.{length-below-le}
@@ -22,60 +21,64 @@ use Rattle.csr32.specs.Csr.{Entry}
 use Rattle.abtm.specs.Tiles.{Listed, wordIn}
 use Rattle.abtm_check.proofs.TilesLaws.{length-listed, rest-listed, none-listed}
 use Rattle.restricted_abtm.specs.Kept.{valueIn, activeBits, keptOf, keptAll, keptCount}
-use Rattle.restricted_abtm.proofs.ReadyLaws.{kept-more, kept-room, tile-columns, tile-values, tile-tested, tile-length}
+use Rattle.restricted_abtm.proofs.RoomLaws.{Fitting, fitting-none, fitting-join}
+use Rattle.restricted_abtm.proofs.BitsLaws.{members-few}
+use Rattle.restricted_abtm.proofs.ReadyLaws.{kept-more, tile-columns, tile-values, tile-tested, tile-length}
 
--- ---- entries appended: those of the first k tiles
+-- ---- entries appended while there is room: those of the first k tiles
 
-module _ (masks offs metas : List ℕ) (vals : List Float) (ws : List ℕ) (start : ℕ) (oldC : List ℕ) (oldV : List Float) where
+module _ (masks offs metas : List ℕ) (vals : List Float) (ws : List ℕ) (start room : ℕ) (oldC : List ℕ) (oldV : List Float) where
   abbrev front : ℕ → List Entry
   front k = keptAll vals ws (take k (zip masks (zip offs metas)))
 
   pub record Appending (k at : ℕ) (outC : List ℕ) (outV : List Float) : Type 0 where
-    pub columns : Appended (map (λ (e : Entry). e .0) (front k)) start at oldC outC
-    pub values : Appended (map (λ (e : Entry). e .1) (front k)) start at oldV outV
-    pub columns-same : length outC ≡ length oldC
-    pub values-same : length outV ≡ length oldV
+    pub place : at ≡ start + length (front k)
+    pub few : at ≤ start + 64 * k
+    pub columns : Fitting room (map (λ (e : Entry). e .0) (front k)) start at oldC outC
+    pub values : Fitting room (map (λ (e : Entry). e .1) (front k)) start at oldV outV
 
   pub appending-none : Appending 0 start oldC oldV
   unfolding keptAll spread
-  appending-none = record { columns = appended-none start oldC; values = appended-none start oldV; columns-same = refl; values-same = refl }
+  appending-none = record { place = omega arith; few = omega arith; columns = fitting-none room start oldC; values = fitting-none room start oldV }
 
   module _ (eo : length offs ≡ length masks) (em : length metas ≡ length masks) (k at : ℕ) (outC : List ℕ) (outV : List Float) (inv : Appending k at outC outV) where
     module _ (h : k < length masks) (o w bits : ℕ) (ek : o ≡ getD offs k 0) (ew : w ≡ wordIn (getD metas k 0)) (eb : bits ≡ wordOf (λ i. has (getD masks k 0) i && has (getD ws w 0) i)) where
-      room : (n : ℕ) → start + length (keptAll vals ws (zip masks (zip offs metas))) ≤ n → at + length (members bits) ≤ n
-      room n l = omega (arith, inv .columns .next, length-map (front k) (λ (e : Entry). e .0), kept-room masks offs metas vals ws eo em k o h ek, tile-length masks offs metas vals ws eo em k o h ek w bits ew eb)
+      abbrev tile : List Entry
+      tile = keptOf vals ws (getD masks k 0, (o, getD metas k 0))
 
-      pub column-room : start + length (keptAll vals ws (zip masks (zip offs metas))) ≤ length oldC → at + length (members bits) ≤ length outC
-      column-room l = room (length outC) (omega (arith, inv .columns-same))
+      front-more : front (k + 1) ≡ front k ++ tile
+      front-more = kept-more masks offs metas vals ws eo em k o h ek
 
-      pub value-room : start + length (keptAll vals ws (zip masks (zip offs metas))) ≤ length oldV → at + length (members bits) ≤ length outV
-      value-room l = room (length outV) (omega (arith, inv .values-same))
+      joined-front : {A : Type 0} (f : Entry → A) (new : List A) → map f tile ≡ new → map f (front k) ++ new ≡ map f (front (k + 1))
+      joined-front f new e = ap (λ (t : List _). map f (front k) ++ t) (sym e) ∙ sym (map-append f (front k) tile) ∙ ap (map f) (sym front-more)
 
-      joined-front : {A : Type 0} (f : Entry → A) (new : List A) → map f (keptOf vals ws (getD masks k 0, (o, getD metas k 0))) ≡ new → map f (front k) ++ new ≡ map f (front (k + 1))
-      joined-front f new e =
-          ap (λ (t : List _). map f (front k) ++ t) (sym e) ∙ sym (map-append f (front k) (keptOf vals ws (getD masks k 0, (o, getD metas k 0)))) ∙ ap (map f) (sym (kept-more masks offs metas vals ws eo em k o h ek))
-
-      pub appending-more : (to : ℕ) (lastC : List ℕ) (lastV : List Float) → Appended (map (λ i. 64 * wordIn (getD metas k 0) + i) (members bits)) at to outC lastC → Appended (map (valueIn vals (getD masks k 0) o (getD metas k 0)) (members bits)) at to outV lastV
+      pub appending-more : (to : ℕ) (lastC : List ℕ) (lastV : List Float) → to ≡ at + length (members bits)
+          → (to ≤ room → Appended (map (λ i. 64 * wordIn (getD metas k 0) + i) (members bits)) at to outC lastC)
+          → (to ≤ room → Appended (map (valueIn vals (getD masks k 0) o (getD metas k 0)) (members bits)) at to outV lastV)
           → length lastC ≡ length outC → length lastV ≡ length outV → Appending (k + 1) to lastC lastV
-      appending-more to lastC lastV c v sc sv =
+      appending-more to lastC lastV et c v sc sv =
           let cs : List ℕ = map (λ i. 64 * wordIn (getD metas k 0) + i) (members bits) in
           let vs : List Float = map (valueIn vals (getD masks k 0) o (getD metas k 0)) (members bits) in
+          let after : at ≤ to = omega arith in
           record {
-            columns = rw (← joined-front (λ (e : Entry). e .0) cs (tile-columns masks offs metas vals ws eo em k o h ek w bits ew eb)) (appended-join (map (λ (e : Entry). e .0) (front k)) cs start at to oldC outC lastC (inv .columns) c);
-            values = rw (← joined-front (λ (e : Entry). e .1) vs (tile-values masks offs metas vals ws eo em k o h ek w bits ew eb)) (appended-join (map (λ (e : Entry). e .1) (front k)) vs start at to oldV outV lastV (inv .values) v);
-            columns-same = sc ∙ inv .columns-same;
-            values-same = sv ∙ inv .values-same;
+            place = omega (arith, inv .place, ap length front-more, length-append (front k) tile, tile-length masks offs metas vals ws eo em k o h ek w bits ew eb);
+            few = omega (arith, inv .few, members-few bits);
+            columns = rw (← joined-front (λ (e : Entry). e .0) cs (tile-columns masks offs metas vals ws eo em k o h ek w bits ew eb)) (fitting-join room (map (λ (e : Entry). e .0) (front k)) start at oldC outC (inv .columns) cs to lastC after sc c);
+            values = rw (← joined-front (λ (e : Entry). e .1) vs (tile-values masks offs metas vals ws eo em k o h ek w bits ew eb)) (fitting-join room (map (λ (e : Entry). e .1) (front k)) start at oldV outV (inv .values) vs to lastV after sv v);
           }
 
     module _ (h : length masks ≤ k) where
       whole : front k ≡ keptAll vals ws (zip masks (zip offs metas))
       whole = ap (keptAll vals ws) (take-all k (zip masks (zip offs metas)) (omega (arith, length-listed masks offs metas eo em)))
 
-      pub all-columns : Appended (map (λ (e : Entry). e .0) (keptAll vals ws (zip masks (zip offs metas)))) start at oldC outC
-      all-columns = rw (← whole) (inv .columns)
+      pub all-next : at ≡ start + length (keptAll vals ws (zip masks (zip offs metas)))
+      all-next = inv .place ∙ ap (λ (t : List Entry). start + length t) whole
 
-      pub all-values : Appended (map (λ (e : Entry). e .1) (keptAll vals ws (zip masks (zip offs metas)))) start at oldV outV
-      all-values = rw (← whole) (inv .values)
+      pub all-columns : at ≤ room → Appended (map (λ (e : Entry). e .0) (keptAll vals ws (zip masks (zip offs metas)))) start at oldC outC
+      all-columns l = rw (← whole) (inv .columns .written l)
+
+      pub all-values : at ≤ room → Appended (map (λ (e : Entry). e .1) (keptAll vals ws (zip masks (zip offs metas)))) start at oldV outV
+      all-values l = rw (← whole) (inv .values .written l)
 
 -- ---- values tested: those of the tiles from k on decide
 

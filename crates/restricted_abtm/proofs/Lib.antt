@@ -1,3 +1,4 @@
+pub mod RoomLaws
 pub mod BitsLaws
 pub mod ReadyLaws
 pub mod KeptLaws

@@ -7,7 +7,7 @@ use Prim.Native.Nat.{ℕ, _+_, _*_, _≤_, _<_, _^_}
 use native.Mathlib.Numerals.{add-one}
 use native.Mathlib.Omega.{arith}
 use lib.Dec.{eqb, leb, ltb}
-use lib.ListN.{length, getD, take, drop, length-append, length-map, take-append-drop}
+use lib.ListN.{length, getD, take, length-append, length-map}
 use lib.Seq.{take-suc}
 use lib.Ieee.{Float, nan}
 use borrow.Author.Tests.{leb-true, ltb-true, lt-ltb}
@@ -23,6 +23,7 @@ use Rattle.csr32.specs.Csr.{Entry}
 use Rattle.abtm.specs.Tiles.{Listed, wordIn, kindIn, placesOf, places}
 use Rattle.abtm_check.proofs.TilesLaws.{length-listed, listed-at}
 use Rattle.restricted_abtm.specs.Kept.{placeIn, valueIn, entryIn, activeBits, keptOf, keptAll, keptCount, bitsInside, tileReady}
+use Rattle.restricted_abtm.proofs.BitsLaws.{members-few}
 
 -- ---- the place of a present column is one of the tile's
 
@@ -88,6 +89,14 @@ pub kept-one : (vals : List Float) (ws : List ℕ) (e : Listed) → keptAll vals
 unfolding keptAll spread
 kept-one vals ws e = append-nil (keptOf vals ws e)
 
+-- at most 64 of each
+pub kept-few : (vals : List Float) (ws : List ℕ) (l : List Listed) → length (keptAll vals ws l) ≤ 64 * length l
+unfolding keptAll keptOf spread
+kept-few vals ws [] = omega arith
+kept-few vals ws (e ∷ l) =
+    let bits : ℕ = activeBits ws (e .0) (e .1 .1) in
+    omega (arith, length-append (map (entryIn vals e) (members bits)) (spread (keptOf vals ws) l), length-map (members bits) (entryIn vals e), members-few bits, kept-few vals ws l)
+
 -- how many are kept, by masks and metas alone
 pub kept-length : (vals : List Float) (ws ms os ks : List ℕ) → length os ≡ length ms → length ks ≡ length ms → length (keptAll vals ws (zip ms (zip os ks))) ≡ keptCount ws (zip ms ks)
 unfolding keptAll keptCount keptOf spread zip zipWith
@@ -134,14 +143,6 @@ module _ (masks offs metas : List ℕ) (vals : List Float) (ws : List ℕ) (eo :
     kept-more =
         let l : List Listed = zip masks (zip offs metas) in
         ap (keptAll vals ws) front-more ∙ kept-append vals ws (take k l) (tile ∷ []) ∙ ap (λ (t : List Entry). keptAll vals ws (take k l) ++ t) (kept-one vals ws tile)
-
-    -- what tiles up to this one keep, of all
-    pub kept-room : length (keptAll vals ws (take k (zip masks (zip offs metas)))) + length (keptOf vals ws tile) ≤ length (keptAll vals ws (zip masks (zip offs metas)))
-    kept-room =
-        let l : List Listed = zip masks (zip offs metas) in
-        let all : length (keptAll vals ws l) ≡ length (keptAll vals ws (take (k + 1) l)) + length (keptAll vals ws (drop (k + 1) l)) =
-        ap (λ (t : List Listed). length (keptAll vals ws t)) (sym (take-append-drop (k + 1) l)) ∙ ap length (kept-append vals ws (take (k + 1) l) (drop (k + 1) l)) ∙ length-append (keptAll vals ws (take (k + 1) l)) (keptAll vals ws (drop (k + 1) l)) in
-        omega (arith, all, ap length kept-more, length-append (keptAll vals ws (take k l)) (keptOf vals ws tile))
 
     module _ (w bits : ℕ) (ew : w ≡ wordIn (getD metas k 0)) (eb : bits ≡ wordOf (λ i. has (getD masks k 0) i && has (getD ws w 0) i)) where
       pub bits-are : bits ≡ activeBits ws (getD masks k 0) (getD metas k 0)

@@ -6,14 +6,18 @@ use mathlib.Core.List.{List, map}
 use lib.Dec.{leb, ltb}
 use lib.ListN.{length, getD}
 use lib.Ieee.{Float, nan}
-use Rattle.hybit_core.specs.Answer.{Answer, demand, _andThen_}
-use Rattle.hybit_core.specs.Domain.{many}
+use mathlib.Core.Path.{_≡_}
+use Rattle.hybit_core.specs.Answer.{Answer, demand, lengthIs, _andThen_}
+use Rattle.hybit_core.specs.Domain.{few, many}
 use Rattle.hybit_core.specs.Floats.{finite}
 use Rattle.lent.specs.Lists.{every, spread}
+use Rattle.lent.specs.Lent.{Appended}
+use Rattle.mask.specs.Mask.{Mask, maskRules}
 use Rattle.word.specs.Bits.{has, count, members, wordOf}
 use Rattle.csr32.specs.Csr.{Entry}
-use Rattle.csr32.specs.Made.{CsrRoom}
-use Rattle.abtm.specs.Tiles.{Listed, wordIn, isDense, slotCount}
+use Rattle.csr32.specs.Made.{CsrRoom, fitsCsr}
+use Rattle.abtm.specs.Tiles.{Tiles, tileSizes, tilesRules, Listed, wordIn, isDense, slotCount}
+use Rattle.restricted.specs.Restricted.{restrictedTiles}
 
 -- the place of column i among a tile's values
 unfoldable pub placeIn : ℕ → ℕ → ℕ → ℕ
@@ -58,3 +62,27 @@ bitsInside nv bits mask offset meta = every (λ i. ltb (offset + placeIn meta ma
 -- a listed tile's values lie in a list of nv values, its word is one of nw
 unfoldable pub tileReady : ℕ → ℕ → Listed → Bool
 tileReady nv nw e = leb (e .1 .0 + slotCount e) nv && ltb (wordIn (e .1 .1)) nw
+
+-- ---- the two halves of the call's checks
+
+-- those of the records: 1; 12; 5; 6
+unfoldable pub recordsAnswer : Tiles → Mask → Answer
+recordsAnswer t a =
+    demand (few (a .size) && tileSizes t) 1
+    andThen demand (tilesRules t) 12
+    andThen demand (maskRules a) 5
+    andThen lengthIs (t .cols) (a .size)
+
+-- those of what is kept: 4, 1, 13
+unfoldable pub lastAnswer : Tiles → Mask → CsrRoom → Answer
+lastAnswer t a room =
+    demand (every finite (restrictedTiles t a .val)) 4
+    andThen demand (many (length (restrictedTiles t a .val))) 1
+    andThen demand (fitsCsr (restrictedTiles t a) room) 13
+
+-- what an accepted build has written before the lists are cleared past it
+pub record Restriction (t : Tiles) (a : Mask) (kept : ℕ) (oldP newP oldC newC : List ℕ) (oldV newV : List Float) : Type 0 where
+  pub number : kept ≡ length (restrictedTiles t a .val)
+  pub pointers : Appended (restrictedTiles t a .ptr) 0 (t .rows + 1) oldP newP
+  pub columns : Appended (restrictedTiles t a .col) 0 kept oldC newC
+  pub values : Appended (restrictedTiles t a .val) 0 kept oldV newV

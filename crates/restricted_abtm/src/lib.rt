@@ -1,23 +1,24 @@
-// restricted.rs: `PreparedColumnRestrictedCsrOperator::from_abtm`. The active values are tested and counted before anything is
-// written: an infinite one is refused before a list that is too short.
+// restricted.rs: `PreparedColumnRestrictedCsrOperator::from_abtm`. The entries are written while there is room for them, and counted
+// on; the tests of what is kept come after that, and a refused call clears its lists.
 ghost use mathlib.Core.Path.{_≡_};
 ghost use mathlib.Core.Bool.{true};
 ghost use mathlib.Core.List.{map, zip};
-ghost use Prim.Native.Nat.{_+_, _*_, _≤_, _^_};
+ghost use Prim.Native.Nat.{_+_, _*_, _≤_, _<_, _^_};
 ghost use lib.Dec.{ltb};
-ghost use lib.ListN.{length};
-ghost use Rattle.hybit_core.specs.Answer.{accepted, answers};
+ghost use lib.ListN.{length, take};
+ghost use Rattle.hybit_core.specs.Answer.{accepted, answers, demand, _andThen_};
+ghost use Rattle.hybit_core.specs.Domain.{many};
 ghost use Rattle.hybit_core.specs.Floats.{zero64, finite};
 ghost use Rattle.hybit_core.specs.Table.{told};
 ghost use Rattle.lent.specs.Lists.{every};
-ghost use Rattle.lent.specs.Lent.{Appended, built};
+ghost use Rattle.lent.specs.Lent.{Appended, built, padded};
 ghost use Rattle.word.specs.Bits.{members};
 ghost use Rattle.mask.specs.Mask.{asMask};
 ghost use Rattle.csr32.specs.Csr.{Entry};
 ghost use Rattle.csr32.specs.Made.{asCsrRoom};
 ghost use Rattle.abtm.specs.Tiles.{asTiles, wordIn};
 ghost use Rattle.restricted.specs.Restricted.{restrictedTiles, restrictTilesAnswer, tileRestrictionOf, toldRestriction};
-ghost use Rattle.restricted_abtm.specs.Kept.{placeIn, valueIn, keptAll, keptCount, keptAnswer, bitsInside, tileReady};
+ghost use Rattle.restricted_abtm.specs.Kept.{placeIn, valueIn, keptAll, keptCount, keptAnswer, bitsInside, tileReady, recordsAnswer, lastAnswer, Restriction};
 use hybit_core::HybitError;
 use hybit_core::Verdict;
 use restricted::ColumnRestriction;
@@ -33,7 +34,8 @@ fn place_in(meta: u32, mask: u64, bit: usize) -> usize
     word::ones_below(mask, bit)
 }
 
-// Appends a tile's entries in the columns of `bits`, ascending, from place `from` on; answers the next place.
+// Appends a tile's entries in the columns of `bits`, ascending, from place `from` on, those that lie below `room`; answers the next
+// place.
 fn keep_tile(
     bits: u64,
     mask: u64,
@@ -41,28 +43,34 @@ fn keep_tile(
     meta: u32,
     values: &[f64],
     from: usize,
+    room: usize,
     out_col_idx: &mut [u32],
     out_values: &mut [f64],
 ) -> usize
-    requires { ⌜ 64 * wordIn meta ≤ 2 ^ 20 ⌝ ∗ ⌜ bitsInside (length (now values)) bits mask offset meta ≡ true ⌝ ∗ ⌜ from + length (members bits) ≤ length (now «out_col_idx») ⌝ ∗ ⌜ from + length (members bits) ≤ length (now «out_values») ⌝ }
-    ensures columns { λ r. ⌜ Appended (map (λ i. 64 * wordIn meta + i) (members bits)) from r (now («out_col_idx» .entry)) (now («out_col_idx» .exit)) ⌝ }
-    ensures values { λ r. ⌜ Appended (map (valueIn (now (values .entry)) mask offset meta) (members bits)) from r (now («out_values» .entry)) (now («out_values» .exit)) ⌝ }
+    requires { ⌜ 64 * wordIn meta ≤ 2 ^ 20 ⌝ ∗ ⌜ bitsInside (length (now values)) bits mask offset meta ≡ true ⌝ ∗ ⌜ (room ≤ length (now «out_col_idx»)) × (room ≤ length (now «out_values»)) ⌝ ∗ ⌜ from ≤ 2 ^ 40 ⌝ }
+    ensures next { λ r. ⌜ r ≡ from + length (members bits) ⌝ }
+    ensures columns { λ r. ⌜ (r ≤ room → Appended (map (λ i. 64 * wordIn meta + i) (members bits)) from r (now («out_col_idx» .entry)) (now («out_col_idx» .exit))) ⌝ }
+    ensures values { λ r. ⌜ (r ≤ room → Appended (map (valueIn (now (values .entry)) mask offset meta) (members bits)) from r (now («out_values» .entry)) (now («out_values» .exit))) ⌝ }
 {
     let base = 64 * hybit_core::wide(abtm::word_in(meta));
-    let mut at = from;
+    let mut next = from;
     let mut rest = bits;
     while rest != 0 {
+        let at = next;
         let bit = word::lowest(rest);
-        let place = offset + place_in(meta, mask, bit);
-        out_col_idx[at] = hybit_core::narrow(base + bit);
-        out_values[at] = values[place];
-        at += 1;
+        next += 1;
         rest = word::without_lowest(rest);
+        if at < room {
+            let place = offset + place_in(meta, mask, bit);
+            out_col_idx[at] = hybit_core::narrow(base + bit);
+            out_values[at] = values[place];
+        }
     }
-    at
+    next
 }
 
-// Appends the entries of a row's tiles in active columns.
+// Appends the entries of a row's tiles in active columns, those that lie below `room`. Most tiles have none where few columns are
+// active.
 fn keep_row(
     masks: &[u64],
     value_offsets: &[u32],
@@ -70,12 +78,14 @@ fn keep_row(
     values: &[f64],
     mask: &[u64],
     from: usize,
+    room: usize,
     out_col_idx: &mut [u32],
     out_values: &mut [f64],
 ) -> usize
-    requires { ⌜ (length (now «value_offsets») ≡ length (now masks)) × (length (now metas) ≡ length (now masks)) ⌝ ∗ ⌜ every (tileReady (length (now values)) (length (now mask))) (zip (now masks) (zip (now «value_offsets») (now metas))) ≡ true ⌝ ∗ ⌜ length (now mask) ≤ 2 ^ 14 ⌝ ∗ ⌜ from + length (keptAll (now values) (now mask) (zip (now masks) (zip (now «value_offsets») (now metas)))) ≤ length (now «out_col_idx») ⌝ ∗ ⌜ from + length (keptAll (now values) (now mask) (zip (now masks) (zip (now «value_offsets») (now metas)))) ≤ length (now «out_values») ⌝ }
-    ensures columns { λ r. ⌜ Appended (map (λ (e : Entry). e .0) (keptAll (now (values .entry)) (now (mask .entry)) (zip (now (masks .entry)) (zip (now («value_offsets» .entry)) (now (metas .entry)))))) from r (now («out_col_idx» .entry)) (now («out_col_idx» .exit)) ⌝ }
-    ensures values { λ r. ⌜ Appended (map (λ (e : Entry). e .1) (keptAll (now (values .entry)) (now (mask .entry)) (zip (now (masks .entry)) (zip (now («value_offsets» .entry)) (now (metas .entry)))))) from r (now («out_values» .entry)) (now («out_values» .exit)) ⌝ }
+    requires { ⌜ (length (now «value_offsets») ≡ length (now masks)) × (length (now metas) ≡ length (now masks)) ⌝ ∗ ⌜ every (tileReady (length (now values)) (length (now mask))) (zip (now masks) (zip (now «value_offsets») (now metas))) ≡ true ⌝ ∗ ⌜ length (now mask) ≤ 2 ^ 14 ⌝ ∗ ⌜ (room ≤ length (now «out_col_idx»)) × (room ≤ length (now «out_values»)) ⌝ ∗ ⌜ from + 64 * length (now masks) ≤ 2 ^ 31 ⌝ }
+    ensures next { λ r. ⌜ r ≡ from + length (keptAll (now (values .entry)) (now (mask .entry)) (zip (now (masks .entry)) (zip (now («value_offsets» .entry)) (now (metas .entry))))) ⌝ }
+    ensures columns { λ r. ⌜ (r ≤ room → Appended (map (λ (e : Entry). e .0) (keptAll (now (values .entry)) (now (mask .entry)) (zip (now (masks .entry)) (zip (now («value_offsets» .entry)) (now (metas .entry)))))) from r (now («out_col_idx» .entry)) (now («out_col_idx» .exit))) ⌝ }
+    ensures values { λ r. ⌜ (r ≤ room → Appended (map (λ (e : Entry). e .1) (keptAll (now (values .entry)) (now (mask .entry)) (zip (now (masks .entry)) (zip (now («value_offsets» .entry)) (now (metas .entry)))))) from r (now («out_values» .entry)) (now («out_values» .exit))) ⌝ }
 {
     let mut at = from;
     let mut k: usize = 0;
@@ -89,6 +99,7 @@ fn keep_row(
             metas[k],
             values,
             at,
+            room,
             out_col_idx,
             out_values,
         );
@@ -97,7 +108,7 @@ fn keep_row(
     at
 }
 
-// The rows of an accepted build; answers how many entries were kept.
+// The rows of accepted tiles and mask, the entries that lie below `room`; answers how many are kept.
 fn fill_rows(
     nrows: usize,
     ncols: usize,
@@ -109,15 +120,16 @@ fn fill_rows(
     matrix_nnz: usize,
     mask_len: usize,
     mask: &[u64],
+    room: usize,
     out_row_ptr: &mut [u32],
     out_col_idx: &mut [u32],
     out_values: &mut [f64],
 ) -> usize
-    requires { ⌜ restrictTilesAnswer (asTiles nrows ncols (now «row_tile_ptr») (now masks) (now «value_offsets») (now metas) (now values) «matrix_nnz») (asMask «mask_len» (now mask)) (asCsrRoom (length (now «out_row_ptr»)) (length (now «out_col_idx»)) (length (now «out_values»))) ≡ accepted ⌝ }
+    requires { ⌜ recordsAnswer (asTiles nrows ncols (now «row_tile_ptr») (now masks) (now «value_offsets») (now metas) (now values) «matrix_nnz») (asMask «mask_len» (now mask)) ≡ accepted ⌝ ∗ ⌜ nrows < length (now «out_row_ptr») ⌝ ∗ ⌜ (room ≤ length (now «out_col_idx»)) × (room ≤ length (now «out_values»)) ⌝ }
     ensures kept { λ r. ⌜ r ≡ length (restrictedTiles (asTiles nrows ncols (now («row_tile_ptr» .entry)) (now (masks .entry)) (now («value_offsets» .entry)) (now (metas .entry)) (now (values .entry)) «matrix_nnz») (asMask «mask_len» (now (mask .entry))) .val) ⌝ }
     ensures pointers { λ r. ⌜ Appended (restrictedTiles (asTiles nrows ncols (now («row_tile_ptr» .entry)) (now (masks .entry)) (now («value_offsets» .entry)) (now (metas .entry)) (now (values .entry)) «matrix_nnz») (asMask «mask_len» (now (mask .entry))) .ptr) 0 (nrows + 1) (now («out_row_ptr» .entry)) (now («out_row_ptr» .exit)) ⌝ }
-    ensures columns { λ r. ⌜ Appended (restrictedTiles (asTiles nrows ncols (now («row_tile_ptr» .entry)) (now (masks .entry)) (now («value_offsets» .entry)) (now (metas .entry)) (now (values .entry)) «matrix_nnz») (asMask «mask_len» (now (mask .entry))) .col) 0 r (now («out_col_idx» .entry)) (now («out_col_idx» .exit)) ⌝ }
-    ensures values { λ r. ⌜ Appended (restrictedTiles (asTiles nrows ncols (now («row_tile_ptr» .entry)) (now (masks .entry)) (now («value_offsets» .entry)) (now (metas .entry)) (now (values .entry)) «matrix_nnz») (asMask «mask_len» (now (mask .entry))) .val) 0 r (now («out_values» .entry)) (now («out_values» .exit)) ⌝ }
+    ensures columns { λ r. ⌜ (r ≤ room → Appended (restrictedTiles (asTiles nrows ncols (now («row_tile_ptr» .entry)) (now (masks .entry)) (now («value_offsets» .entry)) (now (metas .entry)) (now (values .entry)) «matrix_nnz») (asMask «mask_len» (now (mask .entry))) .col) 0 r (now («out_col_idx» .entry)) (now («out_col_idx» .exit))) ⌝ }
+    ensures values { λ r. ⌜ (r ≤ room → Appended (restrictedTiles (asTiles nrows ncols (now («row_tile_ptr» .entry)) (now (masks .entry)) (now («value_offsets» .entry)) (now (metas .entry)) (now (values .entry)) «matrix_nnz») (asMask «mask_len» (now (mask .entry))) .val) 0 r (now («out_values» .entry)) (now («out_values» .exit))) ⌝ }
 {
     let mut at: usize = 0;
     let mut row: usize = 0;
@@ -132,6 +144,7 @@ fn fill_rows(
             values,
             mask,
             at,
+            room,
             out_col_idx,
             out_values,
         );
@@ -252,6 +265,7 @@ fn examine_kept(
     Verdict::Accepted
 }
 
+// The checks of the records and of their lengths: 1; 12; 5; 6.
 fn examine(
     nrows: usize,
     ncols: usize,
@@ -263,11 +277,8 @@ fn examine(
     matrix_nnz: usize,
     mask_len: usize,
     mask: &[u64],
-    pointer_room: usize,
-    column_room: usize,
-    value_room: usize,
 ) -> Verdict
-    ensures { λ r. ⌜ told r ≡ restrictTilesAnswer (asTiles nrows ncols (now («row_tile_ptr» .entry)) (now (masks .entry)) (now («value_offsets» .entry)) (now (metas .entry)) (now (values .entry)) «matrix_nnz») (asMask «mask_len» (now (mask .entry))) (asCsrRoom «pointer_room» «column_room» «value_room») ⌝ }
+    ensures { λ r. ⌜ told r ≡ recordsAnswer (asTiles nrows ncols (now («row_tile_ptr» .entry)) (now (masks .entry)) (now («value_offsets» .entry)) (now (metas .entry)) (now (values .entry)) «matrix_nnz») (asMask «mask_len» (now (mask .entry))) ⌝ }
 {
     if !hybit_core::dimension_fits(mask_len) {
         return Verdict::Refused(HybitError::SizeOverflow);
@@ -295,17 +306,121 @@ fn examine(
             actual: mask_len,
         });
     }
-    examine_kept(
+    Verdict::Accepted
+}
+
+// What a build leaves, and how many entries it keeps.
+struct Filled {
+    verdict: Verdict,
+    kept: usize,
+}
+
+// The tests of entries that have all been written: 4, 1.
+fn examine_written(written: &[f64]) -> Verdict
+    ensures { λ r. ⌜ told r ≡ demand (every finite (now (written .entry))) 4 andThen demand (many (length (now (written .entry)))) 1 ⌝ }
+{
+    if !csr32::all_finite(written) {
+        return Verdict::Refused(HybitError::NotFinite);
+    }
+    if !hybit_core::entries_fit(written.len()) {
+        return Verdict::Refused(HybitError::SizeOverflow);
+    }
+    Verdict::Accepted
+}
+
+// Writes the entries of accepted tiles and mask. Where all of them fit, the values that were written are tested; where they don't, the
+// active ones are, since an infinite one is refused before a list that is too short.
+fn fill(
+    nrows: usize,
+    ncols: usize,
+    row_tile_ptr: &[u32],
+    masks: &[u64],
+    value_offsets: &[u32],
+    metas: &[u32],
+    values: &[f64],
+    matrix_nnz: usize,
+    mask_len: usize,
+    mask: &[u64],
+    out_row_ptr: &mut [u32],
+    out_col_idx: &mut [u32],
+    out_values: &mut [f64],
+) -> Filled
+    requires { ⌜ recordsAnswer (asTiles nrows ncols (now «row_tile_ptr») (now masks) (now «value_offsets») (now metas) (now values) «matrix_nnz») (asMask «mask_len» (now mask)) ≡ accepted ⌝ }
+    ensures answer { λ f. ⌜ told (f .verdict) ≡ lastAnswer (asTiles nrows ncols (now («row_tile_ptr» .entry)) (now (masks .entry)) (now («value_offsets» .entry)) (now (metas .entry)) (now (values .entry)) «matrix_nnz») (asMask «mask_len» (now (mask .entry))) (asCsrRoom (length (now («out_row_ptr» .entry))) (length (now («out_col_idx» .entry))) (length (now («out_values» .entry)))) ⌝ }
+    ensures lists { λ f. ⌜ (told (f .verdict) ≡ accepted → Restriction (asTiles nrows ncols (now («row_tile_ptr» .entry)) (now (masks .entry)) (now («value_offsets» .entry)) (now (metas .entry)) (now (values .entry)) «matrix_nnz») (asMask «mask_len» (now (mask .entry))) (f .kept) (now («out_row_ptr» .entry)) (now («out_row_ptr» .exit)) (now («out_col_idx» .entry)) (now («out_col_idx» .exit)) (now («out_values» .entry)) (now («out_values» .exit))) ⌝ }
+{
+    if out_row_ptr.len() <= nrows {
+        let short = examine_kept(
+            nrows,
+            masks,
+            value_offsets,
+            metas,
+            values,
+            mask,
+            out_row_ptr.len(),
+            out_col_idx.len(),
+            out_values.len(),
+        );
+        return Filled {
+            verdict: short,
+            kept: 0,
+        };
+    }
+    let room = hybit_core::smaller(out_col_idx.len(), out_values.len());
+    let kept = fill_rows(
         nrows,
+        ncols,
+        row_tile_ptr,
         masks,
         value_offsets,
         metas,
         values,
+        matrix_nnz,
+        mask_len,
         mask,
-        pointer_room,
-        column_room,
-        value_room,
-    )
+        room,
+        out_row_ptr,
+        out_col_idx,
+        out_values,
+    );
+    if room < kept {
+        let short = examine_kept(
+            nrows,
+            masks,
+            value_offsets,
+            metas,
+            values,
+            mask,
+            out_row_ptr.len(),
+            out_col_idx.len(),
+            out_values.len(),
+        );
+        return Filled {
+            verdict: short,
+            kept: 0,
+        };
+    }
+    Filled {
+        verdict: examine_written(&out_values[..kept]),
+        kept: kept,
+    }
+}
+
+// Zeros in the lists from these places on.
+fn clear_lists(
+    out_row_ptr: &mut [u32],
+    out_col_idx: &mut [u32],
+    out_values: &mut [f64],
+    pointers: usize,
+    entries: usize,
+)
+    ensures pointers { λ _. ⌜ now («out_row_ptr» .exit) ≡ padded 0 (length (now («out_row_ptr» .entry))) (take pointers (now («out_row_ptr» .entry))) ⌝ }
+    ensures columns { λ _. ⌜ now («out_col_idx» .exit) ≡ padded 0 (length (now («out_col_idx» .entry))) (take entries (now («out_col_idx» .entry))) ⌝ }
+    ensures values { λ _. ⌜ now («out_values» .exit) ≡ padded zero64 (length (now («out_values» .entry))) (take entries (now («out_values» .entry))) ⌝ }
+{
+    lent::clear_from_u32(out_row_ptr, pointers);
+    lent::clear_from_u32(out_col_idx, entries);
+    lent::clear_from_f64(out_values, entries);
 }
 
 // The entries of accepted tiles in active columns, in `out_row_ptr`, `out_col_idx` and `out_values`: the used parts are nrows + 1
@@ -341,17 +456,12 @@ pub fn from_abtm(
         matrix_nnz,
         mask_len,
         mask,
-        out_row_ptr.len(),
-        out_col_idx.len(),
-        out_values.len(),
     );
     if let Verdict::Refused(e) = v {
-        lent::clear_from_u32(out_row_ptr, 0);
-        lent::clear_from_u32(out_col_idx, 0);
-        lent::clear_from_f64(out_values, 0);
+        clear_lists(out_row_ptr, out_col_idx, out_values, 0, 0);
         return RestrictAnswer::Refused(e);
     }
-    let kept = fill_rows(
+    let f = fill(
         nrows,
         ncols,
         row_tile_ptr,
@@ -366,13 +476,16 @@ pub fn from_abtm(
         out_col_idx,
         out_values,
     );
-    lent::clear_from_u32(out_row_ptr, nrows + 1);
-    lent::clear_from_u32(out_col_idx, kept);
-    lent::clear_from_f64(out_values, kept);
+    let w = f.verdict;
+    if let Verdict::Refused(e) = w {
+        clear_lists(out_row_ptr, out_col_idx, out_values, 0, 0);
+        return RestrictAnswer::Refused(e);
+    }
+    clear_lists(out_row_ptr, out_col_idx, out_values, nrows + 1, f.kept);
     RestrictAnswer::Built(ColumnRestriction {
         nrows: nrows,
         ncols: ncols,
         source_nnz: matrix_nnz,
-        retained_nnz: kept,
+        retained_nnz: f.kept,
     })
 }

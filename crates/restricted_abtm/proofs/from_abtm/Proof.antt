@@ -1,10 +1,12 @@
 -- `restricted_abtm::from_abtm` meets its contract. Assumes nothing.
 use borrow.Author.Needs.{needs}
+use mathlib.Core.Path.{ap}
 use native.Mathlib.Omega.{arith}
+use Rattle.hybit_core.specs.Table.{told}
 use Rattle.hybit_core.proofs.AnswerLaws.{accepted-by, given-refused, given-accepted}
 use Rattle.lent.proofs.LentLaws.{built-refused, built-accepted, appended-cleared}
 use Rattle.restricted_abtm.proofs.FillLaws.{rows-few}
-use Rattle.restricted_abtm.proofs.CallLaws.{restriction-is}
+use Rattle.restricted_abtm.proofs.CallLaws.{records-refuse, last-decides, wiped, restriction-is}
 use Rattle.restricted_abtm.proofs.from_abtm.Statement.{statement}
 use Rattle.restricted_abtm.proofs.from_abtm.Tie as tie
 
@@ -14,14 +16,8 @@ examine-requires c κs = search needs
 enum-known-v : tie.Need-enum-known-v
 enum-known-v c = search needs
 
-clear-from-u32-requires : tie.Need-clear-from-u32-requires
-clear-from-u32-requires c κs = search needs
-
-clear-from-u32-requires-2 : tie.Need-clear-from-u32-requires-2
-clear-from-u32-requires-2 c κs = search needs
-
-clear-from-f64-requires : tie.Need-clear-from-f64-requires
-clear-from-f64-requires c κs = search needs
+clear-lists-requires : tie.Need-clear-lists-requires
+clear-lists-requires c κs = search needs
 
 same-length : tie.Need-same-length
 same-length c = search needs
@@ -34,25 +30,22 @@ same-length-3 c = search needs
 
 returns : tie.Need-returns
 returns c =
-    (given-refused _ _ _ _ (c .before .before .before .before .before .before .before .before .before .before .before .before .before .before .before .examine .ensures) (c .before .before .before .before .before .before .before .before .before .before .before .before .before .v .given .1), (built-refused _ _ _ _ _ _ _ (c .before .before .before .before .before .before .before .before .before .before .before .before .before .before .before .examine .ensures) (c .before .before .before .before .before .before .before .before .before .before .before .before .before .v .given .1) (c .before .before .before .before .before .before .before .before .before .before .clear-from-u32 .ensures), (built-refused _ _ _ _ _ _ _ (c .before .before .before .before .before .before .before .before .before .before .before .before .before .before .before .examine .ensures) (c .before .before .before .before .before .before .before .before .before .before .before .before .before .v .given .1) (c .before .before .before .before .before .before .clear-from-u322 .ensures), built-refused _ _ _ _ _ _ _ (c .before .before .before .before .before .before .before .before .before .before .before .before .before .before .before .examine .ensures) (c .before .before .before .before .before .before .before .before .before .before .before .before .before .v .given .1) (c .before .before .clear-from-f64 .ensures))))
+    let no = c .before .before .before .before .before .before .before .before .before .before .before .v .given .1 in
+    let said = records-refuse _ _ _ _ _ (c .before .before .before .before .before .before .before .before .before .before .before .before .before .examine .ensures) no in
+    let z = c .before .before .before .before .before .before .clear-lists .ensures in
+    (given-refused _ _ _ _ said no, (built-refused _ _ _ _ _ _ _ said no (z .0), (built-refused _ _ _ _ _ _ _ said no (z .1 .0), built-refused _ _ _ _ _ _ _ said no (z .1 .1))))
 
 enum-told : tie.Need-enum-told
 enum-told c = search needs
 
-fill-rows-requires : tie.Need-fill-rows-requires
-fill-rows-requires c κs = accepted-by _ _ (c .before .before .before .before .before .examine .ensures) (c .before .before .before .enum-told .given .1)
+fill-requires : tie.Need-fill-requires
+fill-requires c κs = accepted-by _ _ (c .before .before .before .before .before .examine .ensures) (c .before .before .before .enum-told .given .1)
 
-add-clear-from-u32 : tie.Need-add-clear-from-u32
-add-clear-from-u32 c = omega (arith, rows-few _ _ _ _ _ _ (accepted-by _ _ (c .before .before .before .before .before .before .before .before .before .before .before .before .before .examine .ensures) (c .before .before .before .before .before .before .before .before .before .before .before .enum-told .given .1)))
+enum-known-w : tie.Need-enum-known-w
+enum-known-w c = search needs
 
-clear-from-u32-requires-3 : tie.Need-clear-from-u32-requires-3
-clear-from-u32-requires-3 c κs = search needs
-
-clear-from-u32-requires-4 : tie.Need-clear-from-u32-requires-4
-clear-from-u32-requires-4 c κs = search needs
-
-clear-from-f64-requires-2 : tie.Need-clear-from-f64-requires-2
-clear-from-f64-requires-2 c κs = search needs
+clear-lists-requires-2 : tie.Need-clear-lists-requires-2
+clear-lists-requires-2 c κs = search needs
 
 same-length-4 : tie.Need-same-length-4
 same-length-4 c = search needs
@@ -65,7 +58,36 @@ same-length-6 c = search needs
 
 returns-2 : tie.Need-returns-2
 returns-2 c =
-    (given-accepted _ _ _ _ (c .before .before .before .before .before .before .before .before .before .before .before .before .before .before .before .before .before .before .before .before .before .before .before .before .examine .ensures) (c .before .before .before .before .before .before .before .before .before .before .before .before .before .before .before .before .before .before .before .before .before .before .enum-told .given .1) (restriction-is _ _ _ (c .before .before .before .before .before .before .before .before .before .before .before .before .before .before .before .before .before .before .fill-rows .ensures .0)), (built-accepted _ _ _ _ _ _ (c .before .before .before .before .before .before .before .before .before .before .before .before .before .before .before .before .before .before .before .before .before .before .before .before .examine .ensures) (c .before .before .before .before .before .before .before .before .before .before .before .before .before .before .before .before .before .before .before .before .before .before .enum-told .given .1) (appended-cleared _ _ _ _ _ _ (c .before .before .before .before .before .before .before .before .before .before .before .before .before .before .before .before .before .before .fill-rows .ensures .1 .0) (c .before .before .before .before .before .before .before .before .before .before .before .before .before .before .before .before .before .before .fill-rows .kept .1 .1 .1 .1 .1 .1 .1 .1 .1 .1 .0) (c .before .before .before .before .before .before .before .before .before .before .clear-from-u323 .ensures)), (built-accepted _ _ _ _ _ _ (c .before .before .before .before .before .before .before .before .before .before .before .before .before .before .before .before .before .before .before .before .before .before .before .before .examine .ensures) (c .before .before .before .before .before .before .before .before .before .before .before .before .before .before .before .before .before .before .before .before .before .before .enum-told .given .1) (appended-cleared _ _ _ _ _ _ (c .before .before .before .before .before .before .before .before .before .before .before .before .before .before .before .before .before .before .fill-rows .ensures .1 .1 .0) (c .before .before .before .before .before .before .before .before .before .before .before .before .before .before .before .before .before .before .fill-rows .kept .1 .1 .1 .1 .1 .1 .1 .1 .1 .1 .1 .0) (c .before .before .before .before .before .before .clear-from-u324 .ensures)), built-accepted _ _ _ _ _ _ (c .before .before .before .before .before .before .before .before .before .before .before .before .before .before .before .before .before .before .before .before .before .before .before .before .examine .ensures) (c .before .before .before .before .before .before .before .before .before .before .before .before .before .before .before .before .before .before .before .before .before .before .enum-told .given .1) (appended-cleared _ _ _ _ _ _ (c .before .before .before .before .before .before .before .before .before .before .before .before .before .before .before .before .before .before .fill-rows .ensures .1 .1 .1) (c .before .before .before .before .before .before .before .before .before .before .before .before .before .before .before .before .before .before .fill-rows .kept .1 .1 .1 .1 .1 .1 .1 .1 .1 .1 .1 .1 .0) (c .before .before .clear-from-f642 .ensures)))))
+    let no = c .before .before .before .before .before .before .before .before .before .before .before .w .given .1 in
+    let said = last-decides _ _ _ _ (c .before .before .before .before .before .before .before .before .before .before .before .before .before .before .before .before .before .before .before .fill .result .verdict) (c .before .before .before .before .before .before .before .before .before .before .before .before .before .before .before .before .before .before .before .before .before .before .before .before .before .examine .ensures) (c .before .before .before .before .before .before .before .before .before .before .before .before .before .before .before .before .before .before .before .before .before .before .before .enum-told .given .1) (c .before .before .before .before .before .before .before .before .before .before .before .before .before .before .before .before .before .before .before .fill .ensures .0) in
+    let z = c .before .before .before .before .before .before .clear-lists2 .ensures in
+    (given-refused _ _ _ _ said no, (built-refused _ _ _ _ _ _ _ said no (wiped _ _ _ _ (c .before .before .before .before .before .before .before .before .before .before .before .before .before .before .before .before .before .before .before .fill .kept .1 .1 .1 .1 .1 .1 .1 .1 .1 .1 .0) (z .0)), (built-refused _ _ _ _ _ _ _ said no (wiped _ _ _ _ (c .before .before .before .before .before .before .before .before .before .before .before .before .before .before .before .before .before .before .before .fill .kept .1 .1 .1 .1 .1 .1 .1 .1 .1 .1 .1 .0) (z .1 .0)), built-refused _ _ _ _ _ _ _ said no (wiped _ _ _ _ (c .before .before .before .before .before .before .before .before .before .before .before .before .before .before .before .before .before .before .before .fill .kept .1 .1 .1 .1 .1 .1 .1 .1 .1 .1 .1 .1 .0) (z .1 .1)))))
+
+enum-told-2 : tie.Need-enum-told-2
+enum-told-2 c = search needs
+
+add-clear-lists : tie.Need-add-clear-lists
+add-clear-lists c = omega (arith, rows-few _ _ _ (accepted-by _ _ (c .before .before .before .before .before .before .before .before .before .before .before .before .before .before .before .before .before .examine .ensures) (c .before .before .before .before .before .before .before .before .before .before .before .before .before .before .before .enum-told .given .1)))
+
+clear-lists-requires-3 : tie.Need-clear-lists-requires-3
+clear-lists-requires-3 c κs = search needs
+
+same-length-7 : tie.Need-same-length-7
+same-length-7 c = search needs
+
+same-length-8 : tie.Need-same-length-8
+same-length-8 c = search needs
+
+same-length-9 : tie.Need-same-length-9
+same-length-9 c = search needs
+
+returns-3 : tie.Need-returns-3
+returns-3 c =
+    let good = c .before .before .before .before .before .before .before .before .before .before .enum-told2 .given .1 in
+    let said = last-decides _ _ _ _ (c .before .before .before .before .before .before .before .before .before .before .before .before .before .before .before .before .before .before .fill .result .verdict) (c .before .before .before .before .before .before .before .before .before .before .before .before .before .before .before .before .before .before .before .before .before .before .before .before .examine .ensures) (c .before .before .before .before .before .before .before .before .before .before .before .before .before .before .before .before .before .before .before .before .before .before .enum-told .given .1) (c .before .before .before .before .before .before .before .before .before .before .before .before .before .before .before .before .before .before .fill .ensures .0) in
+    let f = c .before .before .before .before .before .before .before .before .before .before .before .before .before .before .before .before .before .before .fill .ensures .1 (ap told good) in
+    let z = c .before .before .before .before .before .before .clear-lists3 .ensures in
+    (given-accepted _ _ _ _ said good (restriction-is _ _ _ (f .number)), (built-accepted _ _ _ _ _ _ said good (appended-cleared _ _ _ _ _ _ (f .pointers) (c .before .before .before .before .before .before .before .before .before .before .before .before .before .before .before .before .before .before .fill .kept .1 .1 .1 .1 .1 .1 .1 .1 .1 .1 .0) (z .0)), (built-accepted _ _ _ _ _ _ said good (appended-cleared _ _ _ _ _ _ (f .columns) (c .before .before .before .before .before .before .before .before .before .before .before .before .before .before .before .before .before .before .fill .kept .1 .1 .1 .1 .1 .1 .1 .1 .1 .1 .1 .0) (z .1 .0)), built-accepted _ _ _ _ _ _ said good (appended-cleared _ _ _ _ _ _ (f .values) (c .before .before .before .before .before .before .before .before .before .before .before .before .before .before .before .before .before .before .fill .kept .1 .1 .1 .1 .1 .1 .1 .1 .1 .1 .1 .1 .0) (z .1 .1)))))
 
 pub from-abtm-spec : {M : Type 1} → statement M
 from-abtm-spec =
@@ -73,20 +95,23 @@ from-abtm-spec =
     (tie.spec
     examine-requires
     enum-known-v
-    clear-from-u32-requires
-    clear-from-u32-requires-2
-    clear-from-f64-requires
+    clear-lists-requires
     same-length
     same-length-2
     same-length-3
     returns
     enum-told
-    fill-rows-requires
-    add-clear-from-u32
-    clear-from-u32-requires-3
-    clear-from-u32-requires-4
-    clear-from-f64-requires-2
+    fill-requires
+    enum-known-w
+    clear-lists-requires-2
     same-length-4
     same-length-5
     same-length-6
-    returns-2)
+    returns-2
+    enum-told-2
+    add-clear-lists
+    clear-lists-requires-3
+    same-length-7
+    same-length-8
+    same-length-9
+    returns-3)

@@ -5,18 +5,18 @@ use Prim.Native.Nat.{_-_}
 use native.Mathlib.Omega.{arith}
 use lib.ListN.{length}
 use Rattle.restricted_abtm.proofs.ReadyLaws.{ready-word, tile-ready, base-in, bits-in}
-use Rattle.restricted_abtm.proofs.KeptLaws.{Appending, appending-none, column-room, value-room, appending-more, all-columns, all-values}
+use Rattle.restricted_abtm.proofs.KeptLaws.{Appending, appending-none, appending-more, all-next, all-columns, all-values}
 use Rattle.restricted_abtm.proofs.keep_row.Statement.{statement}
 use Rattle.restricted_abtm.proofs.keep_row.Tie as tie
 
 abbrev Inv-loop : tie.InvT-loop
-Inv-loop masks value-offsets metas values mask from out-col-idx₀ out-values₀ at₀ k₀ out-col-idx out-values at k = Appending masks value-offsets metas values mask from out-col-idx₀ out-values₀ k at out-col-idx out-values
+Inv-loop masks value-offsets metas values mask from room out-col-idx₀ out-values₀ at₀ k₀ out-col-idx out-values at k = Appending masks value-offsets metas values mask from room out-col-idx₀ out-values₀ k at out-col-idx out-values
 
 abbrev μ-loop : tie.MeasureT-loop
-μ-loop masks value-offsets metas values mask from out-col-idx₀ out-values₀ at₀ k₀ out-col-idx out-values at k = length masks - k
+μ-loop masks value-offsets metas values mask from room out-col-idx₀ out-values₀ at₀ k₀ out-col-idx out-values at k = length masks - k
 
 loop-holds : tie.Need-loop-holds Inv-loop μ-loop
-loop-holds c = appending-none _ _ _ _ _ _ _ _
+loop-holds c = appending-none _ _ _ _ _ _ _ _ _
 
 mul-word-in : tie.Need-mul-word-in Inv-loop μ-loop
 mul-word-in c = search needs
@@ -68,7 +68,7 @@ shared-slice-read-keep-tile-2 c = search needs
 
 keep-tile-requires : tie.Need-keep-tile-requires Inv-loop μ-loop
 keep-tile-requires c κs =
-    (base-in (c .before .before .before .before .before .before .before .before .before .before .before .before .before .before .before .before .before .before .before .before .before .args .masks .now) (c .before .before .before .before .before .before .before .before .before .before .before .before .before .before .before .before .before .before .before .before .before .args .value-offsets .now) (c .before .before .before .before .before .before .before .before .before .before .before .before .before .before .before .before .before .before .before .before .before .args .metas .now) (c .before .before .before .before .before .before .before .before .before .before .before .before .before .before .before .before .before .before .before .before .before .args .values .now) (c .before .before .before .before .before .before .before .before .before .before .before .before .before .before .before .before .before .before .before .before .before .args .mask .now) (c .before .before .before .before .before .before .before .before .before .before .before .before .before .before .before .before .before .before .before .before .before .pre .0 .0) (c .before .before .before .before .before .before .before .before .before .before .before .before .before .before .before .before .before .before .before .before .before .pre .0 .1) _ _ (omega arith) (c .before .before .before .wide2 .ensures) _ _ (c .before .before .before .before .before .before .before .before .before .wide .ensures ∙ c .before .before .before .before .before .before .before .before .before .before .word-in .ensures) (c .before .before .before .before .before .before .intersection .ensures) (c .before .before .before .before .before .before .before .before .before .before .before .before .before .before .before .before .before .before .before .before .before .pre .1 .0) (c .before .before .before .before .before .before .before .before .before .before .before .before .before .before .before .before .before .before .before .before .before .pre .1 .1 .0), (bits-in (c .before .before .before .before .before .before .before .before .before .before .before .before .before .before .before .before .before .before .before .before .before .args .masks .now) (c .before .before .before .before .before .before .before .before .before .before .before .before .before .before .before .before .before .before .before .before .before .args .value-offsets .now) (c .before .before .before .before .before .before .before .before .before .before .before .before .before .before .before .before .before .before .before .before .before .args .metas .now) (c .before .before .before .before .before .before .before .before .before .before .before .before .before .before .before .before .before .before .before .before .before .args .values .now) (c .before .before .before .before .before .before .before .before .before .before .before .before .before .before .before .before .before .before .before .before .before .args .mask .now) (c .before .before .before .before .before .before .before .before .before .before .before .before .before .before .before .before .before .before .before .before .before .pre .0 .0) (c .before .before .before .before .before .before .before .before .before .before .before .before .before .before .before .before .before .before .before .before .before .pre .0 .1) _ _ (omega arith) (c .before .before .before .wide2 .ensures) _ _ (c .before .before .before .before .before .before .before .before .before .wide .ensures ∙ c .before .before .before .before .before .before .before .before .before .before .word-in .ensures) (c .before .before .before .before .before .before .intersection .ensures) (c .before .before .before .before .before .before .before .before .before .before .before .before .before .before .before .before .before .before .before .before .before .pre .1 .0), (column-room _ _ _ _ _ _ _ _ (c .before .before .before .before .before .before .before .before .before .before .before .before .before .before .before .before .before .before .before .before .before .pre .0 .0) (c .before .before .before .before .before .before .before .before .before .before .before .before .before .before .before .before .before .before .before .before .before .pre .0 .1) _ _ _ _ (c .before .before .before .before .before .before .before .before .before .before .before .before .before .loop .inv) (omega arith) _ _ _ (c .before .before .before .wide2 .ensures) (c .before .before .before .before .before .before .before .before .before .wide .ensures ∙ c .before .before .before .before .before .before .before .before .before .before .word-in .ensures) (c .before .before .before .before .before .before .intersection .ensures) (c .before .before .before .before .before .before .before .before .before .before .before .before .before .before .before .before .before .before .before .before .before .pre .1 .1 .1 .0), value-room _ _ _ _ _ _ _ _ (c .before .before .before .before .before .before .before .before .before .before .before .before .before .before .before .before .before .before .before .before .before .pre .0 .0) (c .before .before .before .before .before .before .before .before .before .before .before .before .before .before .before .before .before .before .before .before .before .pre .0 .1) _ _ _ _ (c .before .before .before .before .before .before .before .before .before .before .before .before .before .loop .inv) (omega arith) _ _ _ (c .before .before .before .wide2 .ensures) (c .before .before .before .before .before .before .before .before .before .wide .ensures ∙ c .before .before .before .before .before .before .before .before .before .before .word-in .ensures) (c .before .before .before .before .before .before .intersection .ensures) (c .before .before .before .before .before .before .before .before .before .before .before .before .before .before .before .before .before .before .before .before .before .pre .1 .1 .1 .1))))
+    (base-in (c .before .before .before .before .before .before .before .before .before .before .before .before .before .before .before .before .before .before .before .before .before .args .masks .now) (c .before .before .before .before .before .before .before .before .before .before .before .before .before .before .before .before .before .before .before .before .before .args .value-offsets .now) (c .before .before .before .before .before .before .before .before .before .before .before .before .before .before .before .before .before .before .before .before .before .args .metas .now) (c .before .before .before .before .before .before .before .before .before .before .before .before .before .before .before .before .before .before .before .before .before .args .values .now) (c .before .before .before .before .before .before .before .before .before .before .before .before .before .before .before .before .before .before .before .before .before .args .mask .now) (c .before .before .before .before .before .before .before .before .before .before .before .before .before .before .before .before .before .before .before .before .before .pre .0 .0) (c .before .before .before .before .before .before .before .before .before .before .before .before .before .before .before .before .before .before .before .before .before .pre .0 .1) _ _ (omega arith) (c .before .before .before .wide2 .ensures) _ _ (c .before .before .before .before .before .before .before .before .before .wide .ensures ∙ c .before .before .before .before .before .before .before .before .before .before .word-in .ensures) (c .before .before .before .before .before .before .intersection .ensures) (c .before .before .before .before .before .before .before .before .before .before .before .before .before .before .before .before .before .before .before .before .before .pre .1 .0) (c .before .before .before .before .before .before .before .before .before .before .before .before .before .before .before .before .before .before .before .before .before .pre .1 .1 .0), (bits-in (c .before .before .before .before .before .before .before .before .before .before .before .before .before .before .before .before .before .before .before .before .before .args .masks .now) (c .before .before .before .before .before .before .before .before .before .before .before .before .before .before .before .before .before .before .before .before .before .args .value-offsets .now) (c .before .before .before .before .before .before .before .before .before .before .before .before .before .before .before .before .before .before .before .before .before .args .metas .now) (c .before .before .before .before .before .before .before .before .before .before .before .before .before .before .before .before .before .before .before .before .before .args .values .now) (c .before .before .before .before .before .before .before .before .before .before .before .before .before .before .before .before .before .before .before .before .before .args .mask .now) (c .before .before .before .before .before .before .before .before .before .before .before .before .before .before .before .before .before .before .before .before .before .pre .0 .0) (c .before .before .before .before .before .before .before .before .before .before .before .before .before .before .before .before .before .before .before .before .before .pre .0 .1) _ _ (omega arith) (c .before .before .before .wide2 .ensures) _ _ (c .before .before .before .before .before .before .before .before .before .wide .ensures ∙ c .before .before .before .before .before .before .before .before .before .before .word-in .ensures) (c .before .before .before .before .before .before .intersection .ensures) (c .before .before .before .before .before .before .before .before .before .before .before .before .before .before .before .before .before .before .before .before .before .pre .1 .0), ((omega (arith, c .before .before .before .before .before .before .before .before .before .before .before .before .before .loop .inv .columns .same, c .before .before .before .before .before .before .before .before .before .before .before .before .before .before .before .before .before .before .before .before .before .pre .1 .1 .1 .0), omega (arith, c .before .before .before .before .before .before .before .before .before .before .before .before .before .loop .inv .values .same, c .before .before .before .before .before .before .before .before .before .before .before .before .before .before .before .before .before .before .before .before .before .pre .1 .1 .1 .0)), omega (arith, c .before .before .before .before .before .before .before .before .before .before .before .before .before .loop .inv .few, c .before .before .before .before .before .before .before .before .before .before .before .before .before .before .before .before .before .before .before .before .before .pre .1 .1 .1 .1))))
 
 add-k : tie.Need-add-k Inv-loop μ-loop
 add-k c = search needs
@@ -77,16 +77,22 @@ loop-less : tie.Need-loop-less Inv-loop μ-loop
 loop-less c = search needs
 
 loop-again : tie.Need-loop-again Inv-loop μ-loop
-loop-again c = appending-more _ _ _ _ _ _ _ _ (c .before .before .before .before .before .before .before .before .before .before .before .before .before .before .before .before .before .before .before .before .before .before .before .before .before .before .pre .0 .0) (c .before .before .before .before .before .before .before .before .before .before .before .before .before .before .before .before .before .before .before .before .before .before .before .before .before .before .pre .0 .1) _ _ _ _ (c .before .before .before .before .before .before .before .before .before .before .before .before .before .before .before .before .before .before .loop .inv) (omega arith) _ _ _ (c .before .before .before .before .before .before .before .before .wide2 .ensures) (c .before .before .before .before .before .before .before .before .before .before .before .before .before .before .wide .ensures ∙ c .before .before .before .before .before .before .before .before .before .before .before .before .before .before .before .word-in .ensures) (c .before .before .before .before .before .before .before .before .before .before .before .intersection .ensures) _ _ _ (c .before .before .before .before .keep-tile .ensures .0) (c .before .before .before .before .keep-tile .ensures .1) (c .before .before .before .before .keep-tile .kept .1 .1 .1 .1 .1 .1 .0) (c .before .before .before .before .keep-tile .kept .1 .1 .1 .1 .1 .1 .1 .0)
+loop-again c =
+    appending-more _ _ _ _ _ _ _ _ _ (c .before .before .before .before .before .before .before .before .before .before .before .before .before .before .before .before .before .before .before .before .before .before .before .before .before .before .pre .0 .0) (c .before .before .before .before .before .before .before .before .before .before .before .before .before .before .before .before .before .before .before .before .before .before .before .before .before .before .pre .0 .1) _ _ _ _ (c .before .before .before .before .before .before .before .before .before .before .before .before .before .before .before .before .before .before .loop .inv) (omega arith) _ _ _ (c .before .before .before .before .before .before .before .before .wide2 .ensures) (c .before .before .before .before .before .before .before .before .before .before .before .before .before .before .wide .ensures ∙ c .before .before .before .before .before .before .before .before .before .before .before .before .before .before .before .word-in .ensures) (c .before .before .before .before .before .before .before .before .before .before .before .intersection .ensures) _ _ _
+    (c .before .before .before .before .keep-tile .ensures .0) (c .before .before .before .before .keep-tile .ensures .1 .0) (c .before .before .before .before .keep-tile .ensures .1 .1) (c .before .before .before .before .keep-tile .kept .1 .1 .1 .1 .1 .1 .1 .0) (c .before .before .before .before .keep-tile .kept .1 .1 .1 .1 .1 .1 .1 .1 .0)
 
 same-length : tie.Need-same-length Inv-loop μ-loop
-same-length c = c .before .loop .inv .columns-same
+same-length c = c .before .loop .inv .columns .same
 
 same-length-2 : tie.Need-same-length-2 Inv-loop μ-loop
-same-length-2 c = c .before .loop .inv .values-same
+same-length-2 c = c .before .loop .inv .values .same
 
 returns : tie.Need-returns Inv-loop μ-loop
-returns c = (all-columns _ _ _ _ _ _ _ _ (c .before .before .before .before .before .before .before .before .before .pre .0 .0) (c .before .before .before .before .before .before .before .before .before .pre .0 .1) _ _ _ _ (c .before .loop .inv) (omega arith), all-values _ _ _ _ _ _ _ _ (c .before .before .before .before .before .before .before .before .before .pre .0 .0) (c .before .before .before .before .before .before .before .before .before .pre .0 .1) _ _ _ _ (c .before .loop .inv) (omega arith))
+returns c =
+    let eo = c .before .before .before .before .before .before .before .before .before .pre .0 .0 in
+    let em = c .before .before .before .before .before .before .before .before .before .pre .0 .1 in
+    let inv = c .before .loop .inv in
+    (all-next _ _ _ _ _ _ _ _ _ eo em _ _ _ _ inv (omega arith), (all-columns _ _ _ _ _ _ _ _ _ eo em _ _ _ _ inv (omega arith), all-values _ _ _ _ _ _ _ _ _ eo em _ _ _ _ inv (omega arith)))
 
 pub keep-row-spec : {M : Type 1} → statement M
 keep-row-spec =

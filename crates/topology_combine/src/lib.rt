@@ -10,8 +10,10 @@ ghost use Rattle.hybit_core.specs.Answer.{answers};
 ghost use Rattle.hybit_core.specs.Domain.{many};
 ghost use Rattle.hybit_core.specs.Table.{told};
 ghost use Rattle.lent.specs.Lent.{built, Appended};
+ghost use Rattle.lent.specs.Lists.{part};
 ghost use Rattle.word.specs.Bits.{maskOf, wordsOf};
 ghost use Rattle.lent.proofs.LentLaws.{Filled};
+ghost use Rattle.csr32.proofs.FrameLaws.{RowIn};
 ghost use Rattle.topology.specs.Words.{asWords};
 ghost use Rattle.topology.specs.Calls.{asRoom, usedOf, toldTopology, fitsWords};
 ghost use Rattle.topology_combine.specs.Merge.{TwoRows, Stepped, TwoRecords, roomAnswer};
@@ -154,6 +156,25 @@ fn merge_row(
     to
 }
 
+// A row's part of the word numbers, and of the masks.
+fn words_of<'a>(row_word_ptr: &[u32], word_indices: &'a [u32], row: usize) -> &'a [u32]
+    requires { ⌜ RowIn (now «row_word_ptr») (length (now «word_indices»)) row ⌝ }
+    ensures { λ p. ⌜ now p ≡ part (now («row_word_ptr» .entry)) (now («word_indices» .entry)) row ⌝ }
+{
+    let start = hybit_core::wide(row_word_ptr[row]);
+    let end = hybit_core::wide(row_word_ptr[row + 1]);
+    &word_indices[start..end]
+}
+
+fn masks_of<'a>(row_word_ptr: &[u32], masks: &'a [u64], row: usize) -> &'a [u64]
+    requires { ⌜ RowIn (now «row_word_ptr») (length (now masks)) row ⌝ }
+    ensures { λ p. ⌜ now p ≡ part (now («row_word_ptr» .entry)) (now (masks .entry)) row ⌝ }
+{
+    let start = hybit_core::wide(row_word_ptr[row]);
+    let end = hybit_core::wide(row_word_ptr[row + 1]);
+    &masks[start..end]
+}
+
 // How many words the combined record has.
 fn count_words(
     operation: Operation,
@@ -172,18 +193,11 @@ fn count_words(
     let mut count: usize = 0;
     let mut row: usize = 0;
     while row < nrows {
-        let from = hybit_core::wide(row_word_ptr[row]);
-        let to = hybit_core::wide(row_word_ptr[row + 1]);
-        let other_from = hybit_core::wide(other_row_word_ptr[row]);
-        let other_to = hybit_core::wide(other_row_word_ptr[row + 1]);
-        count += count_row(
-            operation,
-            ncols,
-            &word_indices[from..to],
-            &masks[from..to],
-            &other_word_indices[other_from..other_to],
-            &other_masks[other_from..other_to],
-        );
+        let left = words_of(row_word_ptr, word_indices, row);
+        let left_masks = masks_of(row_word_ptr, masks, row);
+        let right = words_of(other_row_word_ptr, other_word_indices, row);
+        let right_masks = masks_of(other_row_word_ptr, other_masks, row);
+        count += count_row(operation, ncols, left, left_masks, right, right_masks);
         row += 1;
     }
     count
@@ -213,17 +227,17 @@ fn merge_rows(
     let mut row: usize = 0;
     while row < nrows {
         out_ptr[row] = hybit_core::narrow(to);
-        let start = hybit_core::wide(row_word_ptr[row]);
-        let end = hybit_core::wide(row_word_ptr[row + 1]);
-        let other_start = hybit_core::wide(other_row_word_ptr[row]);
-        let other_end = hybit_core::wide(other_row_word_ptr[row + 1]);
+        let left = words_of(row_word_ptr, word_indices, row);
+        let left_masks = masks_of(row_word_ptr, masks, row);
+        let right = words_of(other_row_word_ptr, other_word_indices, row);
+        let right_masks = masks_of(other_row_word_ptr, other_masks, row);
         to = merge_row(
             operation,
             ncols,
-            &word_indices[start..end],
-            &masks[start..end],
-            &other_word_indices[other_start..other_end],
-            &other_masks[other_start..other_end],
+            left,
+            left_masks,
+            right,
+            right_masks,
             to,
             out_words,
             out_masks,

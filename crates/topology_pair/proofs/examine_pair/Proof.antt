@@ -1,13 +1,13 @@
--- `topology_combine::examine_pair` meets its contract. Assumes nothing.
+-- `topology_pair::examine_pair` meets its contract. Assumes nothing.
 use native.Mathlib.Omega.{arith}
 use Rattle.topology.specs.Words.{asWords}
 use Rattle.hybit_core.proofs.BoolLaws.{tests, flag-on, and-first, and-next, is-equal, is-unequal}
 use Rattle.hybit_core.proofs.AnswerLaws.{checks}
-use Rattle.topology_combine.specs.Combine.{pairAnswer}
-use Rattle.topology_combine.proofs.CallLaws.{pair-first, pair-second, pair-frames, pair-passes}
+use Rattle.topology_pair.specs.Pair.{pairAnswer}
+use Rattle.topology_pair.proofs.PairLaws.{pair-first, pair-second, pair-frames, pair-passes}
 use borrow.Author.Needs.{needs}
-use Rattle.topology_combine.proofs.examine_pair.Statement.{statement}
-use Rattle.topology_combine.proofs.examine_pair.Tie as tie
+use Rattle.topology_pair.proofs.examine_pair.Statement.{statement}
+use Rattle.topology_pair.proofs.examine_pair.Tie as tie
 
 sizes-fit-requires : tie.Need-sizes-fit-requires
 sizes-fit-requires c κs = search needs

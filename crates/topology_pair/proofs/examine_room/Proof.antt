@@ -1,10 +1,10 @@
--- `topology_combine::examine_room` meets its contract. Assumes nothing.
-use Rattle.topology_combine.specs.Merge.{roomAnswer}
+-- `topology_pair::examine_room` meets its contract. Assumes nothing.
+use Rattle.topology_pair.specs.Pair.{roomAnswer}
 use Rattle.hybit_core.proofs.BoolLaws.{tests}
 use Rattle.hybit_core.proofs.AnswerLaws.{checks}
 use borrow.Author.Needs.{needs}
-use Rattle.topology_combine.proofs.examine_room.Statement.{statement}
-use Rattle.topology_combine.proofs.examine_room.Tie as tie
+use Rattle.topology_pair.proofs.examine_room.Statement.{statement}
+use Rattle.topology_pair.proofs.examine_room.Tie as tie
 
 entries-fit-requires : tie.Need-entries-fit-requires
 entries-fit-requires c κs = search needs

@@ -1,12 +1,12 @@
--- `metadata_first_dot::examine_row` meets its contract. Assumes nothing.
+-- `metadata_first_operands::examine_row` meets its contract. Assumes nothing.
 use borrow.Author.Needs.{needs}
 use native.Mathlib.Omega.{arith}
 use Rattle.hybit_core.proofs.BoolLaws.{is-below, is-not-below}
 use Rattle.hybit_core.proofs.AnswerLaws.{call-refused, call-accepted, last-fails, last-passes}
 use Rattle.metadata_first.specs.Dot.{dotAnswer}
 use Prim.Native.Nat.{_<_}
-use Rattle.metadata_first_dot.proofs.examine_row.Statement.{statement}
-use Rattle.metadata_first_dot.proofs.examine_row.Tie as tie
+use Rattle.metadata_first_operands.proofs.examine_row.Statement.{statement}
+use Rattle.metadata_first_operands.proofs.examine_row.Tie as tie
 
 examine-operands-requires : tie.Need-examine-operands-requires
 examine-operands-requires c κs = search needs

@@ -1,12 +1,12 @@
--- `metadata_first_dot::examine_rows` meets its contract. Assumes nothing.
+-- `metadata_first_operands::examine_rows` meets its contract. Assumes nothing.
 use borrow.Author.Needs.{needs}
 use native.Mathlib.Omega.{arith}
 use Rattle.hybit_core.proofs.BoolLaws.{and-first, and-next, is-above, is-within}
 use Rattle.hybit_core.proofs.AnswerLaws.{call-refused, call-accepted, last-fails, last-passes}
-use Rattle.metadata_first_dot.specs.Rows.{rowsAnswer}
+use Rattle.metadata_first_operands.specs.Checks.{rowsAnswer}
 use Prim.Native.Nat.{_≤_}
-use Rattle.metadata_first_dot.proofs.examine_rows.Statement.{statement}
-use Rattle.metadata_first_dot.proofs.examine_rows.Tie as tie
+use Rattle.metadata_first_operands.proofs.examine_rows.Statement.{statement}
+use Rattle.metadata_first_operands.proofs.examine_rows.Tie as tie
 
 examine-operands-requires : tie.Need-examine-operands-requires
 examine-operands-requires c κs = search needs

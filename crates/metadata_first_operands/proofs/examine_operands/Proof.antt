@@ -1,10 +1,10 @@
--- `metadata_first_dot::examine_operands` meets its contract. Assumes nothing.
+-- `metadata_first_operands::examine_operands` meets its contract. Assumes nothing.
 use borrow.Author.Needs.{needs}
 use Rattle.hybit_core.proofs.BoolLaws.{flag-on, flag-off}
 use Rattle.hybit_core.proofs.AnswerLaws.{call-refused, call-accepted, length-wrong, length-right, last-length-wrong, last-length-right}
-use Rattle.metadata_first_dot.proofs.CallLaws.{mask-first, store-then}
-use Rattle.metadata_first_dot.proofs.examine_operands.Statement.{statement}
-use Rattle.metadata_first_dot.proofs.examine_operands.Tie as tie
+use Rattle.metadata_first_operands.proofs.CheckLaws.{mask-first, store-then}
+use Rattle.metadata_first_operands.proofs.examine_operands.Statement.{statement}
+use Rattle.metadata_first_operands.proofs.examine_operands.Tie as tie
 
 dimension-fits-requires : tie.Need-dimension-fits-requires
 dimension-fits-requires c κs = search needs

@@ -182,4 +182,5 @@ fill-rows-spec =
     same-length-2
     same-length-3
     returns)
+
 -- x

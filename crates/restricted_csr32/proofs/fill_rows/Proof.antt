@@ -182,5 +182,3 @@ fill-rows-spec =
     same-length-2
     same-length-3
     returns)
-
--- x

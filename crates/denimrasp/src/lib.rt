@@ -25,7 +25,8 @@ ghost use Rattle.metadata_first.specs.Store.{asStore, storeAnswer, storeRowAnsw
 ghost use Rattle.metadata_first.specs.Dot.{sparseDotRow, accumulated, accumulateAnswer};
 ghost use Rattle.metadata_first_merge.specs.Merge.{mergeAnswer};
 ghost use Rattle.metadata_first_build.specs.Pack.{asStoreRoom, storeOf, packAnswer};
-ghost use Rattle.metadata_first_dot.specs.Rows.{rowsAnswer, rowSums, rowCounts};
+ghost use Rattle.metadata_first_operands.specs.Checks.{rowsAnswer};
+ghost use Rattle.metadata_first_dot.specs.Rows.{rowSums, rowCounts};
 ghost use Rattle.abtm.specs.Tiles.{wordIn, asTiles, tilesAnswer};
 ghost use Rattle.abtm.specs.Calls.{thresholdAnswer, kindAnswer};
 ghost use Rattle.abtm_build.specs.Build.{tilesFrom, asTileRoom, tileAnswer, usedTiles};

@@ -1,5 +1,5 @@
--- The checks of the dots in the code's order, what is known once they have accepted, and what the calls leave in lent lists. Assumes nothing.
-use mathlib.Core.Bool.{Bool, true, false, _&&_}
+-- What is known once the checks of the dots have accepted, and what the calls leave in lent lists. Assumes nothing.
+use mathlib.Core.Bool.{Bool, true, _&&_}
 use mathlib.Core.List.{List, _++_}
 use mathlib.Core.Path.{_≡_, refl, sym, ap, ap₂, _∙_}
 use Prim.Native.Nat.{ℕ, _+_, _%_, _^_, _≤_, _<_}
@@ -9,7 +9,7 @@ use lib.ListN.{length, getD, take, drop, set, length-append, length-drop}
 use lib.Seq.{take-at}
 use lib.Ieee.{Float, nan}
 use borrow.Author.Tests.{ltb-true, leb-true}
-use Rattle.hybit_core.specs.Answer.{Answer, accepted, refused, plain, demand, lengthIs, _andThen_}
+use Rattle.hybit_core.specs.Answer.{Answer, accepted, demand, lengthIs, _andThen_}
 use Rattle.hybit_core.specs.Domain.{few}
 use Rattle.hybit_core.specs.Floats.{zero64}
 use Rattle.hybit_core.specs.Table.{told}
@@ -34,7 +34,8 @@ use Rattle.metadata_first.specs.Store.{Store, asStore, valueAt, storeSizes, sto
 use Rattle.metadata_first.specs.Dot.{dotOf, dotOn, operandsAnswer, dotAnswer}
 use Rattle.metadata_first.proofs.DotLaws.{dot-cong}
 use Rattle.metadata_first.proofs.CallLaws.{Stored, stored, row-values, value-in-row}
-use Rattle.metadata_first_dot.specs.Rows.{rowsAnswer, rowSums, rowCounts}
+use Rattle.metadata_first_operands.specs.Checks.{rowsAnswer}
+use Rattle.metadata_first_dot.specs.Rows.{rowSums, rowCounts}
 use Rattle.metadata_first_dot.specs.Walk.{RowReady, rowDot}
 
 -- ---- operands that the checks accept
@@ -172,31 +173,6 @@ module _ (s : Store) (a : Mask) (x sums₀ : List Float) (counts₀ : List ℕ) 
       pub filling-numbers : counts ≡ rowCounts s a x
       unfolding rowCounts
       filling-numbers = filled-done (λ r. dotOn s a x r .«executed_products») counts₀ r counts (f .numbers) (s .words .rows) lc (f .upto) g
-
--- ---- the checks in the code's order: 1 of the mask's length, the store's own checks, the mask's, the lengths
-
-module _ (s : Store) (a : Mask) (x : List Float) where
-  pub mask-first : false ≡ few (a .size) → refused (plain 1) ≡ operandsAnswer s a x
-  unfolding operandsAnswer
-  mask-first e =
-      let rest : Answer = storeFaults s andThen demand (maskRules a) 5 andThen lengthIs (s .words .cols) (a .size) andThen lengthIs (s .words .cols) (length x) in
-      go (storeSizes s) rest ∙ ap (λ (t : Bool). demand (storeSizes s && t) 1 andThen rest) e
-    where
-      go : (t : Bool) (rest : Answer) → refused (plain 1) ≡ demand (t && false) 1 andThen rest
-      go true rest = refl
-      go false rest = refl
-
-  pub store-then : (c : Answer) → true ≡ few (a .size) → c ≡ storeAnswer s andThen maskAnswer a andThen lengthIs (s .words .cols) (a .size) andThen lengthIs (s .words .cols) (length x) → c ≡ operandsAnswer s a x
-  unfolding operandsAnswer storeAnswer maskAnswer
-  store-then c e q =
-      let lengths : Answer = lengthIs (s .words .cols) (a .size) andThen lengthIs (s .words .cols) (length x) in
-      q ∙ ap (λ (t : Bool). (demand (storeSizes s) 1 andThen storeFaults s) andThen (demand t 1 andThen demand (maskRules a) 5) andThen lengths) (sym e)
-      ∙ go (storeSizes s) (storeFaults s) (demand (maskRules a) 5 andThen lengths)
-      ∙ ap (λ (t : Bool). demand (storeSizes s && t) 1 andThen storeFaults s andThen demand (maskRules a) 5 andThen lengths) e
-    where
-      go : (t : Bool) (f rest : Answer) → ((demand t 1 andThen f) andThen rest) ≡ (demand (t && true) 1 andThen f andThen rest)
-      go true f rest = refl
-      go false f rest = refl
 
 -- ---- what an accepted call may do
 

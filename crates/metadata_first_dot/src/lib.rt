@@ -10,10 +10,10 @@ ghost use Rattle.hybit_core.specs.Table.{told};
 ghost use Rattle.lent.specs.Lent.{built};
 ghost use Rattle.mask.specs.Mask.{asMask};
 ghost use Rattle.metadata_first.specs.Store.{asStore};
-ghost use Rattle.metadata_first.specs.Dot.{dotOn, operandsAnswer, dotAnswer, sparseDotRow, toldDot};
-ghost use Rattle.metadata_first_dot.specs.Rows.{rowsAnswer, rowSums, rowCounts};
+ghost use Rattle.metadata_first.specs.Dot.{dotOn, operandsAnswer, sparseDotRow, toldDot};
+ghost use Rattle.metadata_first_operands.specs.Checks.{rowsAnswer};
+ghost use Rattle.metadata_first_dot.specs.Rows.{rowSums, rowCounts};
 ghost use Rattle.metadata_first_dot.specs.Walk.{wordSum, wordInside, RowReady, rowDot};
-use hybit_core::HybitError;
 use hybit_core::Verdict;
 use metadata_first::AbtmRowDot;
 use metadata_first::DotAnswer;
@@ -116,95 +116,6 @@ fn row_dot(
     )
 }
 
-// The checks that every dot makes.
-fn examine_operands(
-    nrows: usize,
-    ncols: usize,
-    row_word_ptr: &[u32],
-    word_indices: &[u32],
-    masks: &[u64],
-    structural_nnz: usize,
-    row_value_ptr: &[u32],
-    values: &[f64],
-    mask_len: usize,
-    mask: &[u64],
-    x: &[f64],
-) -> Verdict
-    ensures { λ r. ⌜ told r ≡ operandsAnswer (asStore nrows ncols (now («row_word_ptr» .entry)) (now («word_indices» .entry)) (now (masks .entry)) «structural_nnz» (now («row_value_ptr» .entry)) (now (values .entry))) (asMask «mask_len» (now (mask .entry))) (now (x .entry)) ⌝ }
-{
-    if !hybit_core::dimension_fits(mask_len) {
-        return Verdict::Refused(HybitError::SizeOverflow);
-    }
-    let v = metadata_first::check(
-        nrows,
-        ncols,
-        row_word_ptr,
-        word_indices,
-        masks,
-        structural_nnz,
-        row_value_ptr,
-        values,
-    );
-    if let Verdict::Refused(e) = v {
-        return Verdict::Refused(e);
-    }
-    let m = mask::check(mask_len, mask);
-    if let Verdict::Refused(e) = m {
-        return Verdict::Refused(e);
-    }
-    if mask_len != ncols {
-        return Verdict::Refused(HybitError::DimensionMismatch {
-            expected: ncols,
-            actual: mask_len,
-        });
-    }
-    if x.len() != ncols {
-        return Verdict::Refused(HybitError::DimensionMismatch {
-            expected: ncols,
-            actual: x.len(),
-        });
-    }
-    Verdict::Accepted
-}
-
-fn examine_row(
-    nrows: usize,
-    ncols: usize,
-    row_word_ptr: &[u32],
-    word_indices: &[u32],
-    masks: &[u64],
-    structural_nnz: usize,
-    row_value_ptr: &[u32],
-    values: &[f64],
-    mask_len: usize,
-    mask: &[u64],
-    x: &[f64],
-    row: usize,
-) -> Verdict
-    ensures { λ r. ⌜ told r ≡ dotAnswer (asStore nrows ncols (now («row_word_ptr» .entry)) (now («word_indices» .entry)) (now (masks .entry)) «structural_nnz» (now («row_value_ptr» .entry)) (now (values .entry))) (asMask «mask_len» (now (mask .entry))) (now (x .entry)) row ⌝ }
-{
-    let v = examine_operands(
-        nrows,
-        ncols,
-        row_word_ptr,
-        word_indices,
-        masks,
-        structural_nnz,
-        row_value_ptr,
-        values,
-        mask_len,
-        mask,
-        x,
-    );
-    if let Verdict::Refused(e) = v {
-        return Verdict::Refused(e);
-    }
-    if row >= nrows {
-        return Verdict::Refused(HybitError::NoSuchPlace);
-    }
-    Verdict::Accepted
-}
-
 // The dot of a row with the vector x over the active columns of a mask.
 pub fn sparse_dot_row(
     nrows: usize,
@@ -222,7 +133,7 @@ pub fn sparse_dot_row(
 ) -> DotAnswer
     ensures { λ r. ⌜ toldDot r ≡ sparseDotRow (asStore nrows ncols (now («row_word_ptr» .entry)) (now («word_indices» .entry)) (now (masks .entry)) «structural_nnz» (now («row_value_ptr» .entry)) (now (values .entry))) (asMask «mask_len» (now (mask .entry))) (now (x .entry)) row ⌝ }
 {
-    let v = examine_row(
+    let v = metadata_first_operands::examine_row(
         nrows,
         ncols,
         row_word_ptr,
@@ -253,48 +164,6 @@ pub fn sparse_dot_row(
         x,
         row,
     ))
-}
-
-fn examine_rows(
-    nrows: usize,
-    ncols: usize,
-    row_word_ptr: &[u32],
-    word_indices: &[u32],
-    masks: &[u64],
-    structural_nnz: usize,
-    row_value_ptr: &[u32],
-    values: &[f64],
-    mask_len: usize,
-    mask: &[u64],
-    x: &[f64],
-    sums: usize,
-    counts: usize,
-) -> Verdict
-    ensures { λ r. ⌜ told r ≡ rowsAnswer (asStore nrows ncols (now («row_word_ptr» .entry)) (now («word_indices» .entry)) (now (masks .entry)) «structural_nnz» (now («row_value_ptr» .entry)) (now (values .entry))) (asMask «mask_len» (now (mask .entry))) (now (x .entry)) sums counts ⌝ }
-{
-    let v = examine_operands(
-        nrows,
-        ncols,
-        row_word_ptr,
-        word_indices,
-        masks,
-        structural_nnz,
-        row_value_ptr,
-        values,
-        mask_len,
-        mask,
-        x,
-    );
-    if let Verdict::Refused(e) = v {
-        return Verdict::Refused(e);
-    }
-    if sums < nrows {
-        return Verdict::Refused(HybitError::ShortList);
-    }
-    if counts < nrows {
-        return Verdict::Refused(HybitError::ShortList);
-    }
-    Verdict::Accepted
 }
 
 fn fill_rows(
@@ -359,7 +228,7 @@ pub fn sparse_dot_rows(
     ensures sums { λ r. ⌜ now (sums .exit) ≡ built zero64 (length (now (sums .entry))) (rowsAnswer (asStore nrows ncols (now («row_word_ptr» .entry)) (now («word_indices» .entry)) (now (masks .entry)) «structural_nnz» (now («row_value_ptr» .entry)) (now (values .entry))) (asMask «mask_len» (now (mask .entry))) (now (x .entry)) (length (now (sums .entry))) (length (now (executed .entry)))) (rowSums (asStore nrows ncols (now («row_word_ptr» .entry)) (now («word_indices» .entry)) (now (masks .entry)) «structural_nnz» (now («row_value_ptr» .entry)) (now (values .entry))) (asMask «mask_len» (now (mask .entry))) (now (x .entry))) ⌝ }
     ensures counts { λ r. ⌜ now (executed .exit) ≡ built 0 (length (now (executed .entry))) (rowsAnswer (asStore nrows ncols (now («row_word_ptr» .entry)) (now («word_indices» .entry)) (now (masks .entry)) «structural_nnz» (now («row_value_ptr» .entry)) (now (values .entry))) (asMask «mask_len» (now (mask .entry))) (now (x .entry)) (length (now (sums .entry))) (length (now (executed .entry)))) (rowCounts (asStore nrows ncols (now («row_word_ptr» .entry)) (now («word_indices» .entry)) (now (masks .entry)) «structural_nnz» (now («row_value_ptr» .entry)) (now (values .entry))) (asMask «mask_len» (now (mask .entry))) (now (x .entry))) ⌝ }
 {
-    let v = examine_rows(
+    let v = metadata_first_operands::examine_rows(
         nrows,
         ncols,
         row_word_ptr,

@@ -2,15 +2,15 @@
 use mathlib.Core.Bool.{Bool, true, false}
 use mathlib.Core.List.{List, map}
 use mathlib.Core.Path.{_≡_, refl, sym, ap, ap₂, _∙_}
-use Prim.Native.Nat.{ℕ, zero, suc, _+_, _-_, _^_, _≤_, _<_}
+use Prim.Native.Nat.{ℕ, zero, suc, _+_, _^_, _≤_, _<_}
 use native.Mathlib.Nat.{le-refl}
 use native.Mathlib.Numerals.{add-one}
 use native.Mathlib.Omega.{arith}
 use lib.Dec.{ltb}
-use lib.ListN.{length, getD, take, drop, length-map}
+use lib.ListN.{length, getD, length-map}
 use mir.Val.{boolByte}
 use Rattle.lent.specs.Lists.{joined, starts, part}
-use Rattle.lent.proofs.ListLaws.{length-joined-suc, every-part, part-lent}
+use Rattle.lent.proofs.ListLaws.{length-joined-suc, every-part}
 use Rattle.csr32.proofs.FrameLaws.{Framed, RowIn, lists-sides, lists-frame, row-left, row-right, part-lengths, parts-length}
 use Rattle.word.specs.Bits.{count, maskOf, hit, ceil64, wordsOf}
 use Rattle.word.specs.Word.{combined}
@@ -115,33 +115,31 @@ module _ (rows cols : ℕ) (ptr ws ms otr vs ns : List ℕ) (t : TwoRecords rows
     other-rule = right .rule r h;
   }
 
-  -- as the code lends them: from a, the row's pointer, up to b, the next one
-  module _ (r a b d e : ℕ) (ea : a ≡ getD ptr r 0) (eb : b ≡ getD ptr (r + 1) 0) (ed : d ≡ getD otr r 0) (ee : e ≡ getD otr (r + 1) 0) where
-    pub lent-rows : r < rows → TwoRows cols (take (b - a) (drop a ws)) (take (b - a) (drop a ms)) (take (e - d) (drop d vs)) (take (e - d) (drop d ns))
-    lent-rows h = rw (part-lent ptr ws r a b ea eb, part-lent ptr ms r a b ea eb, part-lent otr vs r d e ed ee, part-lent otr ns r d e ed ee) (two-rows r h)
+  -- as the code lends them: lists that are the rows' parts
+  module _ (r : ℕ) (ws′ ms′ vs′ ns′ : List ℕ) (ew : ws′ ≡ part ptr ws r) (em : ms′ ≡ part ptr ms r) (ev : vs′ ≡ part otr vs r) (en : ns′ ≡ part otr ns r) where
+    pub lent-rows : r < rows → TwoRows cols ws′ ms′ vs′ ns′
+    lent-rows h = rw (ew, em, ev, en) (two-rows r h)
 
     lent-test : (op : Operation)
-        → combinedRow op (take (b - a) (drop a ws)) (take (b - a) (drop a ms)) (take (e - d) (drop d vs)) (take (e - d) (drop d ns))
+        → combinedRow op ws′ ms′ vs′ ns′
         ≡ (λ c. combined op (member (asWords rows cols ptr ws ms 0) r c) (member (asWords rows cols otr vs ns 0) r c))
     unfolding member
     lent-test op =
-        ap₂ (λ (x y : List ℕ). combinedRow op x y (take (e - d) (drop d vs)) (take (e - d) (drop d ns))) (part-lent ptr ws r a b ea eb) (part-lent ptr ms r a b ea eb)
-        ∙ ap₂ (λ (x y : List ℕ). combinedRow op (part ptr ws r) (part ptr ms r) x y) (part-lent otr vs r d e ed ee) (part-lent otr ns r d e ed ee)
+        ap₂ (λ (x y : List ℕ). combinedRow op x y vs′ ns′) ew em
+        ∙ ap₂ (λ (x y : List ℕ). combinedRow op (part ptr ws r) (part ptr ms r) x y) ev en
 
-    pub lent-words : (op : Operation)
-        → wordsOf (combinedRow op (take (b - a) (drop a ws)) (take (b - a) (drop a ms)) (take (e - d) (drop d vs)) (take (e - d) (drop d ns))) cols
-        ≡ wordsAt op (asWords rows cols ptr ws ms 0) (asWords rows cols otr vs ns 0) r
+    pub lent-words : (op : Operation) → wordsOf (combinedRow op ws′ ms′ vs′ ns′) cols ≡ wordsAt op (asWords rows cols ptr ws ms 0) (asWords rows cols otr vs ns 0) r
     lent-words op = ap (λ (p : ℕ → Bool). wordsOf p cols) (lent-test op)
 
     pub lent-masks : (op : Operation)
-        → map (maskOf (combinedRow op (take (b - a) (drop a ws)) (take (b - a) (drop a ms)) (take (e - d) (drop d vs)) (take (e - d) (drop d ns))) cols) (wordsOf (combinedRow op (take (b - a) (drop a ws)) (take (b - a) (drop a ms)) (take (e - d) (drop d vs)) (take (e - d) (drop d ns))) cols)
+        → map (maskOf (combinedRow op ws′ ms′ vs′ ns′) cols) (wordsOf (combinedRow op ws′ ms′ vs′ ns′) cols)
         ≡ masksAt op (asWords rows cols ptr ws ms 0) (asWords rows cols otr vs ns 0) r
     lent-masks op = ap (λ (p : ℕ → Bool). map (maskOf p cols) (wordsOf p cols)) (lent-test op)
 
     -- one row more is counted
     pub counting-more : (op : Operation) (k m : ℕ)
         → k ≡ length (joined (wordsAt op (asWords rows cols ptr ws ms 0) (asWords rows cols otr vs ns 0)) r)
-        → m ≡ length (wordsOf (combinedRow op (take (b - a) (drop a ws)) (take (b - a) (drop a ms)) (take (e - d) (drop d vs)) (take (e - d) (drop d ns))) cols)
+        → m ≡ length (wordsOf (combinedRow op ws′ ms′ vs′ ns′) cols)
         → k + m ≡ length (joined (wordsAt op (asWords rows cols ptr ws ms 0) (asWords rows cols otr vs ns 0)) (r + 1))
     counting-more op k m x y =
         ap₂ (λ (i j : ℕ). i + j) x (y ∙ ap length (lent-words op))

@@ -1,27 +1,19 @@
 -- The set operations on words: they act on memberships (document 01, "Words").
 use Prim.Native.Nat.{ℕ}
-use mathlib.Core.Bool.{Bool, _&&_}
+use mathlib.Core.Bool.{Bool}
 use mathlib.Core.List.{List}
-use lib.Dec.{eqb}
 use lib.ListN.{length}
 use Rattle.hybit_core.specs.Answer.{Answer, demand, _andThen_}
 use Rattle.hybit_core.specs.Domain.{many}
 use Rattle.word.specs.Word.{combined}
 use Rattle.word.specs.declared.Operation.{Operation}
-use Rattle.topology.specs.Words.{Words, topologyOf, rowMember, member, wordSizes, wordRules}
+use Rattle.topology.specs.Words.{Words, topologyOf, rowMember, member}
 use Rattle.topology.specs.Calls.{Room, fitsWords}
+use Rattle.topology_pair.specs.Pair.{pairAnswer}
 
 -- the words of the combined memberships
 abbrev pub combinedWords : Operation → Words → Words → Words
 combinedWords op a b = topologyOf (a .rows) (a .cols) (λ r c. combined op (member a r c) (member b r c))
-
--- two records of one frame: 1 over both; 11 of each; 8
-unfoldable pub pairAnswer : Words → Words → Answer
-pairAnswer a b =
-    demand (wordSizes a && wordSizes b) 1
-    andThen demand (wordRules a) 11
-    andThen demand (wordRules b) 11
-    andThen demand (eqb (a .rows) (b .rows) && eqb (a .cols) (b .cols)) 8
 
 -- combine: 1; 11, 11; 8; 1 for more than 2^24 words; 13
 unfoldable pub combineAnswer : Operation → Words → Words → Room → Answer

@@ -1,18 +1,14 @@
 -- What the steps of a merge ask and say: two rows side by side, one word of them, two records of one frame.
-use Prim.Native.Nat.{ℕ, suc, _+_, _^_, _<_}
-use mathlib.Core.Bool.{true, _&&_}
+use Prim.Native.Nat.{ℕ, _+_, _^_, _<_}
+use mathlib.Core.Bool.{true}
 use mathlib.Core.List.{List}
 use mathlib.Core.Path.{_≡_}
-use lib.Dec.{leb}
 use lib.ListN.{length, getD}
-use Rattle.hybit_core.specs.Answer.{Answer, demand, _andThen_}
-use Rattle.hybit_core.specs.Domain.{many}
 use Rattle.csr32.specs.Csr.{framedLists}
 use Rattle.word.specs.Bits.{has, wordOf}
 use Rattle.word.specs.Word.{combined}
 use Rattle.word.specs.declared.Operation.{Operation}
 use Rattle.topology.specs.Words.{asWords, rowRule, rowRules}
-use Rattle.topology.specs.Calls.{Room}
 
 -- two rows of words and masks that keep the rule
 pub record TwoRows (cols : ℕ) (ws ms vs ns : List ℕ) : Type 0 where
@@ -44,7 +40,3 @@ pub record Keeps (rows cols : ℕ) (ptr ws ms : List ℕ) : Type 0 where
 pub record TwoRecords (rows cols : ℕ) (ptr ws ms otr vs ns : List ℕ) : Type 0 where
   pub one : Keeps rows cols ptr ws ms
   pub two : Keeps rows cols otr vs ns
-
--- so many words of so many rows: 1; 13
-unfoldable pub roomAnswer : ℕ → ℕ → Room → Answer
-roomAnswer rows words room = demand (many words) 1 andThen demand (leb (suc rows) (room .ptr) && leb words (room .word) && leb words (room .mask)) 13

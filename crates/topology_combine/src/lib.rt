@@ -10,12 +10,14 @@ ghost use Rattle.hybit_core.specs.Answer.{answers};
 ghost use Rattle.hybit_core.specs.Domain.{many};
 ghost use Rattle.hybit_core.specs.Table.{told};
 ghost use Rattle.lent.specs.Lent.{built, Appended};
+ghost use Rattle.lent.specs.Lists.{part};
 ghost use Rattle.word.specs.Bits.{maskOf, wordsOf};
 ghost use Rattle.lent.proofs.LentLaws.{Filled};
+ghost use Rattle.csr32.proofs.FrameLaws.{RowIn};
 ghost use Rattle.topology.specs.Words.{asWords};
 ghost use Rattle.topology.specs.Calls.{asRoom, usedOf, toldTopology, fitsWords};
-ghost use Rattle.topology_combine.specs.Merge.{TwoRows, Stepped, TwoRecords, roomAnswer};
-ghost use Rattle.topology_combine.specs.Combine.{combinedWords, combinedRow, pairAnswer, combineAnswer};
+ghost use Rattle.topology_combine.specs.Merge.{TwoRows, Stepped, TwoRecords};
+ghost use Rattle.topology_combine.specs.Combine.{combinedWords, combinedRow, combineAnswer};
 use hybit_core::HybitError;
 use hybit_core::Verdict;
 use topology::TopologyAnswer;
@@ -154,6 +156,25 @@ fn merge_row(
     to
 }
 
+// A row's part of the word numbers, and of the masks.
+fn words_of<'a>(row_word_ptr: &[u32], word_indices: &'a [u32], row: usize) -> &'a [u32]
+    requires { ⌜ RowIn (now «row_word_ptr») (length (now «word_indices»)) row ⌝ }
+    ensures { λ p. ⌜ now p ≡ part (now («row_word_ptr» .entry)) (now («word_indices» .entry)) row ⌝ }
+{
+    let start = hybit_core::wide(row_word_ptr[row]);
+    let end = hybit_core::wide(row_word_ptr[row + 1]);
+    &word_indices[start..end]
+}
+
+fn masks_of<'a>(row_word_ptr: &[u32], masks: &'a [u64], row: usize) -> &'a [u64]
+    requires { ⌜ RowIn (now «row_word_ptr») (length (now masks)) row ⌝ }
+    ensures { λ p. ⌜ now p ≡ part (now («row_word_ptr» .entry)) (now (masks .entry)) row ⌝ }
+{
+    let start = hybit_core::wide(row_word_ptr[row]);
+    let end = hybit_core::wide(row_word_ptr[row + 1]);
+    &masks[start..end]
+}
+
 // How many words the combined record has.
 fn count_words(
     operation: Operation,
@@ -172,18 +193,11 @@ fn count_words(
     let mut count: usize = 0;
     let mut row: usize = 0;
     while row < nrows {
-        let from = hybit_core::wide(row_word_ptr[row]);
-        let to = hybit_core::wide(row_word_ptr[row + 1]);
-        let other_from = hybit_core::wide(other_row_word_ptr[row]);
-        let other_to = hybit_core::wide(other_row_word_ptr[row + 1]);
-        count += count_row(
-            operation,
-            ncols,
-            &word_indices[from..to],
-            &masks[from..to],
-            &other_word_indices[other_from..other_to],
-            &other_masks[other_from..other_to],
-        );
+        let left = words_of(row_word_ptr, word_indices, row);
+        let left_masks = masks_of(row_word_ptr, masks, row);
+        let right = words_of(other_row_word_ptr, other_word_indices, row);
+        let right_masks = masks_of(other_row_word_ptr, other_masks, row);
+        count += count_row(operation, ncols, left, left_masks, right, right_masks);
         row += 1;
     }
     count
@@ -213,17 +227,17 @@ fn merge_rows(
     let mut row: usize = 0;
     while row < nrows {
         out_ptr[row] = hybit_core::narrow(to);
-        let start = hybit_core::wide(row_word_ptr[row]);
-        let end = hybit_core::wide(row_word_ptr[row + 1]);
-        let other_start = hybit_core::wide(other_row_word_ptr[row]);
-        let other_end = hybit_core::wide(other_row_word_ptr[row + 1]);
+        let left = words_of(row_word_ptr, word_indices, row);
+        let left_masks = masks_of(row_word_ptr, masks, row);
+        let right = words_of(other_row_word_ptr, other_word_indices, row);
+        let right_masks = masks_of(other_row_word_ptr, other_masks, row);
         to = merge_row(
             operation,
             ncols,
-            &word_indices[start..end],
-            &masks[start..end],
-            &other_word_indices[other_start..other_end],
-            &other_masks[other_start..other_end],
+            left,
+            left_masks,
+            right,
+            right_masks,
             to,
             out_words,
             out_masks,
@@ -231,90 +245,6 @@ fn merge_rows(
         row += 1;
     }
     to
-}
-
-// Whether `words` words of so many rows fit the domain and the lists: 1, 13.
-fn examine_room(
-    nrows: usize,
-    words: usize,
-    ptr_room: usize,
-    word_room: usize,
-    mask_room: usize,
-) -> Verdict
-    ensures { λ r. ⌜ told r ≡ roomAnswer nrows words (asRoom «ptr_room» «word_room» «mask_room») ⌝ }
-{
-    if !hybit_core::entries_fit(words) {
-        return Verdict::Refused(HybitError::SizeOverflow);
-    }
-    if ptr_room <= nrows {
-        return Verdict::Refused(HybitError::ShortList);
-    }
-    if word_room < words {
-        return Verdict::Refused(HybitError::ShortList);
-    }
-    if mask_room < words {
-        return Verdict::Refused(HybitError::ShortList);
-    }
-    Verdict::Accepted
-}
-
-// Both records, and that they have one frame: 1; 11, 11; 8.
-fn examine_pair(
-    nrows: usize,
-    ncols: usize,
-    row_word_ptr: &[u32],
-    word_indices: &[u32],
-    masks: &[u64],
-    structural_nnz: usize,
-    other_nrows: usize,
-    other_ncols: usize,
-    other_row_word_ptr: &[u32],
-    other_word_indices: &[u32],
-    other_masks: &[u64],
-    other_structural_nnz: usize,
-) -> Verdict
-    ensures { λ r. ⌜ told r ≡ pairAnswer (asWords nrows ncols (now («row_word_ptr» .entry)) (now («word_indices» .entry)) (now (masks .entry)) «structural_nnz») (asWords «other_nrows» «other_ncols» (now («other_row_word_ptr» .entry)) (now («other_word_indices» .entry)) (now («other_masks» .entry)) «other_structural_nnz») ⌝ }
-{
-    if !hybit_core::sizes_fit(nrows, ncols, word_indices.len(), masks.len()) {
-        return Verdict::Refused(HybitError::SizeOverflow);
-    }
-    if !hybit_core::sizes_fit(
-        other_nrows,
-        other_ncols,
-        other_word_indices.len(),
-        other_masks.len(),
-    ) {
-        return Verdict::Refused(HybitError::SizeOverflow);
-    }
-    let v = topology::check(
-        nrows,
-        ncols,
-        row_word_ptr,
-        word_indices,
-        masks,
-        structural_nnz,
-    );
-    if let Verdict::Refused(e) = v {
-        return Verdict::Refused(e);
-    }
-    let w = topology::check(
-        other_nrows,
-        other_ncols,
-        other_row_word_ptr,
-        other_word_indices,
-        other_masks,
-        other_structural_nnz,
-    );
-    if let Verdict::Refused(e) = w {
-        return Verdict::Refused(e);
-    }
-    if nrows != other_nrows {
-        return Verdict::Refused(HybitError::FramesDiffer);
-    }
-    if ncols != other_ncols {
-        return Verdict::Refused(HybitError::FramesDiffer);
-    }
-    Verdict::Accepted
 }
 
 // All checks. The words are counted only where the lists could be too short for the words of both records.
@@ -338,7 +268,7 @@ fn examine(
 ) -> Verdict
     ensures { λ r. ⌜ told r ≡ combineAnswer operation (asWords nrows ncols (now («row_word_ptr» .entry)) (now («word_indices» .entry)) (now (masks .entry)) «structural_nnz») (asWords «other_nrows» «other_ncols» (now («other_row_word_ptr» .entry)) (now («other_word_indices» .entry)) (now («other_masks» .entry)) «other_structural_nnz») (asRoom «ptr_room» «word_room» «mask_room») ⌝ }
 {
-    let v = examine_pair(
+    let v = topology_pair::examine_pair(
         nrows,
         ncols,
         row_word_ptr,
@@ -356,7 +286,7 @@ fn examine(
         return Verdict::Refused(e);
     }
     let most = word_indices.len() + other_word_indices.len();
-    let w = examine_room(nrows, most, ptr_room, word_room, mask_room);
+    let w = topology_pair::examine_room(nrows, most, ptr_room, word_room, mask_room);
     if let Verdict::Accepted = w {
         return Verdict::Accepted;
     }
@@ -371,7 +301,7 @@ fn examine(
         other_word_indices,
         other_masks,
     );
-    examine_room(nrows, words, ptr_room, word_room, mask_room)
+    topology_pair::examine_room(nrows, words, ptr_room, word_room, mask_room)
 }
 
 // The words of the combined memberships: the used parts are nrows + 1 pointers and as many words and masks as the answer says.

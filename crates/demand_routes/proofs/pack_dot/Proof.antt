@@ -55,37 +55,37 @@ sparse-dot-row-requires : tie.Need-sparse-dot-row-requires
 sparse-dot-row-requires c κs = search needs
 
 same-length : tie.Need-same-length
-same-length c = search needs
+same-length c = c .before .before .before .before .before .before .before .before .before .before .before .before .before .from-csr32 .kept .1 .1 .1 .1 .1 .0
 
 same-length-2 : tie.Need-same-length-2
-same-length-2 c = search needs
+same-length-2 c = c .before .before .before .before .before .before .before .before .before .before .before .before .before .from-csr32 .kept .1 .1 .1 .1 .1 .1 .0
 
 same-length-3 : tie.Need-same-length-3
-same-length-3 c = search needs
+same-length-3 c = c .before .before .before .before .before .before .before .before .before .before .before .before .before .from-csr32 .kept .1 .1 .1 .1 .1 .1 .1 .0
 
 same-length-4 : tie.Need-same-length-4
-same-length-4 c = search needs
+same-length-4 c = c .before .before .before .before .before .before .before .before .before .before .before .before .before .from-csr32 .kept .1 .1 .1 .1 .1 .1 .1 .1 .0
 
 same-length-5 : tie.Need-same-length-5
-same-length-5 c = search needs
+same-length-5 c = c .before .before .before .before .before .before .before .before .before .before .before .before .before .from-csr32 .kept .1 .1 .1 .1 .1 .1 .1 .1 .1 .0
 
 returns : tie.Need-returns
 returns c = let k = c .before .before .before .before .before .before .before .before .before .before .before .before .before .from-csr32 in (pack-refused _ _ _ _ _ _ _ (k .ensures .0) _ (c .before .t .given .1) _ _ _, record { pointers = k .ensures .1 .0; numbers = k .ensures .1 .1 .0; bits = k .ensures .1 .1 .1 .0; starts = k .ensures .1 .1 .1 .1 .0; values = k .ensures .1 .1 .1 .1 .1 })
 
 same-length-6 : tie.Need-same-length-6
-same-length-6 c = search needs
+same-length-6 c = c .before .before .before .before .before .before .before .before .before .before .before .before .before .before .before .before .before .before .before .from-csr32 .kept .1 .1 .1 .1 .1 .0
 
 same-length-7 : tie.Need-same-length-7
-same-length-7 c = search needs
+same-length-7 c = c .before .before .before .before .before .before .before .before .before .before .before .before .before .before .before .before .before .before .before .from-csr32 .kept .1 .1 .1 .1 .1 .1 .0
 
 same-length-8 : tie.Need-same-length-8
-same-length-8 c = search needs
+same-length-8 c = c .before .before .before .before .before .before .before .before .before .before .before .before .before .before .before .before .before .before .before .from-csr32 .kept .1 .1 .1 .1 .1 .1 .1 .0
 
 same-length-9 : tie.Need-same-length-9
-same-length-9 c = search needs
+same-length-9 c = c .before .before .before .before .before .before .before .before .before .before .before .before .before .before .before .before .before .before .before .from-csr32 .kept .1 .1 .1 .1 .1 .1 .1 .1 .0
 
 same-length-10 : tie.Need-same-length-10
-same-length-10 c = search needs
+same-length-10 c = c .before .before .before .before .before .before .before .before .before .before .before .before .before .before .before .before .before .before .before .from-csr32 .kept .1 .1 .1 .1 .1 .1 .1 .1 .1 .0
 
 returns-2 : tie.Need-returns-2
 returns-2 c = let k = c .before .before .before .before .before .before .before .before .before .before .before .before .before .before .before .before .before .before .before .from-csr32 in (dot-lent _ _ _ _ _ _ _ (k .ensures .0) _ _ (c .before .before .before .before .before .before .before .t2 .given .1) _ _ _ _ _ (k .ensures .1 .0) (k .ensures .1 .1 .0) (k .ensures .1 .1 .1 .0) (k .ensures .1 .1 .1 .1 .0) (k .ensures .1 .1 .1 .1 .1) _ _ _ _ (c .sparse-dot-row .ensures), record { pointers = k .ensures .1 .0; numbers = k .ensures .1 .1 .0; bits = k .ensures .1 .1 .1 .0; starts = k .ensures .1 .1 .1 .1 .0; values = k .ensures .1 .1 .1 .1 .1 })

@@ -23,19 +23,19 @@ refusal-requires : tie.Need-refusal-requires
 refusal-requires c κs = search needs
 
 same-length : tie.Need-same-length
-same-length c = search needs
+same-length c = c .before .before .before .before .before .before .before .before .before .before .before .clear-all .kept .0 ∙ c .before .before .before .before .before .before .before .before .before .before .before .before .before .before .before .before .before .before .before .before .before .before .before .before .before .from-csr32 .kept .1 .1 .1 .1 .1 .0
 
 same-length-2 : tie.Need-same-length-2
-same-length-2 c = search needs
+same-length-2 c = c .before .before .before .before .before .before .before .before .before .before .before .clear-all .kept .1 .0 ∙ c .before .before .before .before .before .before .before .before .before .before .before .before .before .before .before .before .before .before .before .before .before .before .before .before .before .from-csr32 .kept .1 .1 .1 .1 .1 .1 .0
 
 same-length-3 : tie.Need-same-length-3
-same-length-3 c = search needs
+same-length-3 c = c .before .before .before .before .before .before .before .before .before .before .before .clear-all .kept .1 .1 .0 ∙ c .before .before .before .before .before .before .before .before .before .before .before .before .before .before .before .before .before .before .before .before .before .before .before .before .before .from-csr32 .kept .1 .1 .1 .1 .1 .1 .1 .0
 
 same-length-4 : tie.Need-same-length-4
-same-length-4 c = search needs
+same-length-4 c = c .before .before .before .before .before .before .before .before .before .before .before .clear-all .kept .1 .1 .1 .0
 
 same-length-5 : tie.Need-same-length-5
-same-length-5 c = search needs
+same-length-5 c = c .before .before .before .before .before .before .before .before .before .before .before .clear-all .kept .1 .1 .1 .1 .0
 
 returns : tie.Need-returns
 returns c = pack-refused _ _ _ _ _ _ (no-words _ _ _ _ _ _ _ (c .before .before .before .before .before .before .before .before .before .before .before .before .before .before .before .before .before .before .before .before .before .before .before .before .before .from-csr32 .ensures .0) _ (c .before .before .before .before .before .before .before .before .before .before .before .before .before .before .before .before .before .enum-told .given .1)) _ _ _ _ _ _ _ _ _ _ _ (c .refusal .ensures) (c .before .before .before .before .before .before .before .before .before .before .before .clear-all .ensures .0) (c .before .before .before .before .before .before .before .before .before .before .before .clear-all .ensures .1 .0) (c .before .before .before .before .before .before .before .before .before .before .before .clear-all .ensures .1 .1 .0) (c .before .before .before .before .before .before .before .before .before .before .before .clear-all .ensures .1 .1 .1 .0) (c .before .before .before .before .before .before .before .before .before .before .before .clear-all .ensures .1 .1 .1 .1) (search needs) (search needs) (search needs) (search needs) (search needs)
@@ -80,28 +80,28 @@ same-length-8 : tie.Need-same-length-8
 same-length-8 c = c .before .before .before .before .before .before .before .before .before .before .before .clear-all2 .kept .1 .1 .0 ∙ c .before .before .before .before .before .before .before .before .before .before .before .before .before .before .before .before .before .before .before .before .before .before .before .before .before .before .before .before .before .before .before .before .before .before .before .before .before .from-csr32 .kept .1 .1 .1 .1 .1 .1 .1 .0
 
 same-length-9 : tie.Need-same-length-9
-same-length-9 c = search needs
+same-length-9 c = c .before .before .before .before .before .before .before .before .before .before .before .clear-all2 .kept .1 .1 .1 .0 ∙ c .before .before .before .before .before .before .before .before .before .before .before .before .before .before .before .before .before .before .before .before .before .before .fill-values .kept .1 .1 .1 .1 .1 .1 .1 .1 .1 .0
 
 same-length-10 : tie.Need-same-length-10
-same-length-10 c = search needs
+same-length-10 c = c .before .before .before .before .before .before .before .before .before .before .before .clear-all2 .kept .1 .1 .1 .1 .0 ∙ c .before .before .before .before .before .before .before .before .before .before .before .before .before .before .before .before .before .before .before .before .before .before .fill-values .kept .1 .1 .1 .1 .1 .1 .1 .1 .1 .1 .0
 
 returns-2 : tie.Need-returns-2
 returns-2 c = pack-refused _ _ _ _ _ _ (no-values-written _ _ _ _ _ _ _ (c .before .before .before .before .before .before .before .before .before .before .before .before .before .before .before .before .before .before .before .before .before .before .before .before .before .before .before .before .before .before .before .before .before .before .before .before .before .from-csr32 .ensures .0) _ _ (c .before .before .before .before .before .before .before .before .before .before .before .before .before .before .before .before .before .before .before .before .before .before .before .before .before .before .before .before .before .t .given .1) _ _ _ (c .before .before .before .before .before .before .before .before .before .before .before .before .before .before .before .before .before .before .before .before .before .before .fill-values .ensures) (c .before .before .before .before .before .before .before .before .before .before .before .before .before .before .before .before .before .if1 .taken)) _ _ _ _ _ _ _ _ _ _ _ (c .refusal2 .ensures) (c .before .before .before .before .before .before .before .before .before .before .before .clear-all2 .ensures .0) (c .before .before .before .before .before .before .before .before .before .before .before .clear-all2 .ensures .1 .0) (c .before .before .before .before .before .before .before .before .before .before .before .clear-all2 .ensures .1 .1 .0) (c .before .before .before .before .before .before .before .before .before .before .before .clear-all2 .ensures .1 .1 .1 .0) (c .before .before .before .before .before .before .before .before .before .before .before .clear-all2 .ensures .1 .1 .1 .1) (c .before .before .before .before .before .before .before .before .before .before .before .before .before .before .before .before .before .before .before .before .before .before .before .before .before .before .before .before .before .before .before .before .before .before .before .before .before .from-csr32 .kept .1 .1 .1 .1 .1 .0) (c .before .before .before .before .before .before .before .before .before .before .before .before .before .before .before .before .before .before .before .before .before .before .before .before .before .before .before .before .before .before .before .before .before .before .before .before .before .from-csr32 .kept .1 .1 .1 .1 .1 .1 .0) (c .before .before .before .before .before .before .before .before .before .before .before .before .before .before .before .before .before .before .before .before .before .before .before .before .before .before .before .before .before .before .before .before .before .before .before .before .before .from-csr32 .kept .1 .1 .1 .1 .1 .1 .1 .0) (search needs) (search needs)
 
 same-length-11 : tie.Need-same-length-11
-same-length-11 c = search needs
+same-length-11 c = c .before .before .before .before .before .before .before .before .before .before .before .before .before .before .before .before .before .before .before .before .from-csr32 .kept .1 .1 .1 .1 .1 .0
 
 same-length-12 : tie.Need-same-length-12
-same-length-12 c = search needs
+same-length-12 c = c .before .before .before .before .before .before .before .before .before .before .before .before .before .before .before .before .before .before .before .before .from-csr32 .kept .1 .1 .1 .1 .1 .1 .0
 
 same-length-13 : tie.Need-same-length-13
-same-length-13 c = search needs
+same-length-13 c = c .before .before .before .before .before .before .before .before .before .before .before .before .before .before .before .before .before .before .before .before .from-csr32 .kept .1 .1 .1 .1 .1 .1 .1 .0
 
 same-length-14 : tie.Need-same-length-14
-same-length-14 c = search needs
+same-length-14 c = c .before .before .before .before .before .fill-values .kept .1 .1 .1 .1 .1 .1 .1 .1 .1 .0
 
 same-length-15 : tie.Need-same-length-15
-same-length-15 c = search needs
+same-length-15 c = c .before .before .before .before .before .fill-values .kept .1 .1 .1 .1 .1 .1 .1 .1 .1 .1 .0
 
 returns-3 : tie.Need-returns-3
 returns-3 c = let k = c .before .before .before .before .before .before .before .before .before .before .before .before .before .before .before .before .before .before .before .before .from-csr32 in pack-built _ _ _ _ _ _ _ (k .ensures .0) _ _ (c .before .before .before .before .before .before .before .before .before .before .before .before .t .given .1) _ _ _ (c .before .before .before .before .before .fill-values .ensures) (c .if1 .left) _ _ _ (k .ensures .1 .0) (k .ensures .1 .1 .0) (k .ensures .1 .1 .1)

@@ -41,12 +41,12 @@ slice-write-out-row-ptr c =
 
 mul-wide : tie.Need-mul-wide Inv-loop μ-loop
 mul-wide c =
-    let p = row-places _ _ _ (c .before .before .before .before .before .before .before .before .before .before .pre) (c .before .before .loop .row) (omega arith) _ _ refl refl in
+    let p = row-places _ _ _ (c .before .before .before .before .before .before .before .before .before .before .pre) (c .before .before .loop .row) (c .before .loop-test .taken) _ _ refl refl in
     omega arith
 
 shared-slice-read-wide : tie.Need-shared-slice-read-wide Inv-loop μ-loop
 shared-slice-read-wide c =
-    let p = row-places _ _ _ (c .before .before .before .before .before .before .before .before .before .before .before .pre) (c .before .before .before .loop .row) (omega arith) _ _ refl refl in
+    let p = row-places _ _ _ (c .before .before .before .before .before .before .before .before .before .before .before .pre) (c .before .before .before .loop .row) (c .before .before .loop-test .taken) _ _ refl refl in
     omega arith
 
 wide-requires : tie.Need-wide-requires Inv-loop μ-loop
@@ -54,12 +54,12 @@ wide-requires c κs = search needs
 
 mul-wide-2 : tie.Need-mul-wide-2 Inv-loop μ-loop
 mul-wide-2 c =
-    let p = row-places _ _ _ (c .before .before .before .before .before .before .before .before .before .before .before .before .pre) (c .before .before .before .before .loop .row) (omega arith) _ _ refl refl in
+    let p = row-places _ _ _ (c .before .before .before .before .before .before .before .before .before .before .before .before .pre) (c .before .before .before .before .loop .row) (c .before .before .before .loop-test .taken) _ _ refl refl in
     omega arith
 
 shared-slice-read-wide-2 : tie.Need-shared-slice-read-wide-2 Inv-loop μ-loop
 shared-slice-read-wide-2 c =
-    let p = row-places _ _ _ (c .before .before .before .before .before .before .before .before .before .before .before .before .before .pre) (c .before .before .before .before .before .loop .row) (omega arith) _ _ refl refl in
+    let p = row-places _ _ _ (c .before .before .before .before .before .before .before .before .before .before .before .before .before .pre) (c .before .before .before .before .before .loop .row) (c .before .before .before .before .loop-test .taken) _ _ refl refl in
     omega arith
 
 wide-requires-2 : tie.Need-wide-requires-2 Inv-loop μ-loop
@@ -67,42 +67,42 @@ wide-requires-2 c κs = search needs
 
 mul-keep-row : tie.Need-mul-keep-row Inv-loop μ-loop
 mul-keep-row c =
-    let p = row-places _ _ _ (c .before .before .before .before .before .before .before .before .before .before .before .before .before .before .pre) (c .before .before .before .before .before .before .loop .row) (omega arith) _ _ (c .before .before .wide .ensures) (c .wide2 .ensures) in
+    let p = row-places _ _ _ (c .before .before .before .before .before .before .before .before .before .before .before .before .before .before .pre) (c .before .before .before .before .before .before .loop .row) (c .before .before .before .before .before .loop-test .taken) _ _ (c .before .before .wide .ensures) (c .wide2 .ensures) in
     omega arith
 
 sub-keep-row : tie.Need-sub-keep-row Inv-loop μ-loop
 sub-keep-row c =
-    let p = row-places _ _ _ (c .before .before .before .before .before .before .before .before .before .before .before .before .before .before .pre) (c .before .before .before .before .before .before .loop .row) (omega arith) _ _ (c .before .before .wide .ensures) (c .wide2 .ensures) in
+    let p = row-places _ _ _ (c .before .before .before .before .before .before .before .before .before .before .before .before .before .before .pre) (c .before .before .before .before .before .before .loop .row) (c .before .before .before .before .before .loop-test .taken) _ _ (c .before .before .wide .ensures) (c .wide2 .ensures) in
     omega arith
 
 part-keep-row-start : tie.Need-part-keep-row-start Inv-loop μ-loop
 part-keep-row-start c =
-    let p = row-places _ _ _ (c .before .before .before .before .before .before .before .before .before .before .before .before .before .before .pre) (c .before .before .before .before .before .before .loop .row) (omega arith) _ _ (c .before .before .wide .ensures) (c .wide2 .ensures) in
+    let p = row-places _ _ _ (c .before .before .before .before .before .before .before .before .before .before .before .before .before .before .pre) (c .before .before .before .before .before .before .loop .row) (c .before .before .before .before .before .loop-test .taken) _ _ (c .before .before .wide .ensures) (c .wide2 .ensures) in
     omega arith
 
 part-keep-row-end : tie.Need-part-keep-row-end Inv-loop μ-loop
 part-keep-row-end c =
-    let p = row-places _ _ _ (c .before .before .before .before .before .before .before .before .before .before .before .before .before .before .pre) (c .before .before .before .before .before .before .loop .row) (omega arith) _ _ (c .before .before .wide .ensures) (c .wide2 .ensures) in
+    let p = row-places _ _ _ (c .before .before .before .before .before .before .before .before .before .before .before .before .before .before .pre) (c .before .before .before .before .before .before .loop .row) (c .before .before .before .before .before .loop-test .taken) _ _ (c .before .before .wide .ensures) (c .wide2 .ensures) in
     omega arith
 
 mul-keep-row-2 : tie.Need-mul-keep-row-2 Inv-loop μ-loop
 mul-keep-row-2 c =
-    let p = row-places _ _ _ (c .before .before .before .before .before .before .before .before .before .before .before .before .before .before .before .pre) (c .before .before .before .before .before .before .before .loop .row) (omega arith) _ _ (c .before .before .before .wide .ensures) (c .before .wide2 .ensures) in
+    let p = row-places _ _ _ (c .before .before .before .before .before .before .before .before .before .before .before .before .before .before .before .pre) (c .before .before .before .before .before .before .before .loop .row) (c .before .before .before .before .before .before .loop-test .taken) _ _ (c .before .before .before .wide .ensures) (c .before .wide2 .ensures) in
     omega arith
 
 sub-keep-row-2 : tie.Need-sub-keep-row-2 Inv-loop μ-loop
 sub-keep-row-2 c =
-    let p = row-places _ _ _ (c .before .before .before .before .before .before .before .before .before .before .before .before .before .before .before .pre) (c .before .before .before .before .before .before .before .loop .row) (omega arith) _ _ (c .before .before .before .wide .ensures) (c .before .wide2 .ensures) in
+    let p = row-places _ _ _ (c .before .before .before .before .before .before .before .before .before .before .before .before .before .before .before .pre) (c .before .before .before .before .before .before .before .loop .row) (c .before .before .before .before .before .before .loop-test .taken) _ _ (c .before .before .before .wide .ensures) (c .before .wide2 .ensures) in
     omega arith
 
 part-keep-row-start-2 : tie.Need-part-keep-row-start-2 Inv-loop μ-loop
 part-keep-row-start-2 c =
-    let p = row-places _ _ _ (c .before .before .before .before .before .before .before .before .before .before .before .before .before .before .before .pre) (c .before .before .before .before .before .before .before .loop .row) (omega arith) _ _ (c .before .before .before .wide .ensures) (c .before .wide2 .ensures) in
+    let p = row-places _ _ _ (c .before .before .before .before .before .before .before .before .before .before .before .before .before .before .before .pre) (c .before .before .before .before .before .before .before .loop .row) (c .before .before .before .before .before .before .loop-test .taken) _ _ (c .before .before .before .wide .ensures) (c .before .wide2 .ensures) in
     omega arith
 
 part-keep-row-end-2 : tie.Need-part-keep-row-end-2 Inv-loop μ-loop
 part-keep-row-end-2 c =
-    let p = row-places _ _ _ (c .before .before .before .before .before .before .before .before .before .before .before .before .before .before .before .pre) (c .before .before .before .before .before .before .before .loop .row) (omega arith) _ _ (c .before .before .before .wide .ensures) (c .before .wide2 .ensures) in
+    let p = row-places _ _ _ (c .before .before .before .before .before .before .before .before .before .before .before .before .before .before .before .pre) (c .before .before .before .before .before .before .before .loop .row) (c .before .before .before .before .before .before .loop-test .taken) _ _ (c .before .before .before .wide .ensures) (c .before .wide2 .ensures) in
     omega arith
 
 keep-row-requires : tie.Need-keep-row-requires Inv-loop μ-loop

@@ -21,104 +21,27 @@ loop-holds : tie.Need-loop-holds Inv-loop μ-loop
 unfolding joined
 loop-holds c = (search needs, refl)
 
-mul-wide : tie.Need-mul-wide Inv-loop μ-loop
-mul-wide c = let i = rows-in _ _ _ _ _ _ _ _ (c .before .before .before .before .before .before .before .before .pre) (c .before .loop .row) (omega arith) in search needs
+words-of-requires : tie.Need-words-of-requires Inv-loop μ-loop
+words-of-requires c κs = rows-in _ _ _ _ _ _ _ _ (c .before .before .before .before .before .before .before .before .pre) (c .before .loop .row) (search needs) .one
 
-shared-slice-read-wide : tie.Need-shared-slice-read-wide Inv-loop μ-loop
-shared-slice-read-wide c = let i = rows-in _ _ _ _ _ _ _ _ (c .before .before .before .before .before .before .before .before .before .pre) (c .before .before .loop .row) (omega arith) in search needs
+masks-of-requires : tie.Need-masks-of-requires Inv-loop μ-loop
+masks-of-requires c κs = rows-in _ _ _ _ _ _ _ _ (c .before .before .before .before .before .before .before .before .before .pre) (c .before .before .loop .row) (search needs) .one-masks
 
-wide-requires : tie.Need-wide-requires Inv-loop μ-loop
-wide-requires c κs = search needs
+words-of-requires-2 : tie.Need-words-of-requires-2 Inv-loop μ-loop
+words-of-requires-2 c κs = rows-in _ _ _ _ _ _ _ _ (c .before .before .before .before .before .before .before .before .before .before .pre) (c .before .before .before .loop .row) (search needs) .two
 
-add-wide : tie.Need-add-wide Inv-loop μ-loop
-add-wide c = search needs
-
-mul-wide-2 : tie.Need-mul-wide-2 Inv-loop μ-loop
-mul-wide-2 c = let i = rows-in _ _ _ _ _ _ _ _ (c .before .before .before .before .before .before .before .before .before .before .pre) (c .before .before .before .loop .row) (omega arith) in search needs
-
-shared-slice-read-wide-2 : tie.Need-shared-slice-read-wide-2 Inv-loop μ-loop
-shared-slice-read-wide-2 c = let i = rows-in _ _ _ _ _ _ _ _ (c .before .before .before .before .before .before .before .before .before .before .before .pre) (c .before .before .before .before .loop .row) (omega arith) in search needs
-
-wide-requires-2 : tie.Need-wide-requires-2 Inv-loop μ-loop
-wide-requires-2 c κs = search needs
-
-mul-wide-3 : tie.Need-mul-wide-3 Inv-loop μ-loop
-mul-wide-3 c = let i = rows-in _ _ _ _ _ _ _ _ (c .before .before .before .before .before .before .before .before .before .before .before .before .pre) (c .before .before .before .before .before .loop .row) (omega arith) in search needs
-
-shared-slice-read-wide-3 : tie.Need-shared-slice-read-wide-3 Inv-loop μ-loop
-shared-slice-read-wide-3 c = let i = rows-in _ _ _ _ _ _ _ _ (c .before .before .before .before .before .before .before .before .before .before .before .before .before .pre) (c .before .before .before .before .before .before .loop .row) (omega arith) in search needs
-
-wide-requires-3 : tie.Need-wide-requires-3 Inv-loop μ-loop
-wide-requires-3 c κs = search needs
-
-add-wide-2 : tie.Need-add-wide-2 Inv-loop μ-loop
-add-wide-2 c = search needs
-
-mul-wide-4 : tie.Need-mul-wide-4 Inv-loop μ-loop
-mul-wide-4 c = let i = rows-in _ _ _ _ _ _ _ _ (c .before .before .before .before .before .before .before .before .before .before .before .before .before .before .pre) (c .before .before .before .before .before .before .before .loop .row) (omega arith) in search needs
-
-shared-slice-read-wide-4 : tie.Need-shared-slice-read-wide-4 Inv-loop μ-loop
-shared-slice-read-wide-4 c = let i = rows-in _ _ _ _ _ _ _ _ (c .before .before .before .before .before .before .before .before .before .before .before .before .before .before .before .pre) (c .before .before .before .before .before .before .before .before .loop .row) (omega arith) in search needs
-
-wide-requires-4 : tie.Need-wide-requires-4 Inv-loop μ-loop
-wide-requires-4 c κs = search needs
-
-mul-count-row : tie.Need-mul-count-row Inv-loop μ-loop
-mul-count-row c = let i = rows-in _ _ _ _ _ _ _ _ (c .before .before .before .before .before .before .before .before .before .before .before .before .before .before .before .before .pre) (c .before .before .before .before .before .before .before .before .before .loop .row) (omega arith) in search needs
-
-sub-count-row : tie.Need-sub-count-row Inv-loop μ-loop
-sub-count-row c = let i = rows-in _ _ _ _ _ _ _ _ (c .before .before .before .before .before .before .before .before .before .before .before .before .before .before .before .before .pre) (c .before .before .before .before .before .before .before .before .before .loop .row) (omega arith) in search needs
-
-part-count-row-start : tie.Need-part-count-row-start Inv-loop μ-loop
-part-count-row-start c = let i = rows-in _ _ _ _ _ _ _ _ (c .before .before .before .before .before .before .before .before .before .before .before .before .before .before .before .before .pre) (c .before .before .before .before .before .before .before .before .before .loop .row) (omega arith) in search needs
-
-part-count-row-end : tie.Need-part-count-row-end Inv-loop μ-loop
-part-count-row-end c = let i = rows-in _ _ _ _ _ _ _ _ (c .before .before .before .before .before .before .before .before .before .before .before .before .before .before .before .before .pre) (c .before .before .before .before .before .before .before .before .before .loop .row) (omega arith) in search needs
-
-mul-count-row-2 : tie.Need-mul-count-row-2 Inv-loop μ-loop
-mul-count-row-2 c = let i = rows-in _ _ _ _ _ _ _ _ (c .before .before .before .before .before .before .before .before .before .before .before .before .before .before .before .before .before .pre) (c .before .before .before .before .before .before .before .before .before .before .loop .row) (omega arith) in search needs
-
-sub-count-row-2 : tie.Need-sub-count-row-2 Inv-loop μ-loop
-sub-count-row-2 c = let i = rows-in _ _ _ _ _ _ _ _ (c .before .before .before .before .before .before .before .before .before .before .before .before .before .before .before .before .before .pre) (c .before .before .before .before .before .before .before .before .before .before .loop .row) (omega arith) in search needs
-
-part-count-row-start-2 : tie.Need-part-count-row-start-2 Inv-loop μ-loop
-part-count-row-start-2 c = let i = rows-in _ _ _ _ _ _ _ _ (c .before .before .before .before .before .before .before .before .before .before .before .before .before .before .before .before .before .pre) (c .before .before .before .before .before .before .before .before .before .before .loop .row) (omega arith) in search needs
-
-part-count-row-end-2 : tie.Need-part-count-row-end-2 Inv-loop μ-loop
-part-count-row-end-2 c = let i = rows-in _ _ _ _ _ _ _ _ (c .before .before .before .before .before .before .before .before .before .before .before .before .before .before .before .before .before .pre) (c .before .before .before .before .before .before .before .before .before .before .loop .row) (omega arith) in search needs
-
-mul-count-row-3 : tie.Need-mul-count-row-3 Inv-loop μ-loop
-mul-count-row-3 c = let i = rows-in _ _ _ _ _ _ _ _ (c .before .before .before .before .before .before .before .before .before .before .before .before .before .before .before .before .before .before .pre) (c .before .before .before .before .before .before .before .before .before .before .before .loop .row) (omega arith) in search needs
-
-sub-count-row-3 : tie.Need-sub-count-row-3 Inv-loop μ-loop
-sub-count-row-3 c = let i = rows-in _ _ _ _ _ _ _ _ (c .before .before .before .before .before .before .before .before .before .before .before .before .before .before .before .before .before .before .pre) (c .before .before .before .before .before .before .before .before .before .before .before .loop .row) (omega arith) in search needs
-
-part-count-row-start-3 : tie.Need-part-count-row-start-3 Inv-loop μ-loop
-part-count-row-start-3 c = let i = rows-in _ _ _ _ _ _ _ _ (c .before .before .before .before .before .before .before .before .before .before .before .before .before .before .before .before .before .before .pre) (c .before .before .before .before .before .before .before .before .before .before .before .loop .row) (omega arith) in search needs
-
-part-count-row-end-3 : tie.Need-part-count-row-end-3 Inv-loop μ-loop
-part-count-row-end-3 c = let i = rows-in _ _ _ _ _ _ _ _ (c .before .before .before .before .before .before .before .before .before .before .before .before .before .before .before .before .before .before .pre) (c .before .before .before .before .before .before .before .before .before .before .before .loop .row) (omega arith) in search needs
-
-mul-count-row-4 : tie.Need-mul-count-row-4 Inv-loop μ-loop
-mul-count-row-4 c = let i = rows-in _ _ _ _ _ _ _ _ (c .before .before .before .before .before .before .before .before .before .before .before .before .before .before .before .before .before .before .before .pre) (c .before .before .before .before .before .before .before .before .before .before .before .before .loop .row) (omega arith) in search needs
-
-sub-count-row-4 : tie.Need-sub-count-row-4 Inv-loop μ-loop
-sub-count-row-4 c = let i = rows-in _ _ _ _ _ _ _ _ (c .before .before .before .before .before .before .before .before .before .before .before .before .before .before .before .before .before .before .before .pre) (c .before .before .before .before .before .before .before .before .before .before .before .before .loop .row) (omega arith) in search needs
-
-part-count-row-start-4 : tie.Need-part-count-row-start-4 Inv-loop μ-loop
-part-count-row-start-4 c = let i = rows-in _ _ _ _ _ _ _ _ (c .before .before .before .before .before .before .before .before .before .before .before .before .before .before .before .before .before .before .before .pre) (c .before .before .before .before .before .before .before .before .before .before .before .before .loop .row) (omega arith) in search needs
-
-part-count-row-end-4 : tie.Need-part-count-row-end-4 Inv-loop μ-loop
-part-count-row-end-4 c = let i = rows-in _ _ _ _ _ _ _ _ (c .before .before .before .before .before .before .before .before .before .before .before .before .before .before .before .before .before .before .before .pre) (c .before .before .before .before .before .before .before .before .before .before .before .before .loop .row) (omega arith) in search needs
+masks-of-requires-2 : tie.Need-masks-of-requires-2 Inv-loop μ-loop
+masks-of-requires-2 c κs = rows-in _ _ _ _ _ _ _ _ (c .before .before .before .before .before .before .before .before .before .before .before .pre) (c .before .before .before .before .loop .row) (search needs) .two-masks
 
 count-row-requires : tie.Need-count-row-requires Inv-loop μ-loop
-count-row-requires c κs = lent-rows _ _ _ _ _ _ _ _ (c .before .before .before .before .before .before .before .before .before .before .before .before .before .before .before .before .before .before .before .before .pre) (c .before .before .before .before .before .before .before .before .before .before .before .before .before .loop .row) _ _ _ _ (c .before .before .before .before .before .before .before .before .before .before .wide .ensures) (c .before .before .before .before .before .before .before .before .wide2 .ensures) (c .before .before .before .before .before .before .wide3 .ensures) (c .before .before .before .before .wide4 .ensures) (omega arith)
+count-row-requires c κs = lent-rows _ _ _ _ _ _ _ _ (c .before .before .before .before .before .before .before .before .before .before .before .before .pre) (c .before .before .before .before .before .loop .row) _ _ _ _ (c .before .before .before .words-of .ensures) (c .before .before .masks-of .ensures) (c .before .words-of2 .ensures) (c .masks-of2 .ensures) (search needs)
 
 add-count : tie.Need-add-count Inv-loop μ-loop
 add-count c =
-    let e = counting-more _ _ _ _ _ _ _ _ (c .before .before .before .before .before .before .before .before .before .before .before .before .before .before .before .before .before .before .before .before .before .pre) (c .before .before .before .before .before .before .before .before .before .before .before .before .before .before .loop .row) _ _ _ _ (c .before .before .before .before .before .before .before .before .before .before .before .wide .ensures) (c .before .before .before .before .before .before .before .before .before .wide2 .ensures) (c .before .before .before .before .before .before .before .wide3 .ensures) (c .before .before .before .before .before .wide4 .ensures) (c .before .before .before .before .before .before .before .before .before .before .before .before .before .before .before .before .before .before .before .before .before .args .operation) _ _ (c .before .before .before .before .before .before .before .before .before .before .before .before .before .before .loop .inv .1) (c .count-row .ensures) in
-    let u = words-upto _ _ _ _ _ _ _ _ (c .before .before .before .before .before .before .before .before .before .before .before .before .before .before .before .before .before .before .before .before .before .pre) (c .before .before .before .before .before .before .before .before .before .before .before .before .before .before .before .before .before .before .before .before .before .args .operation) (small-is _ (λ k. c .before .before .before .before .before .before .before .before .before .before .before .before .before .before .before .before .before .before .shared-slice-known3 .given k .fits)) (small-is _ (λ k. c .before .before .before .before .before .before .before .before .before .before .before .before .before .before .before .shared-slice-known6 .given k .fits)) (c .before .before .before .before .before .before .before .before .before .before .before .before .before .before .loop .row + 1) (omega arith) in
-    omega (arith, c .before .before .before .before .before .before .before .before .before .before .before .before .before .before .before .before .before .before .before .before .shared-slice-known .given (c .before .before .before .before .before .before .before .before .before .before .before .before .before .before .loop .row + 1) .fits, c .before .before .before .before .before .before .before .before .before .before .before .before .before .before .before .before .before .shared-slice-known4 .given (c .before .before .before .before .before .before .before .before .before .before .before .before .before .before .loop .row + 1) .fits)
+    let l = c .before .before .before .before .before .before .loop in
+    let e = counting-more _ _ _ _ _ _ _ _ (c .before .before .before .before .before .before .before .before .before .before .before .before .before .pre) (l .row) _ _ _ _ (c .before .before .before .before .words-of .ensures) (c .before .before .before .masks-of .ensures) (c .before .before .words-of2 .ensures) (c .before .masks-of2 .ensures) (c .before .before .before .before .before .before .before .before .before .before .before .before .before .args .operation) _ _ (l .inv .1) (c .count-row .ensures) in
+    let u = words-upto _ _ _ _ _ _ _ _ (c .before .before .before .before .before .before .before .before .before .before .before .before .before .pre) (c .before .before .before .before .before .before .before .before .before .before .before .before .before .args .operation) (small-is _ (λ k. c .before .before .before .before .before .before .before .before .before .before .shared-slice-known3 .given k .fits)) (small-is _ (λ k. c .before .before .before .before .before .before .before .shared-slice-known6 .given k .fits)) (l .row + 1) (search needs) in
+    omega (arith, c .before .before .before .before .before .before .before .before .before .before .before .before .shared-slice-known .given (l .row + 1) .fits, c .before .before .before .before .before .before .before .before .before .shared-slice-known4 .given (l .row + 1) .fits)
 
 add-row : tie.Need-add-row Inv-loop μ-loop
 add-row c = search needs
@@ -127,7 +50,7 @@ loop-less : tie.Need-loop-less Inv-loop μ-loop
 loop-less c = search needs
 
 loop-again : tie.Need-loop-again Inv-loop μ-loop
-loop-again c = (omega arith, counting-more _ _ _ _ _ _ _ _ (c .before .before .before .before .before .before .before .before .before .before .before .before .before .before .before .before .before .before .before .before .before .pre) (c .before .before .before .before .before .before .before .before .before .before .before .before .before .before .loop .row) _ _ _ _ (c .before .before .before .before .before .before .before .before .before .before .before .wide .ensures) (c .before .before .before .before .before .before .before .before .before .wide2 .ensures) (c .before .before .before .before .before .before .before .wide3 .ensures) (c .before .before .before .before .before .wide4 .ensures) (c .before .before .before .before .before .before .before .before .before .before .before .before .before .before .before .before .before .before .before .before .before .args .operation) _ _ (c .before .before .before .before .before .before .before .before .before .before .before .before .before .before .loop .inv .1) (c .count-row .ensures))
+loop-again c = (search needs, counting-more _ _ _ _ _ _ _ _ (c .before .before .before .before .before .before .before .before .before .before .before .before .before .pre) (c .before .before .before .before .before .before .loop .row) _ _ _ _ (c .before .before .before .before .words-of .ensures) (c .before .before .before .masks-of .ensures) (c .before .before .words-of2 .ensures) (c .before .masks-of2 .ensures) (c .before .before .before .before .before .before .before .before .before .before .before .before .before .args .operation) _ _ (c .before .before .before .before .before .before .loop .inv .1) (c .count-row .ensures))
 
 returns : tie.Need-returns Inv-loop μ-loop
 returns c =
@@ -141,36 +64,10 @@ count-words-spec =
     Inv-loop
     μ-loop
     loop-holds
-    mul-wide
-    shared-slice-read-wide
-    wide-requires
-    add-wide
-    mul-wide-2
-    shared-slice-read-wide-2
-    wide-requires-2
-    mul-wide-3
-    shared-slice-read-wide-3
-    wide-requires-3
-    add-wide-2
-    mul-wide-4
-    shared-slice-read-wide-4
-    wide-requires-4
-    mul-count-row
-    sub-count-row
-    part-count-row-start
-    part-count-row-end
-    mul-count-row-2
-    sub-count-row-2
-    part-count-row-start-2
-    part-count-row-end-2
-    mul-count-row-3
-    sub-count-row-3
-    part-count-row-start-3
-    part-count-row-end-3
-    mul-count-row-4
-    sub-count-row-4
-    part-count-row-start-4
-    part-count-row-end-4
+    words-of-requires
+    masks-of-requires
+    words-of-requires-2
+    masks-of-requires-2
     count-row-requires
     add-count
     add-row

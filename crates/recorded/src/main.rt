@@ -2377,15 +2377,20 @@ fn clear_calls(call: u64, text: &[u8], at: &mut usize) {
     }
 }
 
-fn value_calls(call: u64, text: &[u8], at: &mut usize) {
-    match call {
-        37 | 38 | 53 => value(call, text, at),
-        39 | 40 | 41 => word_place(call, text, at),
-        47 | 57 | 63 | 68 | 75 | 76 => bytes(call, text, at),
-        48 => metadata_first_accumulate(text, at),
-        49 => abtm_validate(text, at),
-        52 => abtm_tile_kind(text, at),
-        _ => ratio(call, text, at),
+// The calls that are handed numbers alone, and in the crates below what clears a list.
+fn number_calls(first: u8, call: u64, text: &[u8], at: &mut usize) {
+    match first {
+        b'v' => value(call, text, at),
+        b'o' => word_place(call, text, at),
+        b'r' => ratio(call, text, at),
+        b's' => bytes(call, text, at),
+        b'a' => metadata_first_accumulate(text, at),
+        b'h' => abtm_validate(text, at),
+        b'k' => abtm_tile_kind(text, at),
+        b'c' => core_calls(call, text, at),
+        b'z' => clear_calls(call, text, at),
+        b'd' => word_call(call, text, at),
+        _ => struct_calls(call, text, at),
     }
 }
 
@@ -2402,55 +2407,37 @@ fn struct_calls(call: u64, text: &[u8], at: &mut usize) {
     }
 }
 
-// What a call is handed first.
-enum First {
-    Mask,
-    Indices,
-    PlotList,
-    Words,
-    Tiles,
-    Blocks,
-    List,
-    Cleared,
-    Numbers,
-    Word,
-    Core,
-    Fields,
-}
-
-fn handed(call: u64) -> First {
-    match call {
-        5 => First::Indices,
-        0..=12 | 240 => First::Mask,
-        13..=16 | 18 | 31 | 32 | 51 | 60 | 64 | 69 | 259 | 260 => First::PlotList,
-        17..=36 | 245..=248 => First::Words,
-        50 | 54 | 55 | 58 | 59 | 61 | 251..=253 => First::Tiles,
-        65 | 66 | 241..=244 => First::List,
-        70..=72 => First::Blocks,
-        37..=76 => First::Numbers,
-        200..=205 => First::Core,
-        210..=213 => First::Cleared,
-        220..=233 => First::Word,
-        _ => First::Fields,
+// A letter for what a call is handed first, by its number: m a mask, i indices, p a plot list, w words, t tiles, b blocks, l a list
+// that stands alone; the others are those of number_calls. A match on the numbers would test their ranges one by one in a function
+// that holds the text, which costs the proof more.
+fn first_of(call: u64) -> u8 {
+    let c = b"mmmmmimmmmmmmppppwpwwwwwwwwwwwwppwwwwvvooorrrrrsahtpkvttrsttptrspllrspbbbrrss";
+    let below = b"cccccc----zzzz------dddddddddddddd------mllllwwwwfftttfffffpp";
+    let i = call as usize;
+    if i < 77 {
+        return c[i];
     }
+    if i < 200 {
+        return 45;
+    }
+    if i < 261 {
+        return below[i - 200];
+    }
+    45
 }
 
 // One call, and what came of it.
 fn replay(call: u64, text: &[u8], at: &mut usize) {
-    let first = handed(call);
+    let first = first_of(call);
     match first {
-        First::Mask => mask_calls(call, text, at),
-        First::Indices => mask_from_indices(text, at),
-        First::PlotList => csr32_calls(call, text, at),
-        First::Words => words_calls(call, text, at),
-        First::Tiles => tile_calls(call, text, at),
-        First::Blocks => block_calls(call, text, at),
-        First::List => list_calls(call, text, at),
-        First::Cleared => clear_calls(call, text, at),
-        First::Numbers => value_calls(call, text, at),
-        First::Word => word_call(call, text, at),
-        First::Core => core_calls(call, text, at),
-        First::Fields => struct_calls(call, text, at),
+        b'm' => mask_calls(call, text, at),
+        b'i' => mask_from_indices(text, at),
+        b'p' => csr32_calls(call, text, at),
+        b'w' => words_calls(call, text, at),
+        b't' => tile_calls(call, text, at),
+        b'b' => block_calls(call, text, at),
+        b'l' => list_calls(call, text, at),
+        _ => number_calls(first, call, text, at),
     }
 }
 

@@ -24,6 +24,7 @@ use denimrasp_answers::DenimraspVerdict;
 use dense_block::DenseBlocks;
 use hybit_core::HybitError;
 use hybit_core::Verdict;
+use metadata_first::AbtmProductPruningStats;
 use metadata_first::AbtmRowDot;
 use restricted::ColumnRestriction;
 use restricted::LocalRegion;
@@ -131,6 +132,34 @@ fn read_f64<'a>(text: &[u8], at: &mut usize, room: &'a mut [f64]) -> &'a mut [f6
         k += 1;
     }
     &mut room[..used]
+}
+
+// The same lists, to be read alone: a call is handed them without a loan of its own.
+fn list_u32<'a>(text: &[u8], at: &mut usize, room: &'a mut [u32]) -> &'a [u32] {
+    let list = read_u32(text, at, room);
+    &list[..]
+}
+
+fn list_u64<'a>(text: &[u8], at: &mut usize, room: &'a mut [u64]) -> &'a [u64] {
+    let list = read_u64(text, at, room);
+    &list[..]
+}
+
+fn list_f64<'a>(text: &[u8], at: &mut usize, room: &'a mut [f64]) -> &'a [f64] {
+    let list = read_f64(text, at, room);
+    &list[..]
+}
+
+// The rows and columns that come first in most records.
+struct Frame {
+    nrows: usize,
+    ncols: usize,
+}
+
+fn read_frame(text: &[u8], at: &mut usize) -> Frame {
+    let nrows = index(text, at);
+    let ncols = index(text, at);
+    Frame { nrows, ncols }
 }
 
 fn number(n: u64) {
@@ -329,11 +358,43 @@ fn show_f64(s: &[f64]) {
     }
 }
 
-// The calls that are handed a mask alone.
-fn mask_question(call: u64, text: &[u8], at: &mut usize) {
+// Lent words.
+fn show_words(ptr: &[u32], words: &[u32], masks: &[u64]) {
+    show_u32(ptr);
+    show_u32(words);
+    show_u64(masks);
+}
+
+// A lent plot list, or lent blocks.
+fn show_list(row_ptr: &[u32], col_idx: &[u32], values: &[f64]) {
+    show_u32(row_ptr);
+    show_u32(col_idx);
+    show_f64(values);
+}
+
+// The calls that are handed a mask first. A record is read once, by the function of all calls that begin with it: the time to prove
+// a function goes by its statements times its locals, and each list that it reads costs it five of either.
+fn mask_calls(call: u64, text: &[u8], at: &mut usize) {
     let mut words_room = [0u64; MASK_ROOM];
     let len = index(text, at);
     let words = read_u64(text, at, &mut words_room);
+    match call {
+        4 | 6 | 7 | 9 | 10 | 11 => mask_change(call, text, at, len, words),
+        _ => mask_read(call, text, at, len, words),
+    }
+}
+
+// The calls that leave the mask as it is.
+fn mask_read(call: u64, text: &[u8], at: &mut usize, len: usize, words: &[u64]) {
+    match call {
+        1 | 240 => mask_place(call, index(text, at), len, words),
+        8 => mask_indices(text, at, len, words),
+        12 => mask_intersects(text, at, len, words),
+        _ => mask_question(call, len, words),
+    }
+}
+
+fn mask_question(call: u64, len: usize, words: &[u64]) {
     match call {
         0 => verdict(denimrasp::denimrasp_mask_check(len, words)),
         2 => count(denimrasp::denimrasp_mask_count_ones(len, words)),
@@ -341,22 +402,88 @@ fn mask_question(call: u64, text: &[u8], at: &mut usize) {
     }
 }
 
-fn mask_contains(text: &[u8], at: &mut usize) {
-    let mut words_room = [0u64; MASK_ROOM];
-    let len = index(text, at);
-    let words = read_u64(text, at, &mut words_room);
-    let index = index(text, at);
-    let r = denimrasp::denimrasp_mask_contains(len, words, index);
-    answer(r);
+fn mask_place(call: u64, index: usize, len: usize, words: &[u64]) {
+    if call == 1 {
+        answer(denimrasp::denimrasp_mask_contains(len, words, index));
+    } else {
+        refusal(0, 0, 0);
+        truth(mask::is_member(len, words, index));
+    }
 }
 
-fn mask_new(text: &[u8], at: &mut usize) {
-    let mut words_room = [0u64; MASK_ROOM];
-    let len = index(text, at);
-    let words = read_u64(text, at, &mut words_room);
-    let r = denimrasp::denimrasp_mask_new(len, words);
+fn mask_change(call: u64, text: &[u8], at: &mut usize, len: usize, words: &mut [u64]) {
+    let r = mask_changed(call, text, at, len, words);
     verdict(r);
     show_u64(words);
+}
+
+fn mask_changed(
+    call: u64,
+    text: &[u8],
+    at: &mut usize,
+    len: usize,
+    words: &mut [u64],
+) -> DenimraspVerdict {
+    match call {
+        4 => denimrasp::denimrasp_mask_new(len, words),
+        6 => mask_set(text, at, len, words),
+        7 => mask_or_word(text, at, len, words),
+        _ => mask_assign(call, text, at, len, words),
+    }
+}
+
+fn mask_set(text: &[u8], at: &mut usize, len: usize, words: &mut [u64]) -> DenimraspVerdict {
+    let index = index(text, at);
+    let value = numeral(text, at) != 0;
+    denimrasp::denimrasp_mask_set(len, words, index, value)
+}
+
+fn mask_or_word(text: &[u8], at: &mut usize, len: usize, words: &mut [u64]) -> DenimraspVerdict {
+    let word_index = index(text, at);
+    let bits = numeral(text, at);
+    denimrasp::denimrasp_mask_or_word(len, words, word_index, bits)
+}
+
+fn mask_indices(text: &[u8], at: &mut usize, len: usize, words: &[u64]) {
+    let mut out_room = [0usize; ROOM];
+    let out = read_usize(text, at, &mut out_room);
+    count(denimrasp::denimrasp_mask_indices(len, words, out));
+    show_usize(out);
+}
+
+fn mask_intersects(text: &[u8], at: &mut usize, len: usize, words: &[u64]) {
+    let mut other_room = [0u64; MASK_ROOM];
+    let other_len = index(text, at);
+    let other = list_u64(text, at, &mut other_room);
+    answer(denimrasp::denimrasp_mask_intersects(len, words, other_len, other));
+}
+
+// The mask changed by a second one.
+fn mask_assign(
+    call: u64,
+    text: &[u8],
+    at: &mut usize,
+    len: usize,
+    words: &mut [u64],
+) -> DenimraspVerdict {
+    let mut other_room = [0u64; MASK_ROOM];
+    let other_len = index(text, at);
+    let other = list_u64(text, at, &mut other_room);
+    mask_combined(call, len, words, other_len, other)
+}
+
+fn mask_combined(
+    call: u64,
+    len: usize,
+    words: &mut [u64],
+    other_len: usize,
+    other: &[u64],
+) -> DenimraspVerdict {
+    match call {
+        9 => denimrasp::denimrasp_mask_union_assign(len, words, other_len, other),
+        10 => denimrasp::denimrasp_mask_intersect_assign(len, words, other_len, other),
+        _ => denimrasp::denimrasp_mask_and_not_assign(len, words, other_len, other),
+    }
 }
 
 fn mask_from_indices(text: &[u8], at: &mut usize) {
@@ -370,600 +497,1429 @@ fn mask_from_indices(text: &[u8], at: &mut usize) {
     show_u64(words);
 }
 
-fn mask_set(text: &[u8], at: &mut usize) {
-    let mut words_room = [0u64; MASK_ROOM];
-    let len = index(text, at);
-    let words = read_u64(text, at, &mut words_room);
-    let index = index(text, at);
-    let value = numeral(text, at) != 0;
-    let r = denimrasp::denimrasp_mask_set(len, words, index, value);
-    verdict(r);
-    show_u64(words);
-}
-
-fn mask_or_word(text: &[u8], at: &mut usize) {
-    let mut words_room = [0u64; MASK_ROOM];
-    let len = index(text, at);
-    let words = read_u64(text, at, &mut words_room);
-    let word_index = index(text, at);
-    let bits = numeral(text, at);
-    let r = denimrasp::denimrasp_mask_or_word(len, words, word_index, bits);
-    verdict(r);
-    show_u64(words);
-}
-
-fn mask_indices(text: &[u8], at: &mut usize) {
-    let mut words_room = [0u64; MASK_ROOM];
-    let mut out_room = [0usize; ROOM];
-    let len = index(text, at);
-    let words = read_u64(text, at, &mut words_room);
-    let out = read_usize(text, at, &mut out_room);
-    let r = denimrasp::denimrasp_mask_indices(len, words, out);
-    count(r);
-    show_usize(out);
-}
-
-// The calls that are handed two masks; all but the last change the first.
-fn mask_pair(call: u64, text: &[u8], at: &mut usize) {
-    let mut words_room = [0u64; MASK_ROOM];
-    let mut other_room = [0u64; MASK_ROOM];
-    let len = index(text, at);
-    let words = read_u64(text, at, &mut words_room);
-    let other_len = index(text, at);
-    let other = read_u64(text, at, &mut other_room);
-    match call {
-        9 => verdict(denimrasp::denimrasp_mask_union_assign(len, words, other_len, other)),
-        10 => verdict(denimrasp::denimrasp_mask_intersect_assign(len, words, other_len, other)),
-        11 => verdict(denimrasp::denimrasp_mask_and_not_assign(len, words, other_len, other)),
-        _ => answer(denimrasp::denimrasp_mask_intersects(len, words, other_len, other)),
-    }
-    if call < 12 {
-        show_u64(words);
-    }
-}
-
-// The calls that are handed a plot list alone.
-fn csr32_question(call: u64, text: &[u8], at: &mut usize) {
+// The calls that are handed a plot list first.
+fn csr32_calls(call: u64, text: &[u8], at: &mut usize) {
     let mut row_ptr_room = [0u32; ROOM];
     let mut col_idx_room = [0u32; ROOM];
     let mut values_room = [0.0f64; ROOM];
-    let nrows = index(text, at);
-    let ncols = index(text, at);
-    let row_ptr = read_u32(text, at, &mut row_ptr_room);
-    let col_idx = read_u32(text, at, &mut col_idx_room);
-    let values = read_f64(text, at, &mut values_room);
+    let f = read_frame(text, at);
+    let row_ptr = list_u32(text, at, &mut row_ptr_room);
+    let col_idx = list_u32(text, at, &mut col_idx_room);
+    let values = list_f64(text, at, &mut values_room);
+    csr32_call(call, text, at, f, row_ptr, col_idx, values);
+}
+
+fn csr32_call(
+    call: u64,
+    text: &[u8],
+    at: &mut usize,
+    f: Frame,
+    row_ptr: &[u32],
+    col_idx: &[u32],
+    values: &[f64],
+) {
     match call {
-        13 => verdict(denimrasp::denimrasp_csr32_check(nrows, ncols, row_ptr, col_idx, values)),
-        15 => count(denimrasp::denimrasp_csr32_metadata_bytes(
-            nrows,
-            ncols,
-            row_ptr,
-            col_idx,
-            values,
-        )),
-        16 => count(denimrasp::denimrasp_csr32_storage_bytes(
-            nrows,
-            ncols,
-            row_ptr,
-            col_idx,
-            values,
-        )),
-        _ => verdict(denimrasp::denimrasp_metadata_first_check_merge(
-            nrows,
-            ncols,
-            row_ptr,
-            col_idx,
-            values,
-        )),
+        14 => csr32_apply(text, at, f, row_ptr, col_idx, values),
+        18 => topology_from_csr32(text, at, f, row_ptr, col_idx, values),
+        32 => metadata_first_from_csr32(text, at, f, row_ptr, col_idx, values),
+        51 => abtm_from_csr32(text, at, f, row_ptr, col_idx, values),
+        60 | 64 => csr32_masked(call, text, at, f, row_ptr, col_idx, values),
+        69 | 260 => csr32_blocks(call, text, at, f, row_ptr, col_idx, values),
+        _ => csr32_question(call, f, row_ptr, col_idx, values),
     }
 }
 
-fn csr32_apply(text: &[u8], at: &mut usize) {
-    let mut row_ptr_room = [0u32; ROOM];
-    let mut col_idx_room = [0u32; ROOM];
-    let mut values_room = [0.0f64; ROOM];
+fn csr32_question(call: u64, f: Frame, row_ptr: &[u32], col_idx: &[u32], values: &[f64]) {
+    let m = f.nrows;
+    let n = f.ncols;
+    match call {
+        13 => verdict(denimrasp::denimrasp_csr32_check(m, n, row_ptr, col_idx, values)),
+        15 => count(denimrasp::denimrasp_csr32_metadata_bytes(m, n, row_ptr, col_idx, values)),
+        16 => count(denimrasp::denimrasp_csr32_storage_bytes(m, n, row_ptr, col_idx, values)),
+        31 => verdict(denimrasp::denimrasp_metadata_first_check_merge(
+            m,
+            n,
+            row_ptr,
+            col_idx,
+            values,
+        )),
+        _ => count(denimrasp_answers::count(dense_block_counts::structural_slots(
+            m,
+            n,
+            row_ptr,
+            col_idx,
+            values,
+        ))),
+    }
+}
+
+fn csr32_apply(
+    text: &[u8],
+    at: &mut usize,
+    f: Frame,
+    row_ptr: &[u32],
+    col_idx: &[u32],
+    values: &[f64],
+) {
     let mut x_room = [0.0f64; ROOM];
     let mut y_room = [0.0f64; ROOM];
-    let nrows = index(text, at);
-    let ncols = index(text, at);
-    let row_ptr = read_u32(text, at, &mut row_ptr_room);
-    let col_idx = read_u32(text, at, &mut col_idx_room);
-    let values = read_f64(text, at, &mut values_room);
-    let x = read_f64(text, at, &mut x_room);
+    let x = list_f64(text, at, &mut x_room);
     let y = read_f64(text, at, &mut y_room);
-    let r = denimrasp::denimrasp_csr32_apply(nrows, ncols, row_ptr, col_idx, values, x, y);
-    verdict(r);
+    verdict(denimrasp::denimrasp_csr32_apply(f.nrows, f.ncols, row_ptr, col_idx, values, x, y));
     show_f64(y);
 }
 
-// The calls that are handed words alone.
-fn topology_question(call: u64, text: &[u8], at: &mut usize) {
-    let mut row_word_ptr_room = [0u32; ROOM];
-    let mut word_indices_room = [0u32; ROOM];
+fn topology_from_csr32(
+    text: &[u8],
+    at: &mut usize,
+    f: Frame,
+    row_ptr: &[u32],
+    col_idx: &[u32],
+    values: &[f64],
+) {
+    let mut ptr_room = [0u32; ROOM];
+    let mut words_room = [0u32; ROOM];
     let mut masks_room = [0u64; ROOM];
-    let nrows = index(text, at);
-    let ncols = index(text, at);
-    let ptr = read_u32(text, at, &mut row_word_ptr_room);
-    let words = read_u32(text, at, &mut word_indices_room);
-    let masks = read_u64(text, at, &mut masks_room);
-    let nnz = index(text, at);
-    match call {
-        17 => verdict(denimrasp::denimrasp_topology_check(nrows, ncols, ptr, words, masks, nnz)),
-        _ => word_figures(denimrasp::denimrasp_topology_stats(
-            nrows,
-            ncols,
-            ptr,
-            words,
-            masks,
-            nnz,
-        )),
-    }
-}
-
-fn topology_from_csr32(text: &[u8], at: &mut usize) {
-    let mut row_ptr_room = [0u32; ROOM];
-    let mut col_idx_room = [0u32; ROOM];
-    let mut values_room = [0.0f64; ROOM];
-    let mut row_word_ptr_room = [0u32; ROOM];
-    let mut word_indices_room = [0u32; ROOM];
-    let mut masks_room = [0u64; ROOM];
-    let nrows = index(text, at);
-    let ncols = index(text, at);
-    let row_ptr = read_u32(text, at, &mut row_ptr_room);
-    let col_idx = read_u32(text, at, &mut col_idx_room);
-    let values = read_f64(text, at, &mut values_room);
-    let row_word_ptr = read_u32(text, at, &mut row_word_ptr_room);
-    let word_indices = read_u32(text, at, &mut word_indices_room);
+    let ptr = read_u32(text, at, &mut ptr_room);
+    let words = read_u32(text, at, &mut words_room);
     let masks = read_u64(text, at, &mut masks_room);
     let r = denimrasp::denimrasp_topology_from_csr32(
-        nrows,
-        ncols,
+        f.nrows,
+        f.ncols,
         row_ptr,
         col_idx,
         values,
-        row_word_ptr,
-        word_indices,
+        ptr,
+        words,
         masks,
     );
     built(r);
-    show_u32(row_word_ptr);
-    show_u32(word_indices);
+    show_words(ptr, words, masks);
+}
+
+fn metadata_first_from_csr32(
+    text: &[u8],
+    at: &mut usize,
+    f: Frame,
+    row_ptr: &[u32],
+    col_idx: &[u32],
+    values: &[f64],
+) {
+    let mut ptr_room = [0u32; ROOM];
+    let mut words_room = [0u32; ROOM];
+    let mut masks_room = [0u64; ROOM];
+    let mut value_ptr_room = [0u32; ROOM];
+    let mut packed_room = [0.0f64; ROOM];
+    let ptr = read_u32(text, at, &mut ptr_room);
+    let words = read_u32(text, at, &mut words_room);
+    let masks = read_u64(text, at, &mut masks_room);
+    let value_ptr = read_u32(text, at, &mut value_ptr_room);
+    let packed = read_f64(text, at, &mut packed_room);
+    pack(
+        f,
+        row_ptr,
+        col_idx,
+        values,
+        ptr,
+        words,
+        masks,
+        value_ptr,
+        packed,
+    );
+}
+
+fn pack(
+    f: Frame,
+    row_ptr: &[u32],
+    col_idx: &[u32],
+    values: &[f64],
+    ptr: &mut [u32],
+    words: &mut [u32],
+    masks: &mut [u64],
+    value_ptr: &mut [u32],
+    packed: &mut [f64],
+) {
+    built(denimrasp::denimrasp_metadata_first_from_csr32(
+        f.nrows,
+        f.ncols,
+        row_ptr,
+        col_idx,
+        values,
+        ptr,
+        words,
+        masks,
+        value_ptr,
+        packed,
+    ));
+    show_words(ptr, words, masks);
+    show_u32(value_ptr);
+    show_f64(packed);
+}
+
+fn abtm_from_csr32(
+    text: &[u8],
+    at: &mut usize,
+    f: Frame,
+    row_ptr: &[u32],
+    col_idx: &[u32],
+    values: &[f64],
+) {
+    let mut ptr_room = [0u32; ROOM];
+    let mut masks_room = [0u64; ROOM];
+    let mut offsets_room = [0u32; ROOM];
+    let mut metas_room = [0u32; ROOM];
+    let mut slots_room = [0.0f64; ROOM];
+    let thresholds = thresholds(text, at);
+    let ptr = read_u32(text, at, &mut ptr_room);
+    let masks = read_u64(text, at, &mut masks_room);
+    let offsets = read_u32(text, at, &mut offsets_room);
+    let metas = read_u32(text, at, &mut metas_room);
+    let slots = read_f64(text, at, &mut slots_room);
+    tile(
+        f,
+        row_ptr,
+        col_idx,
+        values,
+        thresholds,
+        ptr,
+        masks,
+        offsets,
+        metas,
+        slots,
+    );
+}
+
+fn tile(
+    f: Frame,
+    row_ptr: &[u32],
+    col_idx: &[u32],
+    values: &[f64],
+    thresholds: AbtmConfig,
+    ptr: &mut [u32],
+    masks: &mut [u64],
+    offsets: &mut [u32],
+    metas: &mut [u32],
+    slots: &mut [f64],
+) {
+    tiles_built(denimrasp::denimrasp_abtm_from_csr32(
+        f.nrows,
+        f.ncols,
+        row_ptr,
+        col_idx,
+        values,
+        thresholds.sparse_max_nnz,
+        thresholds.dense_min_nnz,
+        ptr,
+        masks,
+        offsets,
+        metas,
+        slots,
+    ));
+    show_u32(ptr);
     show_u64(masks);
+    show_list(offsets, metas, slots);
+}
+
+// A plot list cut to the members of a mask.
+fn csr32_masked(
+    call: u64,
+    text: &[u8],
+    at: &mut usize,
+    f: Frame,
+    row_ptr: &[u32],
+    col_idx: &[u32],
+    values: &[f64],
+) {
+    let mut mask_room = [0u64; ROOM];
+    let len = index(text, at);
+    let mask = list_u64(text, at, &mut mask_room);
+    if call == 60 {
+        restricted_from_csr32(text, at, f, row_ptr, col_idx, values, len, mask);
+    } else {
+        local_from_csr32(text, at, f, row_ptr, col_idx, values, len, mask);
+    }
+}
+
+fn restricted_from_csr32(
+    text: &[u8],
+    at: &mut usize,
+    f: Frame,
+    row_ptr: &[u32],
+    col_idx: &[u32],
+    values: &[f64],
+    len: usize,
+    mask: &[u64],
+) {
+    let mut out_row_ptr_room = [0u32; ROOM];
+    let mut out_col_idx_room = [0u32; ROOM];
+    let mut out_values_room = [0.0f64; ROOM];
+    let out_row_ptr = read_u32(text, at, &mut out_row_ptr_room);
+    let out_col_idx = read_u32(text, at, &mut out_col_idx_room);
+    let out_values = read_f64(text, at, &mut out_values_room);
+    restriction(denimrasp::denimrasp_restricted_from_csr32(
+        f.nrows,
+        f.ncols,
+        row_ptr,
+        col_idx,
+        values,
+        len,
+        mask,
+        out_row_ptr,
+        out_col_idx,
+        out_values,
+    ));
+    show_list(out_row_ptr, out_col_idx, out_values);
+}
+
+fn local_from_csr32(
+    text: &[u8],
+    at: &mut usize,
+    f: Frame,
+    row_ptr: &[u32],
+    col_idx: &[u32],
+    values: &[f64],
+    len: usize,
+    mask: &[u64],
+) {
+    let mut members_room = [0u32; ROOM];
+    let mut out_row_ptr_room = [0u32; ROOM];
+    let mut out_col_idx_room = [0u32; ROOM];
+    let mut out_values_room = [0.0f64; ROOM];
+    let members = read_u32(text, at, &mut members_room);
+    let out_row_ptr = read_u32(text, at, &mut out_row_ptr_room);
+    let out_col_idx = read_u32(text, at, &mut out_col_idx_room);
+    let out_values = read_f64(text, at, &mut out_values_room);
+    gather_region(
+        f,
+        row_ptr,
+        col_idx,
+        values,
+        len,
+        mask,
+        members,
+        out_row_ptr,
+        out_col_idx,
+        out_values,
+    );
+}
+
+fn gather_region(
+    f: Frame,
+    row_ptr: &[u32],
+    col_idx: &[u32],
+    values: &[f64],
+    len: usize,
+    mask: &[u64],
+    members: &mut [u32],
+    out_row_ptr: &mut [u32],
+    out_col_idx: &mut [u32],
+    out_values: &mut [f64],
+) {
+    region(denimrasp::denimrasp_local_from_csr32(
+        f.nrows,
+        f.ncols,
+        row_ptr,
+        col_idx,
+        values,
+        len,
+        mask,
+        members,
+        out_row_ptr,
+        out_col_idx,
+        out_values,
+    ));
+    show_u32(members);
+    show_list(out_row_ptr, out_col_idx, out_values);
+}
+
+// The builds of blocks, and of their places alone.
+fn csr32_blocks(
+    call: u64,
+    text: &[u8],
+    at: &mut usize,
+    f: Frame,
+    row_ptr: &[u32],
+    col_idx: &[u32],
+    values: &[f64],
+) {
+    let six = numeral(text, at) != 0;
+    if call == 69 {
+        dense_block_from_csr32(text, at, f, row_ptr, col_idx, values, six);
+    } else {
+        block_columns(text, at, f, row_ptr, col_idx, values, six);
+    }
+}
+
+fn dense_block_from_csr32(
+    text: &[u8],
+    at: &mut usize,
+    f: Frame,
+    row_ptr: &[u32],
+    col_idx: &[u32],
+    values: &[f64],
+    six: bool,
+) {
+    let mut out_row_ptr_room = [0u32; ROOM];
+    let mut out_col_idx_room = [0u32; ROOM];
+    let mut out_values_room = [0.0f64; ROOM];
+    let out_row_ptr = read_u32(text, at, &mut out_row_ptr_room);
+    let out_col_idx = read_u32(text, at, &mut out_col_idx_room);
+    let out_values = read_f64(text, at, &mut out_values_room);
+    blocks_built(denimrasp::denimrasp_dense_block_from_csr32(
+        f.nrows,
+        f.ncols,
+        row_ptr,
+        col_idx,
+        values,
+        six,
+        out_row_ptr,
+        out_col_idx,
+        out_values,
+    ));
+    show_list(out_row_ptr, out_col_idx, out_values);
+}
+
+fn block_columns(
+    text: &[u8],
+    at: &mut usize,
+    f: Frame,
+    row_ptr: &[u32],
+    col_idx: &[u32],
+    values: &[f64],
+    six: bool,
+) {
+    let mut out_row_ptr_room = [0u32; ROOM];
+    let mut out_col_idx_room = [0u32; ROOM];
+    let out_row_ptr = read_u32(text, at, &mut out_row_ptr_room);
+    let out_col_idx = read_u32(text, at, &mut out_col_idx_room);
+    count(denimrasp_answers::count(dense_block_columns::from_csr32(
+        f.nrows,
+        f.ncols,
+        row_ptr,
+        col_idx,
+        values,
+        denimrasp_answers::block_size(six),
+        out_row_ptr,
+        out_col_idx,
+    )));
+    show_u32(out_row_ptr);
+    show_u32(out_col_idx);
+}
+
+// The calls that are handed words first.
+fn words_calls(call: u64, text: &[u8], at: &mut usize) {
+    let mut ptr_room = [0u32; ROOM];
+    let mut words_room = [0u32; ROOM];
+    let mut masks_room = [0u64; ROOM];
+    let f = read_frame(text, at);
+    let ptr = list_u32(text, at, &mut ptr_room);
+    let words = list_u32(text, at, &mut words_room);
+    let masks = list_u64(text, at, &mut masks_room);
+    words_call(call, text, at, f, ptr, words, masks);
+}
+
+// The total of words, which call 245 alone lacks.
+fn total(call: u64, text: &[u8], at: &mut usize) -> usize {
+    if call == 245 {
+        return 0;
+    }
+    index(text, at)
+}
+
+fn words_call(
+    call: u64,
+    text: &[u8],
+    at: &mut usize,
+    f: Frame,
+    ptr: &[u32],
+    words: &[u32],
+    masks: &[u64],
+) {
+    let nnz = total(call, text, at);
+    match call {
+        17 | 25 | 245 => topology_question(call, f, ptr, words, masks, nnz),
+        19 | 20 | 21 | 246 | 247 => topology_row(call, text, at, f, ptr, words, masks, nnz),
+        22 | 23 | 24 => topology_row_place(call, text, at, f, ptr, words, masks, nnz),
+        26 | 27 | 28 | 29 => topology_operation(call, text, at, f, ptr, words, masks, nnz),
+        _ => store_calls(call, text, at, f, ptr, words, masks, nnz),
+    }
+}
+
+fn topology_question(call: u64, f: Frame, ptr: &[u32], words: &[u32], masks: &[u64], nnz: usize) {
+    let m = f.nrows;
+    let n = f.ncols;
+    match call {
+        17 => verdict(denimrasp::denimrasp_topology_check(m, n, ptr, words, masks, nnz)),
+        25 => word_figures(denimrasp::denimrasp_topology_stats(m, n, ptr, words, masks, nnz)),
+        _ => verdict(denimrasp_answers::verdict(topology::check_lists(m, n, ptr, words, masks))),
+    }
 }
 
 // The questions to a row.
-fn topology_row(call: u64, text: &[u8], at: &mut usize) {
-    let mut row_word_ptr_room = [0u32; ROOM];
-    let mut word_indices_room = [0u32; ROOM];
-    let mut masks_room = [0u64; ROOM];
-    let nrows = index(text, at);
-    let ncols = index(text, at);
-    let ptr = read_u32(text, at, &mut row_word_ptr_room);
-    let words = read_u32(text, at, &mut word_indices_room);
-    let masks = read_u64(text, at, &mut masks_room);
-    let nnz = index(text, at);
+fn topology_row(
+    call: u64,
+    text: &[u8],
+    at: &mut usize,
+    f: Frame,
+    ptr: &[u32],
+    words: &[u32],
+    masks: &[u64],
+    nnz: usize,
+) {
+    let m = f.nrows;
+    let n = f.ncols;
     let row = index(text, at);
     match call {
-        19 => part(denimrasp::denimrasp_topology_row_words(
-            nrows,
-            ncols,
-            ptr,
-            words,
-            masks,
-            nnz,
-            row,
-        )),
+        19 => part(denimrasp::denimrasp_topology_row_words(m, n, ptr, words, masks, nnz, row)),
         20 => count(denimrasp::denimrasp_topology_row_nonempty_words(
-            nrows,
-            ncols,
+            m,
+            n,
             ptr,
             words,
             masks,
             nnz,
             row,
         )),
-        _ => count(denimrasp::denimrasp_topology_row_popcount(
-            nrows,
-            ncols,
-            ptr,
-            words,
-            masks,
-            nnz,
-            row,
-        )),
+        21 => count(denimrasp::denimrasp_topology_row_popcount(m, n, ptr, words, masks, nnz, row)),
+        _ => topology_row_part(call, f, ptr, words, masks, nnz, row),
+    }
+}
+
+// The row's part of the word numbers or of the masks.
+fn topology_row_part(
+    call: u64,
+    f: Frame,
+    ptr: &[u32],
+    words: &[u32],
+    masks: &[u64],
+    nnz: usize,
+    row: usize,
+) {
+    let m = f.nrows;
+    let n = f.ncols;
+    let mut no: u32 = 99;
+    if call == 246 {
+        let part = topology_rows::row_word_indices(m, n, ptr, words, masks, nnz, row, &mut no);
+        refusal(no, 0, 0);
+        show_u32(part);
+    } else {
+        let part = topology_rows::row_masks(m, n, ptr, words, masks, nnz, row, &mut no);
+        refusal(no, 0, 0);
+        show_u64(part);
     }
 }
 
 // The questions to a row at a column or an ordinal.
-fn topology_row_place(call: u64, text: &[u8], at: &mut usize) {
-    let mut row_word_ptr_room = [0u32; ROOM];
-    let mut word_indices_room = [0u32; ROOM];
-    let mut masks_room = [0u64; ROOM];
-    let nrows = index(text, at);
-    let ncols = index(text, at);
-    let ptr = read_u32(text, at, &mut row_word_ptr_room);
-    let words = read_u32(text, at, &mut word_indices_room);
-    let masks = read_u64(text, at, &mut masks_room);
-    let nnz = index(text, at);
+fn topology_row_place(
+    call: u64,
+    text: &[u8],
+    at: &mut usize,
+    f: Frame,
+    ptr: &[u32],
+    words: &[u32],
+    masks: &[u64],
+    nnz: usize,
+) {
+    let m = f.nrows;
+    let n = f.ncols;
     let row = index(text, at);
-    let n = index(text, at);
+    let place = index(text, at);
     match call {
         22 => answer(denimrasp::denimrasp_topology_row_contains(
-            nrows,
-            ncols,
+            m,
+            n,
             ptr,
             words,
             masks,
             nnz,
             row,
-            n,
+            place,
         )),
         23 => count(denimrasp::denimrasp_topology_row_rank(
-            nrows,
-            ncols,
+            m,
+            n,
             ptr,
             words,
             masks,
             nnz,
             row,
-            n,
+            place,
         )),
         _ => selection(denimrasp::denimrasp_topology_row_select(
-            nrows,
-            ncols,
+            m,
+            n,
             ptr,
             words,
             masks,
             nnz,
             row,
-            n,
+            place,
         )),
     }
+}
+
+// The calls that are handed words and a second record of words.
+fn topology_operation(
+    call: u64,
+    text: &[u8],
+    at: &mut usize,
+    f: Frame,
+    ptr: &[u32],
+    words: &[u32],
+    masks: &[u64],
+    nnz: usize,
+) {
+    let mut ptr_room = [0u32; ROOM];
+    let mut words_room = [0u32; ROOM];
+    let mut masks_room = [0u64; ROOM];
+    let g = read_frame(text, at);
+    let other_ptr = list_u32(text, at, &mut ptr_room);
+    let other_words = list_u32(text, at, &mut words_room);
+    let other_masks = list_u64(text, at, &mut masks_room);
+    operation_to(
+        call,
+        text,
+        at,
+        f,
+        ptr,
+        words,
+        masks,
+        nnz,
+        g,
+        other_ptr,
+        other_words,
+        other_masks,
+    );
+}
+
+// The second record's total, and the words that are lent for the result.
+fn operation_to(
+    call: u64,
+    text: &[u8],
+    at: &mut usize,
+    f: Frame,
+    ptr: &[u32],
+    words: &[u32],
+    masks: &[u64],
+    nnz: usize,
+    g: Frame,
+    other_ptr: &[u32],
+    other_words: &[u32],
+    other_masks: &[u64],
+) {
+    let mut ptr_room = [0u32; ROOM];
+    let mut words_room = [0u32; ROOM];
+    let mut masks_room = [0u64; ROOM];
+    let other_nnz = index(text, at);
+    let out_ptr = read_u32(text, at, &mut ptr_room);
+    let out_words = read_u32(text, at, &mut words_room);
+    let out_masks = read_u64(text, at, &mut masks_room);
+    let r = operation(
+        call,
+        f,
+        ptr,
+        words,
+        masks,
+        nnz,
+        g,
+        other_ptr,
+        other_words,
+        other_masks,
+        other_nnz,
+        out_ptr,
+        out_words,
+        out_masks,
+    );
+    built(r);
+    show_words(out_ptr, out_words, out_masks);
 }
 
 // The set operation of that number.
 fn operation(
     call: u64,
-    nrows: usize,
-    ncols: usize,
-    row_word_ptr: &[u32],
-    word_indices: &[u32],
+    f: Frame,
+    ptr: &[u32],
+    words: &[u32],
     masks: &[u64],
-    structural_nnz: usize,
-    other_nrows: usize,
-    other_ncols: usize,
-    other_row_word_ptr: &[u32],
-    other_word_indices: &[u32],
+    nnz: usize,
+    g: Frame,
+    other_ptr: &[u32],
+    other_words: &[u32],
     other_masks: &[u64],
-    other_structural_nnz: usize,
+    other_nnz: usize,
     out_ptr: &mut [u32],
     out_words: &mut [u32],
     out_masks: &mut [u64],
 ) -> DenimraspTopology {
-    if call == 26 {
-        return denimrasp::denimrasp_topology_union(
-            nrows,
-            ncols,
-            row_word_ptr,
-            word_indices,
-            masks,
-            structural_nnz,
-            other_nrows,
-            other_ncols,
-            other_row_word_ptr,
-            other_word_indices,
-            other_masks,
-            other_structural_nnz,
-            out_ptr,
-            out_words,
-            out_masks,
-        );
-    }
-    if call == 27 {
-        return denimrasp::denimrasp_topology_intersection(
-            nrows,
-            ncols,
-            row_word_ptr,
-            word_indices,
-            masks,
-            structural_nnz,
-            other_nrows,
-            other_ncols,
-            other_row_word_ptr,
-            other_word_indices,
-            other_masks,
-            other_structural_nnz,
-            out_ptr,
-            out_words,
-            out_masks,
-        );
-    }
-    if call == 28 {
-        return denimrasp::denimrasp_topology_and_not(
-            nrows,
-            ncols,
-            row_word_ptr,
-            word_indices,
-            masks,
-            structural_nnz,
-            other_nrows,
-            other_ncols,
-            other_row_word_ptr,
-            other_word_indices,
-            other_masks,
-            other_structural_nnz,
-            out_ptr,
-            out_words,
-            out_masks,
-        );
-    }
-    denimrasp::denimrasp_topology_xor(
-        nrows,
-        ncols,
-        row_word_ptr,
-        word_indices,
-        masks,
-        structural_nnz,
-        other_nrows,
-        other_ncols,
-        other_row_word_ptr,
-        other_word_indices,
-        other_masks,
-        other_structural_nnz,
-        out_ptr,
-        out_words,
-        out_masks,
-    )
-}
-
-fn topology_operation(call: u64, text: &[u8], at: &mut usize) {
-    let mut row_word_ptr_room = [0u32; ROOM];
-    let mut word_indices_room = [0u32; ROOM];
-    let mut masks_room = [0u64; ROOM];
-    let mut other_row_word_ptr_room = [0u32; ROOM];
-    let mut other_word_indices_room = [0u32; ROOM];
-    let mut other_masks_room = [0u64; ROOM];
-    let mut out_ptr_room = [0u32; ROOM];
-    let mut out_words_room = [0u32; ROOM];
-    let mut out_masks_room = [0u64; ROOM];
-    let nrows = index(text, at);
-    let ncols = index(text, at);
-    let row_word_ptr = read_u32(text, at, &mut row_word_ptr_room);
-    let word_indices = read_u32(text, at, &mut word_indices_room);
-    let masks = read_u64(text, at, &mut masks_room);
-    let structural_nnz = index(text, at);
-    let other_nrows = index(text, at);
-    let other_ncols = index(text, at);
-    let other_row_word_ptr = read_u32(text, at, &mut other_row_word_ptr_room);
-    let other_word_indices = read_u32(text, at, &mut other_word_indices_room);
-    let other_masks = read_u64(text, at, &mut other_masks_room);
-    let other_structural_nnz = index(text, at);
-    let out_ptr = read_u32(text, at, &mut out_ptr_room);
-    let out_words = read_u32(text, at, &mut out_words_room);
-    let out_masks = read_u64(text, at, &mut out_masks_room);
-    let r = operation(
-        call,
-        nrows,
-        ncols,
-        row_word_ptr,
-        word_indices,
-        masks,
-        structural_nnz,
-        other_nrows,
-        other_ncols,
-        other_row_word_ptr,
-        other_word_indices,
-        other_masks,
-        other_structural_nnz,
-        out_ptr,
-        out_words,
-        out_masks,
-    );
-    built(r);
-    show_u32(out_ptr);
-    show_u32(out_words);
-    show_u64(out_masks);
-}
-
-// The calls that are handed a store alone.
-fn metadata_first_question(call: u64, text: &[u8], at: &mut usize) {
-    let mut row_word_ptr_room = [0u32; ROOM];
-    let mut word_indices_room = [0u32; ROOM];
-    let mut masks_room = [0u64; ROOM];
-    let mut row_value_ptr_room = [0u32; ROOM];
-    let mut values_room = [0.0f64; ROOM];
-    let nrows = index(text, at);
-    let ncols = index(text, at);
-    let ptr = read_u32(text, at, &mut row_word_ptr_room);
-    let words = read_u32(text, at, &mut word_indices_room);
-    let masks = read_u64(text, at, &mut masks_room);
-    let nnz = index(text, at);
-    let value_ptr = read_u32(text, at, &mut row_value_ptr_room);
-    let vals = read_f64(text, at, &mut values_room);
     match call {
-        30 => verdict(denimrasp::denimrasp_metadata_first_check(
-            nrows,
-            ncols,
+        26 => denimrasp::denimrasp_topology_union(
+            f.nrows,
+            f.ncols,
             ptr,
             words,
             masks,
             nnz,
-            value_ptr,
-            vals,
-        )),
-        _ => store_figures(denimrasp::denimrasp_metadata_first_stats(
-            nrows,
-            ncols,
+            g.nrows,
+            g.ncols,
+            other_ptr,
+            other_words,
+            other_masks,
+            other_nnz,
+            out_ptr,
+            out_words,
+            out_masks,
+        ),
+        27 => denimrasp::denimrasp_topology_intersection(
+            f.nrows,
+            f.ncols,
             ptr,
             words,
             masks,
             nnz,
-            value_ptr,
-            vals,
-        )),
+            g.nrows,
+            g.ncols,
+            other_ptr,
+            other_words,
+            other_masks,
+            other_nnz,
+            out_ptr,
+            out_words,
+            out_masks,
+        ),
+        28 => denimrasp::denimrasp_topology_and_not(
+            f.nrows,
+            f.ncols,
+            ptr,
+            words,
+            masks,
+            nnz,
+            g.nrows,
+            g.ncols,
+            other_ptr,
+            other_words,
+            other_masks,
+            other_nnz,
+            out_ptr,
+            out_words,
+            out_masks,
+        ),
+        _ => denimrasp::denimrasp_topology_xor(
+            f.nrows,
+            f.ncols,
+            ptr,
+            words,
+            masks,
+            nnz,
+            g.nrows,
+            g.ncols,
+            other_ptr,
+            other_words,
+            other_masks,
+            other_nnz,
+            out_ptr,
+            out_words,
+            out_masks,
+        ),
     }
 }
 
-fn metadata_first_from_csr32(text: &[u8], at: &mut usize) {
-    let mut row_ptr_room = [0u32; ROOM];
-    let mut col_idx_room = [0u32; ROOM];
+// The calls that are handed a store first.
+fn store_calls(
+    call: u64,
+    text: &[u8],
+    at: &mut usize,
+    f: Frame,
+    ptr: &[u32],
+    words: &[u32],
+    masks: &[u64],
+    nnz: usize,
+) {
+    let mut value_ptr_room = [0u32; ROOM];
     let mut values_room = [0.0f64; ROOM];
-    let mut row_word_ptr_room = [0u32; ROOM];
-    let mut word_indices_room = [0u32; ROOM];
-    let mut masks_room = [0u64; ROOM];
-    let mut row_value_ptr_room = [0u32; ROOM];
-    let mut packed_room = [0.0f64; ROOM];
-    let nrows = index(text, at);
-    let ncols = index(text, at);
-    let row_ptr = read_u32(text, at, &mut row_ptr_room);
-    let col_idx = read_u32(text, at, &mut col_idx_room);
-    let values = read_f64(text, at, &mut values_room);
-    let row_word_ptr = read_u32(text, at, &mut row_word_ptr_room);
-    let word_indices = read_u32(text, at, &mut word_indices_room);
-    let masks = read_u64(text, at, &mut masks_room);
-    let row_value_ptr = read_u32(text, at, &mut row_value_ptr_room);
-    let packed = read_f64(text, at, &mut packed_room);
-    let r = denimrasp::denimrasp_metadata_first_from_csr32(
-        nrows,
-        ncols,
-        row_ptr,
-        col_idx,
-        values,
-        row_word_ptr,
-        word_indices,
-        masks,
-        row_value_ptr,
-        packed,
-    );
-    built(r);
-    show_u32(row_word_ptr);
-    show_u32(word_indices);
-    show_u64(masks);
-    show_u32(row_value_ptr);
-    show_f64(packed);
+    let value_ptr = list_u32(text, at, &mut value_ptr_room);
+    let vals = list_f64(text, at, &mut values_room);
+    store_call(call, text, at, f, ptr, words, masks, nnz, value_ptr, vals);
 }
 
-fn metadata_first_row_values(text: &[u8], at: &mut usize) {
-    let mut row_word_ptr_room = [0u32; ROOM];
-    let mut word_indices_room = [0u32; ROOM];
-    let mut masks_room = [0u64; ROOM];
-    let mut row_value_ptr_room = [0u32; ROOM];
-    let mut values_room = [0.0f64; ROOM];
-    let nrows = index(text, at);
-    let ncols = index(text, at);
-    let row_word_ptr = read_u32(text, at, &mut row_word_ptr_room);
-    let word_indices = read_u32(text, at, &mut word_indices_room);
-    let masks = read_u64(text, at, &mut masks_room);
-    let structural_nnz = index(text, at);
-    let row_value_ptr = read_u32(text, at, &mut row_value_ptr_room);
-    let values = read_f64(text, at, &mut values_room);
+fn store_call(
+    call: u64,
+    text: &[u8],
+    at: &mut usize,
+    f: Frame,
+    ptr: &[u32],
+    words: &[u32],
+    masks: &[u64],
+    nnz: usize,
+    value_ptr: &[u32],
+    vals: &[f64],
+) {
+    if call == 36 {
+        sparse_dot_rows(text, at, f, ptr, words, masks, nnz, value_ptr, vals);
+    } else if call == 30 || call == 34 {
+        store_question(call, f, ptr, words, masks, nnz, value_ptr, vals);
+    } else {
+        store_row(call, text, at, f, ptr, words, masks, nnz, value_ptr, vals);
+    }
+}
+
+fn store_question(
+    call: u64,
+    f: Frame,
+    ptr: &[u32],
+    words: &[u32],
+    masks: &[u64],
+    nnz: usize,
+    value_ptr: &[u32],
+    vals: &[f64],
+) {
+    let m = f.nrows;
+    let n = f.ncols;
+    if call == 30 {
+        verdict(denimrasp::denimrasp_metadata_first_check(
+            m,
+            n,
+            ptr,
+            words,
+            masks,
+            nnz,
+            value_ptr,
+            vals,
+        ));
+    } else {
+        store_figures(denimrasp::denimrasp_metadata_first_stats(
+            m,
+            n,
+            ptr,
+            words,
+            masks,
+            nnz,
+            value_ptr,
+            vals,
+        ));
+    }
+}
+
+// The questions to a row of a store.
+fn store_row(
+    call: u64,
+    text: &[u8],
+    at: &mut usize,
+    f: Frame,
+    ptr: &[u32],
+    words: &[u32],
+    masks: &[u64],
+    nnz: usize,
+    value_ptr: &[u32],
+    vals: &[f64],
+) {
     let row = index(text, at);
-    let r = denimrasp::denimrasp_metadata_first_row_values(
-        nrows,
-        ncols,
-        row_word_ptr,
-        word_indices,
-        masks,
-        structural_nnz,
-        row_value_ptr,
-        values,
-        row,
-    );
-    part(r);
+    if call == 33 {
+        part(denimrasp::denimrasp_metadata_first_row_values(
+            f.nrows,
+            f.ncols,
+            ptr,
+            words,
+            masks,
+            nnz,
+            value_ptr,
+            vals,
+            row,
+        ));
+    } else if call == 35 {
+        sparse_dot_row(text, at, f, ptr, words, masks, nnz, value_ptr, vals, row);
+    } else {
+        store_row_part(f, ptr, words, masks, nnz, value_ptr, vals, row);
+    }
 }
 
-fn metadata_first_sparse_dot_row(text: &[u8], at: &mut usize) {
-    let mut row_word_ptr_room = [0u32; ROOM];
-    let mut word_indices_room = [0u32; ROOM];
-    let mut masks_room = [0u64; ROOM];
-    let mut row_value_ptr_room = [0u32; ROOM];
-    let mut values_room = [0.0f64; ROOM];
+fn store_row_part(
+    f: Frame,
+    ptr: &[u32],
+    words: &[u32],
+    masks: &[u64],
+    nnz: usize,
+    value_ptr: &[u32],
+    vals: &[f64],
+    row: usize,
+) {
+    let mut no: u32 = 99;
+    let part = metadata_first::row_values(
+        f.nrows,
+        f.ncols,
+        ptr,
+        words,
+        masks,
+        nnz,
+        value_ptr,
+        vals,
+        row,
+        &mut no,
+    );
+    refusal(no, 0, 0);
+    show_f64(part);
+}
+
+fn sparse_dot_row(
+    text: &[u8],
+    at: &mut usize,
+    f: Frame,
+    ptr: &[u32],
+    words: &[u32],
+    masks: &[u64],
+    nnz: usize,
+    value_ptr: &[u32],
+    vals: &[f64],
+    row: usize,
+) {
     let mut mask_room = [0u64; ROOM];
     let mut x_room = [0.0f64; ROOM];
-    let nrows = index(text, at);
-    let ncols = index(text, at);
-    let row_word_ptr = read_u32(text, at, &mut row_word_ptr_room);
-    let word_indices = read_u32(text, at, &mut word_indices_room);
-    let masks = read_u64(text, at, &mut masks_room);
-    let structural_nnz = index(text, at);
-    let row_value_ptr = read_u32(text, at, &mut row_value_ptr_room);
-    let values = read_f64(text, at, &mut values_room);
-    let row = index(text, at);
-    let mask_len = index(text, at);
-    let mask = read_u64(text, at, &mut mask_room);
-    let x = read_f64(text, at, &mut x_room);
-    let r = denimrasp::denimrasp_metadata_first_sparse_dot_row(
-        nrows,
-        ncols,
-        row_word_ptr,
-        word_indices,
+    let len = index(text, at);
+    let mask = list_u64(text, at, &mut mask_room);
+    let x = list_f64(text, at, &mut x_room);
+    dot(denimrasp::denimrasp_metadata_first_sparse_dot_row(
+        f.nrows,
+        f.ncols,
+        ptr,
+        words,
         masks,
-        structural_nnz,
-        row_value_ptr,
-        values,
+        nnz,
+        value_ptr,
+        vals,
         row,
-        mask_len,
+        len,
+        mask,
+        x,
+    ));
+}
+
+fn sparse_dot_rows(
+    text: &[u8],
+    at: &mut usize,
+    f: Frame,
+    ptr: &[u32],
+    words: &[u32],
+    masks: &[u64],
+    nnz: usize,
+    value_ptr: &[u32],
+    vals: &[f64],
+) {
+    let mut mask_room = [0u64; ROOM];
+    let mut x_room = [0.0f64; ROOM];
+    let len = index(text, at);
+    let mask = list_u64(text, at, &mut mask_room);
+    let x = list_f64(text, at, &mut x_room);
+    dot_rows_to(
+        text,
+        at,
+        f,
+        ptr,
+        words,
+        masks,
+        nnz,
+        value_ptr,
+        vals,
+        len,
         mask,
         x,
     );
-    dot(r);
 }
 
-fn metadata_first_sparse_dot_rows(text: &[u8], at: &mut usize) {
-    let mut row_word_ptr_room = [0u32; ROOM];
-    let mut word_indices_room = [0u32; ROOM];
-    let mut masks_room = [0u64; ROOM];
-    let mut row_value_ptr_room = [0u32; ROOM];
-    let mut values_room = [0.0f64; ROOM];
-    let mut mask_room = [0u64; ROOM];
-    let mut x_room = [0.0f64; ROOM];
+fn dot_rows_to(
+    text: &[u8],
+    at: &mut usize,
+    f: Frame,
+    ptr: &[u32],
+    words: &[u32],
+    masks: &[u64],
+    nnz: usize,
+    value_ptr: &[u32],
+    vals: &[f64],
+    len: usize,
+    mask: &[u64],
+    x: &[f64],
+) {
     let mut sums_room = [0.0f64; ROOM];
     let mut executed_room = [0u32; ROOM];
-    let nrows = index(text, at);
-    let ncols = index(text, at);
-    let row_word_ptr = read_u32(text, at, &mut row_word_ptr_room);
-    let word_indices = read_u32(text, at, &mut word_indices_room);
-    let masks = read_u64(text, at, &mut masks_room);
-    let structural_nnz = index(text, at);
-    let row_value_ptr = read_u32(text, at, &mut row_value_ptr_room);
-    let values = read_f64(text, at, &mut values_room);
-    let mask_len = index(text, at);
-    let mask = read_u64(text, at, &mut mask_room);
-    let x = read_f64(text, at, &mut x_room);
     let sums = read_f64(text, at, &mut sums_room);
     let executed = read_u32(text, at, &mut executed_room);
-    let r = denimrasp::denimrasp_metadata_first_sparse_dot_rows(
-        nrows,
-        ncols,
-        row_word_ptr,
-        word_indices,
+    verdict(denimrasp::denimrasp_metadata_first_sparse_dot_rows(
+        f.nrows,
+        f.ncols,
+        ptr,
+        words,
         masks,
-        structural_nnz,
-        row_value_ptr,
-        values,
-        mask_len,
+        nnz,
+        value_ptr,
+        vals,
+        len,
         mask,
         x,
         sums,
         executed,
-    );
-    verdict(r);
+    ));
     show_f64(sums);
     show_u32(executed);
 }
 
-fn word_base_col(text: &[u8], at: &mut usize) {
-    let word_index = hybit_core::narrow(index(text, at));
-    let r = denimrasp::denimrasp_word_base_col(word_index);
-    refusal(0, 0, 0);
-    size(r);
+// The calls that are handed tiles first.
+fn tile_calls(call: u64, text: &[u8], at: &mut usize) {
+    let mut ptr_room = [0u32; ROOM];
+    let mut masks_room = [0u64; ROOM];
+    let mut offsets_room = [0u32; ROOM];
+    let f = read_frame(text, at);
+    let ptr = list_u32(text, at, &mut ptr_room);
+    let masks = list_u64(text, at, &mut masks_room);
+    let offsets = list_u32(text, at, &mut offsets_room);
+    tile_slots(call, text, at, f, ptr, masks, offsets);
 }
 
-fn word_popcount(text: &[u8], at: &mut usize) {
-    let mask = numeral(text, at);
-    let r = denimrasp::denimrasp_word_popcount(mask);
+// The metas, the values and the total of the tiles.
+fn tile_slots(
+    call: u64,
+    text: &[u8],
+    at: &mut usize,
+    f: Frame,
+    ptr: &[u32],
+    masks: &[u64],
+    offsets: &[u32],
+) {
+    let mut metas_room = [0u32; ROOM];
+    let mut values_room = [0.0f64; ROOM];
+    let metas = list_u32(text, at, &mut metas_room);
+    let values = list_f64(text, at, &mut values_room);
+    let nnz = index(text, at);
+    tile_call(call, text, at, f, ptr, masks, offsets, metas, values, nnz);
+}
+
+fn tile_call(
+    call: u64,
+    text: &[u8],
+    at: &mut usize,
+    f: Frame,
+    ptr: &[u32],
+    masks: &[u64],
+    offsets: &[u32],
+    metas: &[u32],
+    values: &[f64],
+    nnz: usize,
+) {
+    match call {
+        50 | 55 => tile_question(call, f, ptr, masks, offsets, metas, values, nnz),
+        58 => abtm_apply(text, at, f, ptr, masks, offsets, metas, values, nnz),
+        59 | 61 => tiles_masked(call, text, at, f, ptr, masks, offsets, metas, values, nnz),
+        _ => tile_row(
+            call,
+            f,
+            ptr,
+            masks,
+            offsets,
+            metas,
+            values,
+            nnz,
+            index(text, at),
+        ),
+    }
+}
+
+fn tile_question(
+    call: u64,
+    f: Frame,
+    ptr: &[u32],
+    masks: &[u64],
+    offsets: &[u32],
+    metas: &[u32],
+    values: &[f64],
+    nnz: usize,
+) {
+    let m = f.nrows;
+    let n = f.ncols;
+    if call == 50 {
+        verdict(denimrasp::denimrasp_abtm_check(m, n, ptr, masks, offsets, metas, values, nnz));
+    } else {
+        tile_figures(denimrasp::denimrasp_abtm_stats(
+            m,
+            n,
+            ptr,
+            masks,
+            offsets,
+            metas,
+            values,
+            nnz,
+        ));
+    }
+}
+
+// The questions to a row of tiles.
+fn tile_row(
+    call: u64,
+    f: Frame,
+    ptr: &[u32],
+    masks: &[u64],
+    offsets: &[u32],
+    metas: &[u32],
+    values: &[f64],
+    nnz: usize,
+    row: usize,
+) {
+    if call == 54 {
+        part(denimrasp::denimrasp_abtm_row_tiles(
+            f.nrows,
+            f.ncols,
+            ptr,
+            masks,
+            offsets,
+            metas,
+            values,
+            nnz,
+            row,
+        ));
+    } else if call == 251 {
+        tile_masks(f, ptr, masks, offsets, metas, values, nnz, row);
+    } else {
+        tile_part(call, f, ptr, masks, offsets, metas, values, nnz, row);
+    }
+}
+
+fn tile_masks(
+    f: Frame,
+    ptr: &[u32],
+    masks: &[u64],
+    offsets: &[u32],
+    metas: &[u32],
+    values: &[f64],
+    nnz: usize,
+    row: usize,
+) {
+    let mut no: u32 = 99;
+    let part = abtm_rows::row_tile_masks(
+        f.nrows,
+        f.ncols,
+        ptr,
+        masks,
+        offsets,
+        metas,
+        values,
+        nnz,
+        row,
+        &mut no,
+    );
+    refusal(no, 0, 0);
+    show_u64(part);
+}
+
+// The row's part of the offsets or of the metas.
+fn tile_part(
+    call: u64,
+    f: Frame,
+    ptr: &[u32],
+    masks: &[u64],
+    offsets: &[u32],
+    metas: &[u32],
+    values: &[f64],
+    nnz: usize,
+    row: usize,
+) {
+    let m = f.nrows;
+    let n = f.ncols;
+    let mut no: u32 = 99;
+    if call == 252 {
+        let part = abtm_rows::row_tile_value_offsets(
+            m,
+            n,
+            ptr,
+            masks,
+            offsets,
+            metas,
+            values,
+            nnz,
+            row,
+            &mut no,
+        );
+        refusal(no, 0, 0);
+        show_u32(part);
+    } else {
+        let part = abtm_rows::row_tile_metas(
+            m,
+            n,
+            ptr,
+            masks,
+            offsets,
+            metas,
+            values,
+            nnz,
+            row,
+            &mut no,
+        );
+        refusal(no, 0, 0);
+        show_u32(part);
+    }
+}
+
+fn abtm_apply(
+    text: &[u8],
+    at: &mut usize,
+    f: Frame,
+    ptr: &[u32],
+    masks: &[u64],
+    offsets: &[u32],
+    metas: &[u32],
+    values: &[f64],
+    nnz: usize,
+) {
+    let mut x_room = [0.0f64; ROOM];
+    let mut y_room = [0.0f64; ROOM];
+    let x = list_f64(text, at, &mut x_room);
+    let y = read_f64(text, at, &mut y_room);
+    verdict(denimrasp::denimrasp_abtm_apply(
+        f.nrows,
+        f.ncols,
+        ptr,
+        masks,
+        offsets,
+        metas,
+        values,
+        nnz,
+        x,
+        y,
+    ));
+    show_f64(y);
+}
+
+// The calls that are handed tiles and a mask.
+fn tiles_masked(
+    call: u64,
+    text: &[u8],
+    at: &mut usize,
+    f: Frame,
+    ptr: &[u32],
+    masks: &[u64],
+    offsets: &[u32],
+    metas: &[u32],
+    values: &[f64],
+    nnz: usize,
+) {
+    let mut mask_room = [0u64; ROOM];
+    let len = index(text, at);
+    let mask = list_u64(text, at, &mut mask_room);
+    if call == 59 {
+        abtm_expand(
+            text,
+            at,
+            f,
+            ptr,
+            masks,
+            offsets,
+            metas,
+            values,
+            nnz,
+            len,
+            mask,
+        );
+    } else {
+        restricted_from_abtm(
+            text,
+            at,
+            f,
+            ptr,
+            masks,
+            offsets,
+            metas,
+            values,
+            nnz,
+            len,
+            mask,
+        );
+    }
+}
+
+fn abtm_expand(
+    text: &[u8],
+    at: &mut usize,
+    f: Frame,
+    ptr: &[u32],
+    masks: &[u64],
+    offsets: &[u32],
+    metas: &[u32],
+    values: &[f64],
+    nnz: usize,
+    len: usize,
+    mask: &[u64],
+) {
+    let mut out_room = [0u64; ROOM];
+    let out = read_u64(text, at, &mut out_room);
+    verdict(denimrasp::denimrasp_abtm_expand_mask_one_hop(
+        f.nrows,
+        f.ncols,
+        ptr,
+        masks,
+        offsets,
+        metas,
+        values,
+        nnz,
+        len,
+        mask,
+        out,
+    ));
+    show_u64(out);
+}
+
+fn restricted_from_abtm(
+    text: &[u8],
+    at: &mut usize,
+    f: Frame,
+    ptr: &[u32],
+    masks: &[u64],
+    offsets: &[u32],
+    metas: &[u32],
+    values: &[f64],
+    nnz: usize,
+    len: usize,
+    mask: &[u64],
+) {
+    let mut out_row_ptr_room = [0u32; ROOM];
+    let mut out_col_idx_room = [0u32; ROOM];
+    let mut out_values_room = [0.0f64; ROOM];
+    let out_row_ptr = read_u32(text, at, &mut out_row_ptr_room);
+    let out_col_idx = read_u32(text, at, &mut out_col_idx_room);
+    let out_values = read_f64(text, at, &mut out_values_room);
+    restriction(denimrasp::denimrasp_restricted_from_abtm(
+        f.nrows,
+        f.ncols,
+        ptr,
+        masks,
+        offsets,
+        metas,
+        values,
+        nnz,
+        len,
+        mask,
+        out_row_ptr,
+        out_col_idx,
+        out_values,
+    ));
+    show_list(out_row_ptr, out_col_idx, out_values);
+}
+
+// The calls that are handed blocks first.
+fn block_calls(call: u64, text: &[u8], at: &mut usize) {
+    let mut row_ptr_room = [0u32; ROOM];
+    let mut col_idx_room = [0u32; ROOM];
+    let mut values_room = [0.0f64; ROOM];
+    let f = read_frame(text, at);
+    let six = numeral(text, at) != 0;
+    let row_ptr = list_u32(text, at, &mut row_ptr_room);
+    let col_idx = list_u32(text, at, &mut col_idx_room);
+    let values = list_f64(text, at, &mut values_room);
+    block_call(call, text, at, f, six, row_ptr, col_idx, values);
+}
+
+fn block_call(
+    call: u64,
+    text: &[u8],
+    at: &mut usize,
+    f: Frame,
+    six: bool,
+    row_ptr: &[u32],
+    col_idx: &[u32],
+    values: &[f64],
+) {
+    if call == 71 {
+        dense_block_apply(text, at, f, six, row_ptr, col_idx, values);
+    } else {
+        dense_block_question(call, f, six, row_ptr, col_idx, values);
+    }
+}
+
+fn dense_block_question(
+    call: u64,
+    f: Frame,
+    six: bool,
+    row_ptr: &[u32],
+    col_idx: &[u32],
+    values: &[f64],
+) {
+    let m = f.nrows;
+    let n = f.ncols;
+    if call == 70 {
+        verdict(denimrasp::denimrasp_dense_block_check(m, n, six, row_ptr, col_idx, values));
+    } else {
+        fraction(denimrasp::denimrasp_dense_block_fast_block_fraction(
+            m,
+            n,
+            six,
+            row_ptr,
+            col_idx,
+            values,
+        ));
+    }
+}
+
+fn dense_block_apply(
+    text: &[u8],
+    at: &mut usize,
+    f: Frame,
+    six: bool,
+    row_ptr: &[u32],
+    col_idx: &[u32],
+    values: &[f64],
+) {
+    let mut x_room = [0.0f64; ROOM];
+    let mut y_room = [0.0f64; ROOM];
+    let x = list_f64(text, at, &mut x_room);
+    let y = read_f64(text, at, &mut y_room);
+    verdict(denimrasp::denimrasp_dense_block_apply(
+        f.nrows,
+        f.ncols,
+        six,
+        row_ptr,
+        col_idx,
+        values,
+        x,
+        y,
+    ));
+    show_f64(y);
+}
+
+fn local_check(text: &[u8], at: &mut usize) {
+    let mut members_room = [0u32; ROOM];
+    let global_size = index(text, at);
+    let members = list_u32(text, at, &mut members_room);
+    verdict(denimrasp::denimrasp_local_check(global_size, members));
+}
+
+fn local_gather_input(text: &[u8], at: &mut usize) {
+    let mut members_room = [0u32; ROOM];
+    let mut global_room = [0.0f64; ROOM];
+    let mut local_room = [0.0f64; ROOM];
+    let global_size = index(text, at);
+    let members = list_u32(text, at, &mut members_room);
+    let global = list_f64(text, at, &mut global_room);
+    let local = read_f64(text, at, &mut local_room);
+    let r = denimrasp::denimrasp_local_gather_input(global_size, members, global, local);
+    verdict(r);
+    show_f64(local);
+}
+
+// The calls that are handed numbers alone.
+
+// What a word or a tile by value is asked for: a column or a count.
+fn value_of(call: u64, n: u64) -> usize {
+    match call {
+        37 => denimrasp::denimrasp_word_base_col(hybit_core::narrow(n as usize)),
+        38 => denimrasp::denimrasp_word_popcount(n),
+        _ => denimrasp::denimrasp_abtm_tile_base_col(hybit_core::narrow(n as usize)),
+    }
+}
+
+fn value(call: u64, text: &[u8], at: &mut usize) {
+    let n = numeral(text, at);
     refusal(0, 0, 0);
-    size(r);
+    size(value_of(call, n));
+}
+
+fn abtm_tile_kind(text: &[u8], at: &mut usize) {
+    let meta = hybit_core::narrow(index(text, at));
+    count(denimrasp::denimrasp_abtm_tile_kind(meta));
 }
 
 // The questions to a word at an offset or an ordinal.
@@ -980,559 +1936,103 @@ fn word_place(call: u64, text: &[u8], at: &mut usize) {
     }
 }
 
+fn ratio_of(call: u64, a: usize, b: usize) -> f64 {
+    match call {
+        42 => denimrasp::denimrasp_topology_average_word_nnz(a, b),
+        43 => denimrasp::denimrasp_topology_word_fill_ratio(a, b),
+        44 => denimrasp::denimrasp_topology_metadata_bytes_per_nnz(a, b),
+        45 => denimrasp::denimrasp_metadata_first_pruning_ratio(a, b),
+        46 => denimrasp::denimrasp_metadata_first_empty_word_ratio(a, b),
+        56 => denimrasp::denimrasp_abtm_metadata_bytes_per_nnz(a, b),
+        62 => denimrasp::denimrasp_restricted_retained_fraction(a, b),
+        67 => denimrasp::denimrasp_local_boundary_pruning_ratio(a, b),
+        73 => denimrasp::denimrasp_dense_block_block_fill(a, b),
+        _ => denimrasp::denimrasp_dense_block_value_padding_ratio(a, b),
+    }
+}
+
 // The ratios of two counts.
 fn ratio(call: u64, text: &[u8], at: &mut usize) {
     let a = index(text, at);
     let b = index(text, at);
     refusal(0, 0, 0);
+    float(ratio_of(call, a, b));
+}
+
+fn bytes_of_two(call: u64, a: usize, b: usize) -> usize {
     match call {
-        42 => float(denimrasp::denimrasp_topology_average_word_nnz(a, b)),
-        43 => float(denimrasp::denimrasp_topology_word_fill_ratio(a, b)),
-        44 => float(denimrasp::denimrasp_topology_metadata_bytes_per_nnz(a, b)),
-        45 => float(denimrasp::denimrasp_metadata_first_pruning_ratio(a, b)),
-        _ => float(denimrasp::denimrasp_metadata_first_empty_word_ratio(a, b)),
+        57 => denimrasp::denimrasp_abtm_total_estimated_bytes(a, b),
+        68 => denimrasp::denimrasp_local_storage_bytes(a, b),
+        _ => denimrasp::denimrasp_dense_block_metadata_bytes(a, b),
     }
 }
 
-fn metadata_first_total_estimated_bytes(text: &[u8], at: &mut usize) {
-    let topology_metadata_bytes = index(text, at);
-    let value_row_ptr_bytes = index(text, at);
-    let packed_value_bytes = index(text, at);
-    let r = denimrasp::denimrasp_metadata_first_total_estimated_bytes(
-        topology_metadata_bytes,
-        value_row_ptr_bytes,
-        packed_value_bytes,
-    );
-    refusal(0, 0, 0);
-    size(r);
+fn bytes_of_three(call: u64, a: usize, b: usize, c: usize) -> usize {
+    match call {
+        47 => denimrasp::denimrasp_metadata_first_total_estimated_bytes(a, b, c),
+        63 => denimrasp::denimrasp_restricted_storage_bytes(a, b, c),
+        _ => denimrasp::denimrasp_dense_block_storage_bytes(a, b, c),
+    }
 }
 
-fn metadata_first_accumulate(text: &[u8], at: &mut usize) {
+// The bytes of two or three counts.
+fn bytes(call: u64, text: &[u8], at: &mut usize) {
+    let a = index(text, at);
+    let b = index(text, at);
+    refusal(0, 0, 0);
+    if call == 47 || call == 63 || call == 76 {
+        let c = index(text, at);
+        size(bytes_of_three(call, a, b, c));
+    } else {
+        size(bytes_of_two(call, a, b));
+    }
+}
+
+// The counts of a row dot's report.
+fn counts(text: &[u8], at: &mut usize) -> AbtmProductPruningStats {
     let candidate_products = index(text, at);
     let executed_products = index(text, at);
     let skipped_products = index(text, at);
     let topology_words = index(text, at);
     let active_words = index(text, at);
-    let other_candidate_products = index(text, at);
-    let other_executed_products = index(text, at);
-    let other_skipped_products = index(text, at);
-    let other_topology_words = index(text, at);
-    let other_active_words = index(text, at);
-    let r = denimrasp::denimrasp_metadata_first_accumulate(
+    AbtmProductPruningStats {
         candidate_products,
         executed_products,
         skipped_products,
         topology_words,
         active_words,
-        other_candidate_products,
-        other_executed_products,
-        other_skipped_products,
-        other_topology_words,
-        other_active_words,
-    );
-    totals(r);
+    }
+}
+
+fn metadata_first_accumulate(text: &[u8], at: &mut usize) {
+    let a = counts(text, at);
+    let b = counts(text, at);
+    totals(denimrasp::denimrasp_metadata_first_accumulate(
+        a.candidate_products,
+        a.executed_products,
+        a.skipped_products,
+        a.topology_words,
+        a.active_words,
+        b.candidate_products,
+        b.executed_products,
+        b.skipped_products,
+        b.topology_words,
+        b.active_words,
+    ));
+}
+
+fn thresholds(text: &[u8], at: &mut usize) -> AbtmConfig {
+    let sparse_max_nnz = byte(text, at);
+    let dense_min_nnz = byte(text, at);
+    AbtmConfig {
+        sparse_max_nnz,
+        dense_min_nnz,
+    }
 }
 
 fn abtm_validate(text: &[u8], at: &mut usize) {
-    let sparse_max_nnz = byte(text, at);
-    let dense_min_nnz = byte(text, at);
-    verdict(denimrasp::denimrasp_abtm_validate(sparse_max_nnz, dense_min_nnz));
-}
-
-// The calls that are handed tiles alone, or with a row.
-fn tile_question(call: u64, text: &[u8], at: &mut usize) {
-    let mut row_tile_ptr_room = [0u32; ROOM];
-    let mut masks_room = [0u64; ROOM];
-    let mut value_offsets_room = [0u32; ROOM];
-    let mut metas_room = [0u32; ROOM];
-    let mut values_room = [0.0f64; ROOM];
-    let nrows = index(text, at);
-    let ncols = index(text, at);
-    let ptr = read_u32(text, at, &mut row_tile_ptr_room);
-    let masks = read_u64(text, at, &mut masks_room);
-    let offsets = read_u32(text, at, &mut value_offsets_room);
-    let metas = read_u32(text, at, &mut metas_room);
-    let values = read_f64(text, at, &mut values_room);
-    let nnz = index(text, at);
-    match call {
-        50 => verdict(denimrasp::denimrasp_abtm_check(
-            nrows,
-            ncols,
-            ptr,
-            masks,
-            offsets,
-            metas,
-            values,
-            nnz,
-        )),
-        55 => tile_figures(denimrasp::denimrasp_abtm_stats(
-            nrows,
-            ncols,
-            ptr,
-            masks,
-            offsets,
-            metas,
-            values,
-            nnz,
-        )),
-        _ => part(denimrasp::denimrasp_abtm_row_tiles(
-            nrows,
-            ncols,
-            ptr,
-            masks,
-            offsets,
-            metas,
-            values,
-            nnz,
-            index(text, at),
-        )),
-    }
-}
-
-fn abtm_from_csr32(text: &[u8], at: &mut usize) {
-    let mut row_ptr_room = [0u32; ROOM];
-    let mut col_idx_room = [0u32; ROOM];
-    let mut values_room = [0.0f64; ROOM];
-    let mut row_tile_ptr_room = [0u32; ROOM];
-    let mut masks_room = [0u64; ROOM];
-    let mut value_offsets_room = [0u32; ROOM];
-    let mut metas_room = [0u32; ROOM];
-    let mut tile_values_room = [0.0f64; ROOM];
-    let nrows = index(text, at);
-    let ncols = index(text, at);
-    let row_ptr = read_u32(text, at, &mut row_ptr_room);
-    let col_idx = read_u32(text, at, &mut col_idx_room);
-    let values = read_f64(text, at, &mut values_room);
-    let sparse_max_nnz = byte(text, at);
-    let dense_min_nnz = byte(text, at);
-    let row_tile_ptr = read_u32(text, at, &mut row_tile_ptr_room);
-    let masks = read_u64(text, at, &mut masks_room);
-    let value_offsets = read_u32(text, at, &mut value_offsets_room);
-    let metas = read_u32(text, at, &mut metas_room);
-    let tile_values = read_f64(text, at, &mut tile_values_room);
-    let r = denimrasp::denimrasp_abtm_from_csr32(
-        nrows,
-        ncols,
-        row_ptr,
-        col_idx,
-        values,
-        sparse_max_nnz,
-        dense_min_nnz,
-        row_tile_ptr,
-        masks,
-        value_offsets,
-        metas,
-        tile_values,
-    );
-    tiles_built(r);
-    show_u32(row_tile_ptr);
-    show_u64(masks);
-    show_u32(value_offsets);
-    show_u32(metas);
-    show_f64(tile_values);
-}
-
-fn abtm_tile_kind(text: &[u8], at: &mut usize) {
-    let meta = hybit_core::narrow(index(text, at));
-    count(denimrasp::denimrasp_abtm_tile_kind(meta));
-}
-
-fn abtm_tile_base_col(text: &[u8], at: &mut usize) {
-    let meta = hybit_core::narrow(index(text, at));
-    let r = denimrasp::denimrasp_abtm_tile_base_col(meta);
-    refusal(0, 0, 0);
-    size(r);
-}
-
-fn abtm_metadata_bytes_per_nnz(text: &[u8], at: &mut usize) {
-    let metadata_bytes = index(text, at);
-    let matrix_nnz = index(text, at);
-    let r = denimrasp::denimrasp_abtm_metadata_bytes_per_nnz(metadata_bytes, matrix_nnz);
-    refusal(0, 0, 0);
-    float(r);
-}
-
-fn abtm_total_estimated_bytes(text: &[u8], at: &mut usize) {
-    let metadata_bytes = index(text, at);
-    let value_slots = index(text, at);
-    let r = denimrasp::denimrasp_abtm_total_estimated_bytes(metadata_bytes, value_slots);
-    refusal(0, 0, 0);
-    size(r);
-}
-
-fn abtm_apply(text: &[u8], at: &mut usize) {
-    let mut row_tile_ptr_room = [0u32; ROOM];
-    let mut masks_room = [0u64; ROOM];
-    let mut value_offsets_room = [0u32; ROOM];
-    let mut metas_room = [0u32; ROOM];
-    let mut values_room = [0.0f64; ROOM];
-    let mut x_room = [0.0f64; ROOM];
-    let mut y_room = [0.0f64; ROOM];
-    let nrows = index(text, at);
-    let ncols = index(text, at);
-    let row_tile_ptr = read_u32(text, at, &mut row_tile_ptr_room);
-    let masks = read_u64(text, at, &mut masks_room);
-    let value_offsets = read_u32(text, at, &mut value_offsets_room);
-    let metas = read_u32(text, at, &mut metas_room);
-    let values = read_f64(text, at, &mut values_room);
-    let matrix_nnz = index(text, at);
-    let x = read_f64(text, at, &mut x_room);
-    let y = read_f64(text, at, &mut y_room);
-    let r = denimrasp::denimrasp_abtm_apply(
-        nrows,
-        ncols,
-        row_tile_ptr,
-        masks,
-        value_offsets,
-        metas,
-        values,
-        matrix_nnz,
-        x,
-        y,
-    );
-    verdict(r);
-    show_f64(y);
-}
-
-fn abtm_expand_mask_one_hop(text: &[u8], at: &mut usize) {
-    let mut row_tile_ptr_room = [0u32; ROOM];
-    let mut masks_room = [0u64; ROOM];
-    let mut value_offsets_room = [0u32; ROOM];
-    let mut metas_room = [0u32; ROOM];
-    let mut values_room = [0.0f64; ROOM];
-    let mut mask_room = [0u64; ROOM];
-    let mut out_room = [0u64; ROOM];
-    let nrows = index(text, at);
-    let ncols = index(text, at);
-    let row_tile_ptr = read_u32(text, at, &mut row_tile_ptr_room);
-    let masks = read_u64(text, at, &mut masks_room);
-    let value_offsets = read_u32(text, at, &mut value_offsets_room);
-    let metas = read_u32(text, at, &mut metas_room);
-    let values = read_f64(text, at, &mut values_room);
-    let matrix_nnz = index(text, at);
-    let mask_len = index(text, at);
-    let mask = read_u64(text, at, &mut mask_room);
-    let out = read_u64(text, at, &mut out_room);
-    let r = denimrasp::denimrasp_abtm_expand_mask_one_hop(
-        nrows,
-        ncols,
-        row_tile_ptr,
-        masks,
-        value_offsets,
-        metas,
-        values,
-        matrix_nnz,
-        mask_len,
-        mask,
-        out,
-    );
-    verdict(r);
-    show_u64(out);
-}
-
-fn restricted_from_csr32(text: &[u8], at: &mut usize) {
-    let mut row_ptr_room = [0u32; ROOM];
-    let mut col_idx_room = [0u32; ROOM];
-    let mut values_room = [0.0f64; ROOM];
-    let mut mask_room = [0u64; ROOM];
-    let mut out_row_ptr_room = [0u32; ROOM];
-    let mut out_col_idx_room = [0u32; ROOM];
-    let mut out_values_room = [0.0f64; ROOM];
-    let nrows = index(text, at);
-    let ncols = index(text, at);
-    let row_ptr = read_u32(text, at, &mut row_ptr_room);
-    let col_idx = read_u32(text, at, &mut col_idx_room);
-    let values = read_f64(text, at, &mut values_room);
-    let mask_len = index(text, at);
-    let mask = read_u64(text, at, &mut mask_room);
-    let out_row_ptr = read_u32(text, at, &mut out_row_ptr_room);
-    let out_col_idx = read_u32(text, at, &mut out_col_idx_room);
-    let out_values = read_f64(text, at, &mut out_values_room);
-    let r = denimrasp::denimrasp_restricted_from_csr32(
-        nrows,
-        ncols,
-        row_ptr,
-        col_idx,
-        values,
-        mask_len,
-        mask,
-        out_row_ptr,
-        out_col_idx,
-        out_values,
-    );
-    restriction(r);
-    show_u32(out_row_ptr);
-    show_u32(out_col_idx);
-    show_f64(out_values);
-}
-
-fn restricted_from_abtm(text: &[u8], at: &mut usize) {
-    let mut row_tile_ptr_room = [0u32; ROOM];
-    let mut masks_room = [0u64; ROOM];
-    let mut value_offsets_room = [0u32; ROOM];
-    let mut metas_room = [0u32; ROOM];
-    let mut values_room = [0.0f64; ROOM];
-    let mut mask_room = [0u64; ROOM];
-    let mut out_row_ptr_room = [0u32; ROOM];
-    let mut out_col_idx_room = [0u32; ROOM];
-    let mut out_values_room = [0.0f64; ROOM];
-    let nrows = index(text, at);
-    let ncols = index(text, at);
-    let row_tile_ptr = read_u32(text, at, &mut row_tile_ptr_room);
-    let masks = read_u64(text, at, &mut masks_room);
-    let value_offsets = read_u32(text, at, &mut value_offsets_room);
-    let metas = read_u32(text, at, &mut metas_room);
-    let values = read_f64(text, at, &mut values_room);
-    let matrix_nnz = index(text, at);
-    let mask_len = index(text, at);
-    let mask = read_u64(text, at, &mut mask_room);
-    let out_row_ptr = read_u32(text, at, &mut out_row_ptr_room);
-    let out_col_idx = read_u32(text, at, &mut out_col_idx_room);
-    let out_values = read_f64(text, at, &mut out_values_room);
-    let r = denimrasp::denimrasp_restricted_from_abtm(
-        nrows,
-        ncols,
-        row_tile_ptr,
-        masks,
-        value_offsets,
-        metas,
-        values,
-        matrix_nnz,
-        mask_len,
-        mask,
-        out_row_ptr,
-        out_col_idx,
-        out_values,
-    );
-    restriction(r);
-    show_u32(out_row_ptr);
-    show_u32(out_col_idx);
-    show_f64(out_values);
-}
-
-fn restricted_retained_fraction(text: &[u8], at: &mut usize) {
-    let retained_nnz = index(text, at);
-    let source_nnz = index(text, at);
-    let r = denimrasp::denimrasp_restricted_retained_fraction(retained_nnz, source_nnz);
-    refusal(0, 0, 0);
-    float(r);
-}
-
-fn restricted_storage_bytes(text: &[u8], at: &mut usize) {
-    let nrows = index(text, at);
-    let ncols = index(text, at);
-    let retained_nnz = index(text, at);
-    let r = denimrasp::denimrasp_restricted_storage_bytes(nrows, ncols, retained_nnz);
-    refusal(0, 0, 0);
-    size(r);
-}
-
-fn local_from_csr32(text: &[u8], at: &mut usize) {
-    let mut row_ptr_room = [0u32; ROOM];
-    let mut col_idx_room = [0u32; ROOM];
-    let mut values_room = [0.0f64; ROOM];
-    let mut region_room = [0u64; ROOM];
-    let mut members_room = [0u32; ROOM];
-    let mut out_row_ptr_room = [0u32; ROOM];
-    let mut out_col_idx_room = [0u32; ROOM];
-    let mut out_values_room = [0.0f64; ROOM];
-    let nrows = index(text, at);
-    let ncols = index(text, at);
-    let row_ptr = read_u32(text, at, &mut row_ptr_room);
-    let col_idx = read_u32(text, at, &mut col_idx_room);
-    let values = read_f64(text, at, &mut values_room);
-    let region_len = index(text, at);
-    let words = read_u64(text, at, &mut region_room);
-    let members = read_u32(text, at, &mut members_room);
-    let out_row_ptr = read_u32(text, at, &mut out_row_ptr_room);
-    let out_col_idx = read_u32(text, at, &mut out_col_idx_room);
-    let out_values = read_f64(text, at, &mut out_values_room);
-    let r = denimrasp::denimrasp_local_from_csr32(
-        nrows,
-        ncols,
-        row_ptr,
-        col_idx,
-        values,
-        region_len,
-        words,
-        members,
-        out_row_ptr,
-        out_col_idx,
-        out_values,
-    );
-    region(r);
-    show_u32(members);
-    show_u32(out_row_ptr);
-    show_u32(out_col_idx);
-    show_f64(out_values);
-}
-
-fn local_check(text: &[u8], at: &mut usize) {
-    let mut members_room = [0u32; ROOM];
-    let global_size = index(text, at);
-    let members = read_u32(text, at, &mut members_room);
-    verdict(denimrasp::denimrasp_local_check(global_size, members));
-}
-
-fn local_gather_input(text: &[u8], at: &mut usize) {
-    let mut members_room = [0u32; ROOM];
-    let mut global_room = [0.0f64; ROOM];
-    let mut local_room = [0.0f64; ROOM];
-    let global_size = index(text, at);
-    let members = read_u32(text, at, &mut members_room);
-    let global = read_f64(text, at, &mut global_room);
-    let local = read_f64(text, at, &mut local_room);
-    let r = denimrasp::denimrasp_local_gather_input(global_size, members, global, local);
-    verdict(r);
-    show_f64(local);
-}
-
-fn local_boundary_pruning_ratio(text: &[u8], at: &mut usize) {
-    let local_nnz = index(text, at);
-    let source_row_nnz = index(text, at);
-    let r = denimrasp::denimrasp_local_boundary_pruning_ratio(local_nnz, source_row_nnz);
-    refusal(0, 0, 0);
-    float(r);
-}
-
-fn local_storage_bytes(text: &[u8], at: &mut usize) {
-    let local_nodes = index(text, at);
-    let local_nnz = index(text, at);
-    let r = denimrasp::denimrasp_local_storage_bytes(local_nodes, local_nnz);
-    refusal(0, 0, 0);
-    size(r);
-}
-
-fn dense_block_from_csr32(text: &[u8], at: &mut usize) {
-    let mut row_ptr_room = [0u32; ROOM];
-    let mut col_idx_room = [0u32; ROOM];
-    let mut values_room = [0.0f64; ROOM];
-    let mut out_row_ptr_room = [0u32; ROOM];
-    let mut out_col_idx_room = [0u32; ROOM];
-    let mut out_values_room = [0.0f64; ROOM];
-    let nrows = index(text, at);
-    let ncols = index(text, at);
-    let row_ptr = read_u32(text, at, &mut row_ptr_room);
-    let col_idx = read_u32(text, at, &mut col_idx_room);
-    let values = read_f64(text, at, &mut values_room);
-    let six = numeral(text, at) != 0;
-    let out_row_ptr = read_u32(text, at, &mut out_row_ptr_room);
-    let out_col_idx = read_u32(text, at, &mut out_col_idx_room);
-    let out_values = read_f64(text, at, &mut out_values_room);
-    let r = denimrasp::denimrasp_dense_block_from_csr32(
-        nrows,
-        ncols,
-        row_ptr,
-        col_idx,
-        values,
-        six,
-        out_row_ptr,
-        out_col_idx,
-        out_values,
-    );
-    blocks_built(r);
-    show_u32(out_row_ptr);
-    show_u32(out_col_idx);
-    show_f64(out_values);
-}
-
-// The calls that are handed blocks alone.
-fn dense_block_question(call: u64, text: &[u8], at: &mut usize) {
-    let mut row_ptr_room = [0u32; ROOM];
-    let mut col_idx_room = [0u32; ROOM];
-    let mut values_room = [0.0f64; ROOM];
-    let nrows = index(text, at);
-    let ncols = index(text, at);
-    let six = numeral(text, at) != 0;
-    let row_ptr = read_u32(text, at, &mut row_ptr_room);
-    let col_idx = read_u32(text, at, &mut col_idx_room);
-    let values = read_f64(text, at, &mut values_room);
-    match call {
-        70 => verdict(denimrasp::denimrasp_dense_block_check(
-            nrows,
-            ncols,
-            six,
-            row_ptr,
-            col_idx,
-            values,
-        )),
-        _ => fraction(denimrasp::denimrasp_dense_block_fast_block_fraction(
-            nrows,
-            ncols,
-            six,
-            row_ptr,
-            col_idx,
-            values,
-        )),
-    }
-}
-
-fn dense_block_apply(text: &[u8], at: &mut usize) {
-    let mut row_ptr_room = [0u32; ROOM];
-    let mut col_idx_room = [0u32; ROOM];
-    let mut values_room = [0.0f64; ROOM];
-    let mut x_room = [0.0f64; ROOM];
-    let mut y_room = [0.0f64; ROOM];
-    let nrows = index(text, at);
-    let ncols = index(text, at);
-    let six = numeral(text, at) != 0;
-    let row_ptr = read_u32(text, at, &mut row_ptr_room);
-    let col_idx = read_u32(text, at, &mut col_idx_room);
-    let values = read_f64(text, at, &mut values_room);
-    let x = read_f64(text, at, &mut x_room);
-    let y = read_f64(text, at, &mut y_room);
-    let r = denimrasp::denimrasp_dense_block_apply(
-        nrows,
-        ncols,
-        six,
-        row_ptr,
-        col_idx,
-        values,
-        x,
-        y,
-    );
-    verdict(r);
-    show_f64(y);
-}
-
-fn dense_block_block_fill(text: &[u8], at: &mut usize) {
-    let structural_slots = index(text, at);
-    let valid_dense_slots = index(text, at);
-    let r = denimrasp::denimrasp_dense_block_block_fill(structural_slots, valid_dense_slots);
-    refusal(0, 0, 0);
-    float(r);
-}
-
-fn dense_block_value_padding_ratio(text: &[u8], at: &mut usize) {
-    let dense_value_slots = index(text, at);
-    let structural_slots = index(text, at);
-    let r = denimrasp::denimrasp_dense_block_value_padding_ratio(
-        dense_value_slots,
-        structural_slots,
-    );
-    refusal(0, 0, 0);
-    float(r);
-}
-
-fn dense_block_metadata_bytes(text: &[u8], at: &mut usize) {
-    let block_rows = index(text, at);
-    let unique_blocks = index(text, at);
-    let r = denimrasp::denimrasp_dense_block_metadata_bytes(block_rows, unique_blocks);
-    refusal(0, 0, 0);
-    size(r);
-}
-
-fn dense_block_storage_bytes(text: &[u8], at: &mut usize) {
-    let block_rows = index(text, at);
-    let unique_blocks = index(text, at);
-    let dense_value_slots = index(text, at);
-    let r = denimrasp::denimrasp_dense_block_storage_bytes(
-        block_rows,
-        unique_blocks,
-        dense_value_slots,
-    );
-    refusal(0, 0, 0);
-    size(r);
+    let t = thresholds(text, at);
+    verdict(denimrasp::denimrasp_abtm_validate(t.sparse_max_nnz, t.dense_min_nnz));
 }
 
 // The calls from here on are those of the crates below that the C interface doesn't export.
@@ -1674,19 +2174,10 @@ fn word_call(call: u64, text: &[u8], at: &mut usize) {
     number(word_answer(call, a, b));
 }
 
-fn mask_is_member(text: &[u8], at: &mut usize) {
-    let mut words_room = [0u64; MASK_ROOM];
-    let len = index(text, at);
-    let words = read_u64(text, at, &mut words_room);
-    let index = index(text, at);
-    refusal(0, 0, 0);
-    truth(mask::is_member(len, words, index));
-}
-
 fn csr32_pointers(text: &[u8], at: &mut usize) {
     let mut row_ptr_room = [0u32; ROOM];
     let nrows = index(text, at);
-    let row_ptr = read_u32(text, at, &mut row_ptr_room);
+    let row_ptr = list_u32(text, at, &mut row_ptr_room);
     let left = index(text, at);
     let right = index(text, at);
     refusal(0, 0, 0);
@@ -1696,9 +2187,16 @@ fn csr32_pointers(text: &[u8], at: &mut usize) {
 
 fn csr32_all_finite(text: &[u8], at: &mut usize) {
     let mut values_room = [0.0f64; ROOM];
-    let values = read_f64(text, at, &mut values_room);
+    let values = list_f64(text, at, &mut values_room);
     refusal(0, 0, 0);
     truth(csr32::all_finite(values));
+}
+
+fn topology_count_bits(text: &[u8], at: &mut usize) {
+    let mut masks_room = [0u64; ROOM];
+    let masks = list_u64(text, at, &mut masks_room);
+    refusal(0, 0, 0);
+    size(topology::count_bits(masks));
 }
 
 fn topology_word(text: &[u8], at: &mut usize) {
@@ -1715,122 +2213,31 @@ fn topology_word(text: &[u8], at: &mut usize) {
     truth(w.contains_offset(n));
 }
 
-fn topology_count_bits(text: &[u8], at: &mut usize) {
-    let mut masks_room = [0u64; ROOM];
-    let masks = read_u64(text, at, &mut masks_room);
-    refusal(0, 0, 0);
-    size(topology::count_bits(masks));
-}
-
+// The lists past that many rows and words.
 fn topology_clear_past(text: &[u8], at: &mut usize) {
-    let mut row_word_ptr_room = [0u32; ROOM];
-    let mut word_indices_room = [0u32; ROOM];
+    let mut ptr_room = [0u32; ROOM];
+    let mut words_room = [0u32; ROOM];
     let mut masks_room = [0u64; ROOM];
     let rows = index(text, at);
-    let words = index(text, at);
-    let row_word_ptr = read_u32(text, at, &mut row_word_ptr_room);
-    let word_indices = read_u32(text, at, &mut word_indices_room);
+    let used = index(text, at);
+    let ptr = read_u32(text, at, &mut ptr_room);
+    let words = read_u32(text, at, &mut words_room);
     let masks = read_u64(text, at, &mut masks_room);
-    topology::clear_past(rows, words, row_word_ptr, word_indices, masks);
+    topology::clear_past(rows, used, ptr, words, masks);
     refusal(0, 0, 0);
-    show_u32(row_word_ptr);
-    show_u32(word_indices);
-    show_u64(masks);
-}
-
-fn topology_check_lists(text: &[u8], at: &mut usize) {
-    let mut row_word_ptr_room = [0u32; ROOM];
-    let mut word_indices_room = [0u32; ROOM];
-    let mut masks_room = [0u64; ROOM];
-    let nrows = index(text, at);
-    let ncols = index(text, at);
-    let row_word_ptr = read_u32(text, at, &mut row_word_ptr_room);
-    let word_indices = read_u32(text, at, &mut word_indices_room);
-    let masks = read_u64(text, at, &mut masks_room);
-    let r = topology::check_lists(nrows, ncols, row_word_ptr, word_indices, masks);
-    verdict(denimrasp_answers::verdict(r));
-}
-
-fn topology_row_numbers(text: &[u8], at: &mut usize) {
-    let mut row_word_ptr_room = [0u32; ROOM];
-    let mut word_indices_room = [0u32; ROOM];
-    let mut masks_room = [0u64; ROOM];
-    let nrows = index(text, at);
-    let ncols = index(text, at);
-    let ptr = read_u32(text, at, &mut row_word_ptr_room);
-    let words = read_u32(text, at, &mut word_indices_room);
-    let masks = read_u64(text, at, &mut masks_room);
-    let nnz = index(text, at);
-    let row = index(text, at);
-    let mut n: u32 = 99;
-    let part = topology_rows::row_word_indices(nrows, ncols, ptr, words, masks, nnz, row, &mut n);
-    refusal(n, 0, 0);
-    show_u32(part);
-}
-
-fn topology_row_masks(text: &[u8], at: &mut usize) {
-    let mut row_word_ptr_room = [0u32; ROOM];
-    let mut word_indices_room = [0u32; ROOM];
-    let mut masks_room = [0u64; ROOM];
-    let nrows = index(text, at);
-    let ncols = index(text, at);
-    let ptr = read_u32(text, at, &mut row_word_ptr_room);
-    let words = read_u32(text, at, &mut word_indices_room);
-    let masks = read_u64(text, at, &mut masks_room);
-    let nnz = index(text, at);
-    let row = index(text, at);
-    let mut n: u32 = 99;
-    let part = topology_rows::row_masks(nrows, ncols, ptr, words, masks, nnz, row, &mut n);
-    refusal(n, 0, 0);
-    show_u64(part);
-}
-
-fn metadata_first_row_part(text: &[u8], at: &mut usize) {
-    let mut row_word_ptr_room = [0u32; ROOM];
-    let mut word_indices_room = [0u32; ROOM];
-    let mut masks_room = [0u64; ROOM];
-    let mut row_value_ptr_room = [0u32; ROOM];
-    let mut values_room = [0.0f64; ROOM];
-    let nrows = index(text, at);
-    let ncols = index(text, at);
-    let ptr = read_u32(text, at, &mut row_word_ptr_room);
-    let words = read_u32(text, at, &mut word_indices_room);
-    let masks = read_u64(text, at, &mut masks_room);
-    let nnz = index(text, at);
-    let value_ptr = read_u32(text, at, &mut row_value_ptr_room);
-    let values = read_f64(text, at, &mut values_room);
-    let row = index(text, at);
-    let mut n: u32 = 99;
-    let part = metadata_first::row_values(
-        nrows,
-        ncols,
-        ptr,
-        words,
-        masks,
-        nnz,
-        value_ptr,
-        values,
-        row,
-        &mut n,
-    );
-    refusal(n, 0, 0);
-    show_f64(part);
+    show_words(ptr, words, masks);
 }
 
 // The counts and ratios of a row dot's report.
 fn metadata_first_report(text: &[u8], at: &mut usize) {
-    let candidate_products = index(text, at);
-    let executed_products = index(text, at);
-    let skipped_products = index(text, at);
-    let topology_words = index(text, at);
-    let active_words = index(text, at);
+    let a = counts(text, at);
     let report = AbtmRowDot {
         sum: 0.5,
-        candidate_products,
-        executed_products,
-        skipped_products,
-        topology_words,
-        active_words,
+        candidate_products: a.candidate_products,
+        executed_products: a.executed_products,
+        skipped_products: a.skipped_products,
+        topology_words: a.topology_words,
+        active_words: a.active_words,
     };
     let c = report.counts();
     refusal(0, 0, 0);
@@ -1843,95 +2250,25 @@ fn metadata_first_report(text: &[u8], at: &mut usize) {
     float(report.empty_word_ratio());
 }
 
-// The row's part of the masks, of the offsets or of the metas.
-fn tile_part(call: u64, text: &[u8], at: &mut usize) {
-    let mut row_tile_ptr_room = [0u32; ROOM];
-    let mut masks_room = [0u64; ROOM];
-    let mut value_offsets_room = [0u32; ROOM];
-    let mut metas_room = [0u32; ROOM];
-    let mut values_room = [0.0f64; ROOM];
-    let nrows = index(text, at);
-    let ncols = index(text, at);
-    let ptr = read_u32(text, at, &mut row_tile_ptr_room);
-    let masks = read_u64(text, at, &mut masks_room);
-    let offsets = read_u32(text, at, &mut value_offsets_room);
-    let metas = read_u32(text, at, &mut metas_room);
-    let values = read_f64(text, at, &mut values_room);
-    let nnz = index(text, at);
-    let row = index(text, at);
-    let mut n: u32 = 99;
-    match call {
-        251 => {
-            let part = abtm_rows::row_tile_masks(
-                nrows,
-                ncols,
-                ptr,
-                masks,
-                offsets,
-                metas,
-                values,
-                nnz,
-                row,
-                &mut n,
-            );
-            refusal(n, 0, 0);
-            show_u64(part);
-        }
-        252 => {
-            let part = abtm_rows::row_tile_value_offsets(
-                nrows,
-                ncols,
-                ptr,
-                masks,
-                offsets,
-                metas,
-                values,
-                nnz,
-                row,
-                &mut n,
-            );
-            refusal(n, 0, 0);
-            show_u32(part);
-        }
-        _ => {
-            let part = abtm_rows::row_tile_metas(
-                nrows,
-                ncols,
-                ptr,
-                masks,
-                offsets,
-                metas,
-                values,
-                nnz,
-                row,
-                &mut n,
-            );
-            refusal(n, 0, 0);
-            show_u32(part);
-        }
-    }
-}
-
 fn tile_value(text: &[u8], at: &mut usize) {
     let meta = hybit_core::narrow(index(text, at));
     let mask = numeral(text, at);
-    let sparse_max_nnz = byte(text, at);
-    let dense_min_nnz = byte(text, at);
+    let thresholds = thresholds(text, at);
     let nnz = index(text, at);
     let x = float_of(numeral(text, at));
-    let thresholds = AbtmConfig {
-        sparse_max_nnz,
-        dense_min_nnz,
-    };
-    let default = abtm::default_config();
     refusal(0, 0, 0);
     size(hybit_core::wide(abtm::word_in(meta)));
     size(hybit_core::wide(abtm::kind_in(meta)));
     size(abtm::slot_count(mask, meta));
     size(hybit_core::wide(thresholds.kind_of(nnz)));
+    default_thresholds();
+    truth(abtm::is_zero(x));
+}
+
+fn default_thresholds() {
+    let default = abtm::default_config();
     number(default.sparse_max_nnz as u64);
     number(default.dense_min_nnz as u64);
-    truth(abtm::is_zero(x));
 }
 
 fn restriction_figures(text: &[u8], at: &mut usize) {
@@ -2007,158 +2344,7 @@ fn block_figures(text: &[u8], at: &mut usize) {
     size(s.storage_bytes());
 }
 
-fn block_slots(text: &[u8], at: &mut usize) {
-    let mut row_ptr_room = [0u32; ROOM];
-    let mut col_idx_room = [0u32; ROOM];
-    let mut values_room = [0.0f64; ROOM];
-    let nrows = index(text, at);
-    let ncols = index(text, at);
-    let row_ptr = read_u32(text, at, &mut row_ptr_room);
-    let col_idx = read_u32(text, at, &mut col_idx_room);
-    let values = read_f64(text, at, &mut values_room);
-    count(denimrasp_answers::count(dense_block_counts::structural_slots(
-        nrows,
-        ncols,
-        row_ptr,
-        col_idx,
-        values,
-    )));
-}
-
-fn block_columns(text: &[u8], at: &mut usize) {
-    let mut row_ptr_room = [0u32; ROOM];
-    let mut col_idx_room = [0u32; ROOM];
-    let mut values_room = [0.0f64; ROOM];
-    let mut out_row_ptr_room = [0u32; ROOM];
-    let mut out_col_idx_room = [0u32; ROOM];
-    let nrows = index(text, at);
-    let ncols = index(text, at);
-    let row_ptr = read_u32(text, at, &mut row_ptr_room);
-    let col_idx = read_u32(text, at, &mut col_idx_room);
-    let values = read_f64(text, at, &mut values_room);
-    let six = numeral(text, at) != 0;
-    let out_row_ptr = read_u32(text, at, &mut out_row_ptr_room);
-    let out_col_idx = read_u32(text, at, &mut out_col_idx_room);
-    let r = dense_block_columns::from_csr32(
-        nrows,
-        ncols,
-        row_ptr,
-        col_idx,
-        values,
-        denimrasp_answers::block_size(six),
-        out_row_ptr,
-        out_col_idx,
-    );
-    count(denimrasp_answers::count(r));
-    show_u32(out_row_ptr);
-    show_u32(out_col_idx);
-}
-
-fn mask_calls(call: u64, text: &[u8], at: &mut usize) {
-    match call {
-        1 => mask_contains(text, at),
-        4 => mask_new(text, at),
-        5 => mask_from_indices(text, at),
-        6 => mask_set(text, at),
-        7 => mask_or_word(text, at),
-        8 => mask_indices(text, at),
-        _ => mask_records(call, text, at),
-    }
-}
-
-fn mask_records(call: u64, text: &[u8], at: &mut usize) {
-    if call < 9 {
-        mask_question(call, text, at);
-    } else {
-        mask_pair(call, text, at);
-    }
-}
-
-fn csr32_calls(call: u64, text: &[u8], at: &mut usize) {
-    match call {
-        14 => csr32_apply(text, at),
-        _ => csr32_question(call, text, at),
-    }
-}
-
-fn topology_calls(call: u64, text: &[u8], at: &mut usize) {
-    if call == 18 {
-        topology_from_csr32(text, at);
-    } else if call == 17 || call == 25 {
-        topology_question(call, text, at);
-    } else if call < 22 {
-        topology_row(call, text, at);
-    } else if call < 25 {
-        topology_row_place(call, text, at);
-    } else {
-        topology_operation(call, text, at);
-    }
-}
-
-fn metadata_first_calls(call: u64, text: &[u8], at: &mut usize) {
-    match call {
-        31 => csr32_question(call, text, at),
-        32 => metadata_first_from_csr32(text, at),
-        33 => metadata_first_row_values(text, at),
-        35 => metadata_first_sparse_dot_row(text, at),
-        36 => metadata_first_sparse_dot_rows(text, at),
-        _ => metadata_first_question(call, text, at),
-    }
-}
-
-fn value_calls(call: u64, text: &[u8], at: &mut usize) {
-    match call {
-        37 => word_base_col(text, at),
-        38 => word_popcount(text, at),
-        39 => word_place(call, text, at),
-        40 => word_place(call, text, at),
-        41 => word_place(call, text, at),
-        47 => metadata_first_total_estimated_bytes(text, at),
-        48 => metadata_first_accumulate(text, at),
-        _ => ratio(call, text, at),
-    }
-}
-
-fn tile_calls(call: u64, text: &[u8], at: &mut usize) {
-    match call {
-        49 => abtm_validate(text, at),
-        51 => abtm_from_csr32(text, at),
-        52 => abtm_tile_kind(text, at),
-        53 => abtm_tile_base_col(text, at),
-        56 => abtm_metadata_bytes_per_nnz(text, at),
-        57 => abtm_total_estimated_bytes(text, at),
-        58 => abtm_apply(text, at),
-        59 => abtm_expand_mask_one_hop(text, at),
-        _ => tile_question(call, text, at),
-    }
-}
-
-fn restricted_calls(call: u64, text: &[u8], at: &mut usize) {
-    match call {
-        60 => restricted_from_csr32(text, at),
-        61 => restricted_from_abtm(text, at),
-        62 => restricted_retained_fraction(text, at),
-        63 => restricted_storage_bytes(text, at),
-        64 => local_from_csr32(text, at),
-        65 => local_check(text, at),
-        66 => local_gather_input(text, at),
-        67 => local_boundary_pruning_ratio(text, at),
-        _ => local_storage_bytes(text, at),
-    }
-}
-
-fn dense_block_calls(call: u64, text: &[u8], at: &mut usize) {
-    match call {
-        69 => dense_block_from_csr32(text, at),
-        71 => dense_block_apply(text, at),
-        73 => dense_block_block_fill(text, at),
-        74 => dense_block_value_padding_ratio(text, at),
-        75 => dense_block_metadata_bytes(text, at),
-        76 => dense_block_storage_bytes(text, at),
-        _ => dense_block_question(call, text, at),
-    }
-}
-
+// The calls of refusals and numbers.
 fn core_calls(call: u64, text: &[u8], at: &mut usize) {
     match call {
         200 => core_refusal(text, at),
@@ -2166,7 +2352,24 @@ fn core_calls(call: u64, text: &[u8], at: &mut usize) {
         202 => core_counts(text, at),
         203 => core_is_finite(text, at),
         204 => core_narrow(text, at),
-        205 => core_saturating(text, at),
+        _ => core_saturating(text, at),
+    }
+}
+
+// The calls of lists that stand alone.
+fn list_calls(call: u64, text: &[u8], at: &mut usize) {
+    match call {
+        65 => local_check(text, at),
+        66 => local_gather_input(text, at),
+        241 => csr32_pointers(text, at),
+        242 => csr32_all_finite(text, at),
+        243 => topology_count_bits(text, at),
+        _ => topology_clear_past(text, at),
+    }
+}
+
+fn clear_calls(call: u64, text: &[u8], at: &mut usize) {
+    match call {
         210 => clear_from_u32(text, at),
         211 => clear_from_u64(text, at),
         212 => clear_from_usize(text, at),
@@ -2174,61 +2377,67 @@ fn core_calls(call: u64, text: &[u8], at: &mut usize) {
     }
 }
 
-fn record_calls(call: u64, text: &[u8], at: &mut usize) {
+// The calls that are handed numbers alone, and in the crates below what clears a list.
+fn number_calls(first: u8, call: u64, text: &[u8], at: &mut usize) {
+    match first {
+        b'v' => value(call, text, at),
+        b'o' => word_place(call, text, at),
+        b'r' => ratio(call, text, at),
+        b's' => bytes(call, text, at),
+        b'a' => metadata_first_accumulate(text, at),
+        b'h' => abtm_validate(text, at),
+        b'k' => abtm_tile_kind(text, at),
+        b'c' => core_calls(call, text, at),
+        b'z' => clear_calls(call, text, at),
+        b'd' => word_call(call, text, at),
+        _ => struct_calls(call, text, at),
+    }
+}
+
+// The calls of structs by value.
+fn struct_calls(call: u64, text: &[u8], at: &mut usize) {
     match call {
-        240 => mask_is_member(text, at),
-        241 => csr32_pointers(text, at),
-        242 => csr32_all_finite(text, at),
-        243 => topology_count_bits(text, at),
-        244 => topology_clear_past(text, at),
-        245 => topology_check_lists(text, at),
-        246 => topology_row_numbers(text, at),
-        247 => topology_row_masks(text, at),
-        248 => metadata_first_row_part(text, at),
         249 => metadata_first_report(text, at),
         250 => topology_word(text, at),
         254 => tile_value(text, at),
         255 => restriction_figures(text, at),
         256 => region_figures(text, at),
         257 => block_size(text, at),
-        258 => block_figures(text, at),
-        259 => block_slots(text, at),
-        260 => block_columns(text, at),
-        _ => tile_part(call, text, at),
+        _ => block_figures(text, at),
     }
 }
 
-// The calls of the crates below.
-fn below_calls(call: u64, text: &[u8], at: &mut usize) {
-    if call < 220 {
-        core_calls(call, text, at);
-    } else if call < 240 {
-        word_call(call, text, at);
-    } else {
-        record_calls(call, text, at);
+// A letter for what a call is handed first, by its number: m a mask, i indices, p a plot list, w words, t tiles, b blocks, l a list
+// that stands alone; the others are those of number_calls. A match on the numbers would test their ranges one by one in a function
+// that holds the text, which costs the proof more.
+fn first_of(call: u64) -> u8 {
+    let c = b"mmmmmimmmmmmmppppwpwwwwwwwwwwwwppwwwwvvooorrrrrsahtpkvttrsttptrspllrspbbbrrss";
+    let below = b"cccccc----zzzz------dddddddddddddd------mllllwwwwfftttfffffpp";
+    let i = call as usize;
+    if i < 77 {
+        return c[i];
     }
+    if i < 200 {
+        return 45;
+    }
+    if i < 261 {
+        return below[i - 200];
+    }
+    45
 }
 
 // One call, and what came of it.
 fn replay(call: u64, text: &[u8], at: &mut usize) {
-    if call >= 200 {
-        below_calls(call, text, at);
-    } else if call < 13 {
-        mask_calls(call, text, at);
-    } else if call < 17 {
-        csr32_calls(call, text, at);
-    } else if call < 30 {
-        topology_calls(call, text, at);
-    } else if call < 37 {
-        metadata_first_calls(call, text, at);
-    } else if call < 49 {
-        value_calls(call, text, at);
-    } else if call < 60 {
-        tile_calls(call, text, at);
-    } else if call < 69 {
-        restricted_calls(call, text, at);
-    } else {
-        dense_block_calls(call, text, at);
+    let first = first_of(call);
+    match first {
+        b'm' => mask_calls(call, text, at),
+        b'i' => mask_from_indices(text, at),
+        b'p' => csr32_calls(call, text, at),
+        b'w' => words_calls(call, text, at),
+        b't' => tile_calls(call, text, at),
+        b'b' => block_calls(call, text, at),
+        b'l' => list_calls(call, text, at),
+        _ => number_calls(first, call, text, at),
     }
 }
 

@@ -7,13 +7,13 @@ use Prim.Native.Nat.{ℕ, _+_, _-_, _≤_, _<_}
 use native.Mathlib.Nat.{le-refl}
 use native.Mathlib.Omega.{arith}
 use lib.Dec.{leb, eqb}
-use lib.ListN.{length, getD, take, drop, length-append, length-drop, take-append-drop, drop-of-length-le}
-use lib.Seq.{slice, length-slice, length-take-le, drop-drop, take-all}
+use lib.ListN.{length, getD, take, drop, length-append, length-drop, drop-of-length-le}
+use lib.Seq.{slice, length-slice, length-take-le, take-all}
 use lib.Ieee.{Float, nan}
 use borrow.Author.Tests.{eqb-true, eqb-false, eq-eqb}
 use Rattle.hybit_core.proofs.BoolLaws.{and-left, and-right, and-both, and-first, same-test, not-both}
 use Rattle.lent.specs.Lists.{only, every}
-use Rattle.lent.proofs.ListLaws.{only-append, length-only, slice-lent}
+use Rattle.lent.proofs.ListLaws.{only-append, length-only, slice-lent, drop-apart, drop-rest}
 use Rattle.word.specs.Bits.{has, below, count, members}
 use Rattle.word.proofs.OpLaws.{members-count}
 use Rattle.topology.specs.Words.{setBits}
@@ -92,6 +92,18 @@ module _ (mask meta : ℕ) (vs : List Float) (same : length vs ≡ length (place
       go true d = of-absent (has mask) bySolid byPlus (dense-rule mask meta vs same (kindIn meta) refl (eqb-true (kindIn meta) 2 d) ∙ e)
       go false d = refl
 
+-- ---- values that are neither NaN nor zero, counted part after part
+
+pub solids-apart : (vals : List Float) (a b : ℕ) → a ≤ b → length (only solid (drop a vals)) ≡ length (only solid (take (b - a) (drop a vals))) + length (only solid (drop b vals))
+solids-apart vals a b h =
+    ap (λ (t : List Float). length (only solid t)) (drop-apart a b vals h)
+    ∙ ap length (only-append solid (take (b - a) (drop a vals)) (drop b vals))
+    ∙ length-append (only solid (take (b - a) (drop a vals))) (only solid (drop b vals))
+
+-- n of them before place a, and those of the last part
+pub solids-rest : (vals : List Float) (a n m : ℕ) → length (only solid vals) ≡ n + length (only solid (drop a vals)) → m ≡ length (only solid (take (length vals - a) (drop a vals))) → n + m ≡ length (only solid vals)
+solids-rest vals a n m e f = sym (e ∙ ap (λ (k : ℕ). n + k) (sym (f ∙ ap (λ (t : List Float). length (only solid t)) (drop-rest a vals))))
+
 -- ---- all tiles
 
 abbrev pub valuesOf : List Float → Listed → Bool
@@ -118,11 +130,8 @@ module _ (vals : List Float) where
     solids : length (only solid (drop k vals)) ≡ length (only solid its) + length (only solid (drop (k + length (places m x)) vals))
     solids =
         let n : ℕ = length (places m x) in
-        let some : n ≡ k + n - k = omega arith in
-        let front : take n (drop k vals) ≡ its = ap (λ (j : ℕ). take j (drop k vals)) some ∙ slice-lent k (k + n) vals ∙ ap (λ (j : ℕ). slice j (j + n) vals) (sym at) in
-        ap (λ (t : List Float). length (only solid t)) (sym (take-append-drop n (drop k vals)) ∙ ap₂ (λ (a b : List Float). a ++ b) front (drop-drop n k vals))
-        ∙ ap length (only-append solid its (drop (k + n) vals))
-        ∙ length-append (only solid its) (only solid (drop (k + n) vals))
+        let front : take (k + n - k) (drop k vals) ≡ its = slice-lent k (k + n) vals ∙ ap (λ (j : ℕ). slice j (j + n) vals) (sym at) in
+        solids-apart vals k (k + n) (omega arith) ∙ ap (λ (t : List Float). length (only solid t) + length (only solid (drop (k + n) vals))) front
 
   all-counts : (k : ℕ) (ms os ks : List ℕ) → length os ≡ length ms → length ks ≡ length ms → gapless k (length vals) (zip ms (zip os ks)) ≡ true → every (absentOf vals) (zip ms (zip os ks)) ≡ true
       → Counts (length (only solid (drop k vals))) (setBits ms) (every (valuesOf vals) (zip ms (zip os ks)))

@@ -5,7 +5,7 @@ ghost use mathlib.Core.List.{map, zip};
 ghost use mir.Val.{boolByte};
 ghost use Prim.Native.Nat.{_+_, _≤_, _<_, _^_};
 ghost use lib.Dec.{leb, ltb, eqb};
-ghost use lib.ListN.{length, getD};
+ghost use lib.ListN.{length, getD, drop};
 ghost use lib.Ieee.{nan};
 ghost use Rattle.hybit_core.specs.Table.{told};
 ghost use Rattle.lent.specs.Lists.{part, every, only, climbs};
@@ -162,8 +162,30 @@ fn kinds_hold(metas: &[u32]) -> bool
     holds
 }
 
+// How many of the first `upto` values are neither NaN nor zero.
+struct Counted {
+    upto: usize,
+    solid: usize,
+}
+
+// The count up to place `end` at least: some 32,000 values more, where it has not come as far.
+fn count_ahead(values: &[f64], done: Counted, end: usize) -> Counted
+    requires { ⌜ (done .upto ≤ length (now values)) × (end ≤ length (now values)) ⌝ ∗ ⌜ length (only solid (now values)) ≡ done .solid + length (only solid (drop (done .upto) (now values))) ⌝ }
+    ensures { λ c. ⌜ (c .upto ≤ length (now (values .entry))) × (length (only solid (now (values .entry))) ≡ c .solid + length (only solid (drop (c .upto) (now (values .entry))))) ⌝ }
+{
+    let from = done.upto;
+    if end <= from {
+        return done;
+    }
+    let to = hybit_core::smaller(end + 32704, values.len());
+    Counted {
+        upto: to,
+        solid: done.solid + count_solid(&values[from..to]),
+    }
+}
+
 // The rule of each value. Where the absent places of Dense tiles hold +0.0, the present ones of all tiles hold neither NaN nor zero
-// exactly if as many values as there are present places hold neither.
+// exactly if as many values as there are present places hold neither. The count goes ahead of the walk by what the cache holds.
 fn values_hold(
     masks: &[u64],
     value_offsets: &[u32],
@@ -174,18 +196,23 @@ fn values_hold(
     requires { ⌜ (length (now «value_offsets») ≡ length (now masks)) × (length (now metas) ≡ length (now masks)) ⌝ ∗ ⌜ gapless 0 (length (now values)) (zip (now masks) (zip (now «value_offsets») (now metas))) ≡ true ⌝ ∗ ⌜ «matrix_nnz» ≡ setBits (now masks) ⌝ }
     ensures { λ r. ⌜ r ≡ every (λ (e : Listed). every (valueRule (e .0)) (stored (tileAt (now (values .entry)) e))) (zip (now (masks .entry)) (zip (now («value_offsets» .entry)) (now (metas .entry)))) ⌝ }
 {
+    let mut upto: usize = 0;
+    let mut solid: usize = 0;
     let mut next: usize = 0;
     while next < masks.len() {
         let i = next;
         next += 1;
         if abtm::kind_in(metas[i]) == 2 {
             let at = hybit_core::wide(value_offsets[i]);
+            let c = count_ahead(values, Counted { upto, solid }, at + 64);
+            upto = c.upto;
+            solid = c.solid;
             if !absent_hold(masks[i], &values[at..at + 64]) {
                 return false;
             }
         }
     }
-    count_solid(values) == matrix_nnz
+    solid + count_solid(&values[upto..]) == matrix_nnz
 }
 
 // The two tests below run to the end, without a branch on what they find.

@@ -69,14 +69,39 @@ next-is h s k r m x o p next es ek ep er = er ∙ ap₂ (λ (b : Bool) (l : ℕ)
 module _ (ms os ks : List ℕ) (n : ℕ) where
   -- the three tests of an accepted pass
   module _ (e : true ≡ ((every nonzero ms && every compactKind ks) && gapless 0 n (zip ms (zip os ks)))) where
-    pub pass-full : every nonzero ms ≡ true
+    pass-full : every nonzero ms ≡ true
     pass-full = sym (first-held (every nonzero ms) (every compactKind ks) (gapless 0 n (zip ms (zip os ks))) e)
 
-    pub pass-compact : true ≡ every compactKind ks
+    pass-compact : true ≡ every compactKind ks
     pass-compact = second-held (every nonzero ms) (every compactKind ks) (gapless 0 n (zip ms (zip os ks))) e
 
-    pub pass-gapless : true ≡ gapless 0 n (zip ms (zip os ks))
+    pass-gapless : true ≡ gapless 0 n (zip ms (zip os ks))
     pass-gapless = third-held (every nonzero ms) (every compactKind ks) (gapless 0 n (zip ms (zip os ks))) e
+
+  -- and of one of tiles whose total t is the number of values
+  module _ (t : ℕ) (e : true ≡ (eqb t n && ((every nonzero ms && every compactKind ks) && gapless 0 n (zip ms (zip os ks))))) where
+    abbrev three : Bool
+    three = (every nonzero ms && every compactKind ks) && gapless 0 n (zip ms (zip os ks))
+
+    pub total-is : t ≡ n
+    total-is = eqb-true t n (and-left (eqb t n) three (sym e))
+
+    pub total-full : every nonzero ms ≡ true
+    total-full = pass-full (sym (and-right (eqb t n) three (sym e)))
+
+    pub total-compact : true ≡ every compactKind ks
+    total-compact = pass-compact (sym (and-right (eqb t n) three (sym e)))
+
+    pub total-gapless : true ≡ gapless 0 n (zip ms (zip os ks))
+    total-gapless = pass-gapless (sym (and-right (eqb t n) three (sym e)))
+
+  -- the ends of that test: r is what the pass finds
+  pub total-wrong : (t : ℕ) → (t ≡ n → ⊥) → false ≡ (eqb t n && ((every nonzero ms && every compactKind ks) && gapless 0 n (zip ms (zip os ks))))
+  total-wrong t d = and-first (eqb t n) ((every nonzero ms && every compactKind ks) && gapless 0 n (zip ms (zip os ks))) (is-unequal t n d)
+
+  pub total-right : (t : ℕ) (r : Bool) → t ≡ n → r ≡ ((every nonzero ms && every compactKind ks) && gapless 0 n (zip ms (zip os ks)))
+      → r ≡ (eqb t n && ((every nonzero ms && every compactKind ks) && gapless 0 n (zip ms (zip os ks))))
+  total-right t r d e = and-next (eqb t n) ((every nonzero ms && every compactKind ks) && gapless 0 n (zip ms (zip os ks))) r (is-equal t n d) e
 
   pub compacting-empty : length ks ≡ length ms → length ms ≡ 0 → eqb n 0 ≡ ((every nonzero ms && every compactKind ks) && gapless 0 n (zip ms (zip os ks)))
   compacting-empty sk e = follow-empty ms os ks n e ∙ ap₂ (λ (a b : Bool). (a && b) && gapless 0 n (zip ms (zip os ks))) (none-left nonzero ms e) (none-left compactKind ks (sk ∙ e))
@@ -177,9 +202,6 @@ module _ (ms os ks : List ℕ) (so : length os ≡ length ms) (sk : length ks �
       tested (suc i) h =
           rw (sym (add-one i))
           (tested-compact ms os ks vals i (tested i (omega (arith, h))) (omega (arith, h)) (kindIn (getD ks i 0)) refl (not-dense (getD ks i 0) (every-getD compactKind ks i 0 (sym c) (omega (arith, sk, h)))))
-
-      pub compact-wrong : (t ≡ length vals → ⊥) → false ≡ (eqb t (setBits ms) && slotRules vals (zip ms (zip os ks)))
-      compact-wrong d = and-first (eqb t (setBits ms)) ruled (is-unequal t (setBits ms) (λ e. d (e ∙ sym same-count)))
 
       pub compact-right : t ≡ length vals → (n : ℕ) → n ≡ length (only solid vals) → eqb n t ≡ (eqb t (setBits ms) && slotRules vals (zip ms (zip os ks)))
       compact-right d n e =

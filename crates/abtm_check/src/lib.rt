@@ -367,6 +367,23 @@ fn compact_follow(masks: &[u64], value_offsets: &[u32], metas: &[u32], end: usiz
     also_next(holds, masks[last], value_offsets[last], metas[last], end)
 }
 
+// The same, of tiles with as many values as `matrix_nnz` alone: those of Dense tiles are more, and the pass is spared.
+fn all_compact(
+    masks: &[u64],
+    value_offsets: &[u32],
+    metas: &[u32],
+    places: usize,
+    matrix_nnz: usize,
+) -> bool
+    requires { ⌜ (length (now «value_offsets») ≡ length (now masks)) × (length (now metas) ≡ length (now masks)) ⌝ }
+    ensures { λ r. ⌜ r ≡ (eqb «matrix_nnz» places && ((every (λ m. not (eqb m 0)) (now (masks .entry)) && every (λ m. leb (kindIn m) 1) (now (metas .entry))) && gapless 0 places (zip (now (masks .entry)) (zip (now («value_offsets» .entry)) (now (metas .entry)))))) ⌝ }
+{
+    if matrix_nnz != places {
+        return false;
+    }
+    compact_follow(masks, value_offsets, metas, places)
+}
+
 // The rules of tiles of any kinds, one after the other.
 fn mixed_hold(
     nrows: usize,
@@ -419,7 +436,7 @@ fn rules_hold(
     if value_offsets.len() != metas.len() {
         return false;
     }
-    if !compact_follow(masks, value_offsets, metas, values.len()) {
+    if !all_compact(masks, value_offsets, metas, values.len(), matrix_nnz) {
         return mixed_hold(
             nrows,
             ncols,
@@ -432,9 +449,6 @@ fn rules_hold(
         );
     }
     if !rows_hold(nrows, ncols, row_tile_ptr, masks, metas) {
-        return false;
-    }
-    if matrix_nnz != values.len() {
         return false;
     }
     count_solid(values) == matrix_nnz

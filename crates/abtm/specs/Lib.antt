@@ -1,3 +1,2 @@
-pub mod Values
 pub mod Tiles
 pub mod Calls

@@ -14,7 +14,7 @@ use Rattle.word.specs.Bits.{has, below, count, members, maskOf, wordsOf}
 use Rattle.csr32.specs.Csr.{Entry}
 use Rattle.topology.specs.Words.{Words, asWords, wordRules}
 use Rattle.abtm.specs.declared.AbtmConfig.{AbtmConfig}
-use Rattle.abtm.specs.Values.{solid, plusZero}
+use Rattle.abtm_values.specs.Values.{solid, plusZero}
 
 -- ---- one tile
 

@@ -1,11 +1,10 @@
-// abtm.rs: a tile by value, `AbtmConfig` with its thresholds, zeros. The check of tiles is the crate abtm_check, the parts of a
-// row and the figures are abtm_rows, the build from a plot list is abtm_build, the product abtm_apply, the expansion of a mask
-// abtm_expand.
+// abtm.rs: a tile by value, `AbtmConfig` with its thresholds. What its values may be is the crate abtm_values, the check of tiles
+// abtm_check, the parts of a row and the figures are abtm_rows, the build from a plot list is abtm_build, the product abtm_apply, the
+// expansion of a mask abtm_expand.
 ghost use mathlib.Core.Path.{_≡_};
 ghost use Prim.Native.Nat.{_*_};
 ghost use lib.ListN.{length};
 ghost use Rattle.hybit_core.specs.Table.{told};
-ghost use Rattle.abtm.specs.Values.{isZero};
 ghost use Rattle.abtm.specs.Tiles.{wordIn, kindIn, places, kindOf};
 ghost use Rattle.abtm.specs.Calls.{thresholdAnswer, toldKind, kindAnswer};
 use hybit_core::HybitError;
@@ -122,11 +121,4 @@ impl AbtmConfig {
         }
         1
     }
-}
-
-// A zero of either sign.
-pub fn is_zero(v: f64) -> bool
-    ensures { λ r. ⌜ r ≡ isZero v ⌝ }
-{
-    v == 0.0
 }

@@ -30,7 +30,7 @@ use Rattle.csr32.proofs.CsrLaws.{Valid, valid}
 use Rattle.topology.specs.Words.{setBits}
 use Rattle.topology.proofs.TopologyLaws.{row-bits}
 use Rattle.abtm.specs.declared.AbtmConfig.{AbtmConfig}
-use Rattle.abtm.specs.Values.{isZero, mergedNonzero}
+use Rattle.abtm_values.specs.Values.{isZero, mergedNonzero}
 use Rattle.abtm.specs.Tiles.{Tile, Tiles, tileOf, rowTilesOf, masksOf, slotsOf, tilesOf}
 use Rattle.abtm.specs.Calls.{thresholdAnswer}
 use Rattle.abtm.proofs.PlaceLaws.{laid-long}

@@ -13,7 +13,7 @@ use Rattle.word.specs.Bits.{below, within}
 use Rattle.csr32.specs.Csr.{Csr, Entry, csrAnswer, entries}
 use Rattle.csr32.proofs.CsrLaws.{Valid, valid, row-values}
 use Rattle.abtm.specs.declared.AbtmConfig.{AbtmConfig}
-use Rattle.abtm.specs.Values.{isZero, mergedNonzero}
+use Rattle.abtm_values.specs.Values.{isZero, mergedNonzero}
 use Rattle.abtm.specs.Tiles.{tilesAnswer, inTiles, tileEntries}
 use Rattle.abtm_check.proofs.RecordLaws.{tiles-accepted, entries-of-tiles, in-tiles}
 use Rattle.abtm_build.specs.Build.{tilesFrom}

@@ -19,7 +19,7 @@ use Rattle.word.proofs.OpLaws.{word-cong}
 use Rattle.topology.proofs.ScanLaws.{bits-one}
 use Rattle.topology.proofs.CallLaws.{bits-le}
 use Rattle.abtm.specs.declared.AbtmConfig.{AbtmConfig}
-use Rattle.abtm.specs.Values.{isZero}
+use Rattle.abtm_values.specs.Values.{isZero}
 use Rattle.abtm.specs.Tiles.{Tile, placesOf, places, kindOf, metaOf, tileOf, laid, masksOf}
 use Rattle.abtm_build.specs.declared.Cursor.{Cursor}
 use Rattle.abtm_build.specs.Window.{maskAt, hitAt, tilesBetween, windowValue, Marked}

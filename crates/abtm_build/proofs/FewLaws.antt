@@ -20,9 +20,9 @@ use Rattle.csr32.proofs.CsrLaws.{Valid}
 use Rattle.csr32.proofs.FrameLaws.{Framed, parts-all}
 use Rattle.csr32.proofs.MergedLaws.{merged-absent}
 use Rattle.abtm.specs.declared.AbtmConfig.{AbtmConfig}
-use Rattle.abtm.specs.Values.{isZero, mergedNonzero}
+use Rattle.abtm_values.specs.Values.{isZero, mergedNonzero}
 use Rattle.abtm.specs.Tiles.{Tile, rowTilesOf, tileOf, slotsOf}
-use Rattle.abtm.proofs.ZeroLaws.{zero-is-zero}
+use Rattle.abtm_values.proofs.ZeroLaws.{zero-is-zero}
 use Rattle.abtm_build.specs.Written.{rowOf}
 use Rattle.abtm_build.proofs.RowsLaws.{slots-few}
 

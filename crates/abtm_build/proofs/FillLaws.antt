@@ -18,7 +18,7 @@ use Rattle.csr32.specs.Window.{Outside}
 use Rattle.csr32.proofs.CsrLaws.{present-columns}
 use Rattle.csr32.proofs.MergedLaws.{merged-absent}
 use Rattle.abtm.specs.declared.AbtmConfig.{AbtmConfig}
-use Rattle.abtm.specs.Values.{isZero, mergedNonzero}
+use Rattle.abtm_values.specs.Values.{isZero, mergedNonzero}
 use Rattle.abtm.specs.Tiles.{rowTilesOf}
 use Rattle.abtm_build.specs.declared.Cursor.{Cursor}
 use Rattle.abtm_build.specs.Window.{tilesBetween, windowValue, Sized, Next}

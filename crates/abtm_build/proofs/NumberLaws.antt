@@ -10,7 +10,7 @@ use Rattle.hybit_core.proofs.BoolLaws.{and-left, and-right}
 use Rattle.lent.specs.Lists.{only, every}
 use Rattle.lent.proofs.ListLaws.{every-only}
 use Rattle.csr32.specs.Csr.{Entry, ofColumn, merged}
-use Rattle.abtm.specs.Values.{isZero, solid, mergedNonzero}
+use Rattle.abtm_values.specs.Values.{isZero, solid, mergedNonzero}
 
 abbrev isNan : Float → Bool
 isNan nan = true

@@ -19,7 +19,7 @@ use Rattle.csr32.proofs.CsrLaws.{Valid}
 use Rattle.topology.specs.Words.{setBits}
 use Rattle.topology.proofs.CallLaws.{bits-le}
 use Rattle.abtm.specs.declared.AbtmConfig.{AbtmConfig}
-use Rattle.abtm.specs.Values.{isZero, mergedNonzero}
+use Rattle.abtm_values.specs.Values.{isZero, mergedNonzero}
 use Rattle.abtm.specs.Tiles.{Tile, placesOf, metaOf, tileOf, rowTilesOf, laid, masksOf, metasOf, offsetsOf, slotsOf}
 use Rattle.abtm.proofs.PlaceLaws.{places-few}
 use Rattle.abtm_build.specs.declared.Cursor.{Cursor}

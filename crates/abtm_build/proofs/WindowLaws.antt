@@ -15,7 +15,7 @@ use Rattle.lent.specs.Lists.{consIf, each, only}
 use Rattle.lent.proofs.ListLaws.{getD-each, each-set, each-cong, each-is, only-append}
 use Rattle.csr32.specs.Csr.{Entry, merged}
 use Rattle.csr32.proofs.MergedLaws.{addIf, merged-none, merged-snoc, firsts-all, zip-snoc}
-use Rattle.abtm.specs.Values.{isZero, mergedNonzero}
+use Rattle.abtm_values.specs.Values.{isZero, mergedNonzero}
 use Rattle.abtm_build.specs.Window.{Marked, Sized, Next}
 
 -- ---- sizes and marks

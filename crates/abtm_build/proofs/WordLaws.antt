@@ -17,7 +17,7 @@ use Rattle.word.specs.Bits.{has, below, members, wordOf}
 use Rattle.word.proofs.BelowLaws.{below-snoc, below-zero, map-below, all-places}
 use Rattle.word.proofs.WalkLaws.{Walking, walking-done}
 use Rattle.word.proofs.OpLaws.{has-word, word-cong}
-use Rattle.abtm.specs.Values.{isZero}
+use Rattle.abtm_values.specs.Values.{isZero}
 use Rattle.abtm.specs.Tiles.{placesOf}
 use Rattle.abtm.proofs.KindLaws.{dense-places, compact-places}
 

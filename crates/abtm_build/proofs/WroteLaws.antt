@@ -20,10 +20,10 @@ use Rattle.word.proofs.OpLaws.{word-cong}
 use Rattle.topology.specs.Words.{setBits}
 use Rattle.topology.proofs.ScanLaws.{bits-append}
 use Rattle.abtm.specs.declared.AbtmConfig.{AbtmConfig}
-use Rattle.abtm.specs.Values.{isZero}
+use Rattle.abtm_values.specs.Values.{isZero}
 use Rattle.abtm.specs.Tiles.{Tile, metaOf, tileOf, rowTilesOf, laid, masksOf, metasOf, offsetsOf, slotsOf}
 use Rattle.abtm.proofs.PlaceLaws.{map-places}
-use Rattle.abtm.proofs.ZeroLaws.{zero-is-zero}
+use Rattle.abtm_values.proofs.ZeroLaws.{zero-is-zero}
 use Rattle.abtm_build.specs.declared.Cursor.{Cursor}
 use Rattle.abtm_build.specs.Window.{maskAt, hitAt, tilesBetween}
 use Rattle.abtm_build.specs.Written.{Laid, Wrote}

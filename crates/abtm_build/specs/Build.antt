@@ -9,7 +9,7 @@ use Rattle.hybit_core.specs.Table.{paper}
 use Rattle.lent.specs.Lent.{handed}
 use Rattle.csr32.specs.Csr.{Csr, csrAnswer, entries}
 use Rattle.abtm.specs.declared.AbtmConfig.{AbtmConfig}
-use Rattle.abtm.specs.Values.{isZero, mergedNonzero}
+use Rattle.abtm_values.specs.Values.{isZero, mergedNonzero}
 use Rattle.abtm.specs.Tiles.{Tiles, tilesOf}
 use Rattle.abtm.specs.Calls.{thresholdAnswer}
 use Rattle.abtm_build.specs.declared.TilesAnswer.{TilesAnswer}

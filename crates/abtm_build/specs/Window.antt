@@ -11,7 +11,7 @@ use Rattle.hybit_core.specs.Floats.{zero64}
 use Rattle.word.specs.Bits.{between, wordOf}
 use Rattle.csr32.specs.Csr.{Entry}
 use Rattle.abtm.specs.declared.AbtmConfig.{AbtmConfig}
-use Rattle.abtm.specs.Values.{isZero, mergedNonzero}
+use Rattle.abtm_values.specs.Values.{isZero, mergedNonzero}
 use Rattle.abtm.specs.Tiles.{Tile, tileOf}
 
 -- the columns of word w whose value is not zero

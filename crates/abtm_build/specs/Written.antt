@@ -10,7 +10,7 @@ use Rattle.lent.specs.Lent.{Appended}
 use Rattle.csr32.specs.Csr.{Csr, entries}
 use Rattle.topology.specs.Words.{setBits}
 use Rattle.abtm.specs.declared.AbtmConfig.{AbtmConfig}
-use Rattle.abtm.specs.Values.{isZero, mergedNonzero}
+use Rattle.abtm_values.specs.Values.{isZero, mergedNonzero}
 use Rattle.abtm.specs.Tiles.{Tile, masksOf, metasOf, offsetsOf, slotsOf, rowTilesOf}
 use Rattle.abtm_build.specs.declared.Cursor.{Cursor}
 

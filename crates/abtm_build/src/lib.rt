@@ -17,7 +17,7 @@ ghost use Rattle.lent.specs.Lent.{Appended, padded, built};
 ghost use Rattle.word.specs.Bits.{has, below, members, wordOf};
 ghost use Rattle.csr32.specs.Csr.{asCsr, csrAnswer};
 ghost use Rattle.csr32.specs.Window.{Outside};
-ghost use Rattle.abtm.specs.Values.{isZero, mergedNonzero};
+ghost use Rattle.abtm_values.specs.Values.{isZero, mergedNonzero};
 ghost use Rattle.abtm.specs.Tiles.{placesOf, rowTilesOf};
 ghost use Rattle.abtm_build.specs.Build.{tilesFrom, asTileRoom, beforeAnswer, tileAnswer, usedTiles, toldTiles};
 ghost use Rattle.abtm_build.specs.Window.{tilesBetween, windowValue, Marked, Sized, Next};
@@ -78,7 +78,7 @@ fn gather(
         let c = hybit_core::wide(cols[k]);
         let v = vals[k];
         k += 1;
-        if !abtm::is_zero(v) {
+        if !abtm_values::is_zero(v) {
             if base <= c {
                 let i = c - base;
                 if i < width {
@@ -116,7 +116,7 @@ fn clear_window(cols: &[u32], base: usize, sums: &mut [f64], words: &mut [u64], 
 fn also_marked(mask: u64, i: usize, v: f64) -> u64
     ensures { λ r. ⌜ r ≡ cond (isZero v) mask (wordOf (λ j. has mask j || eqb j i)) ⌝ }
 {
-    if abtm::is_zero(v) {
+    if abtm_values::is_zero(v) {
         return mask;
     }
     word::with_bit(mask, i)
@@ -140,7 +140,7 @@ fn word_mask(sums: &[f64]) -> u64
 fn dense_value(v: f64) -> f64
     ensures { λ r. ⌜ r ≡ cond (not (isZero v)) v zero64 ⌝ }
 {
-    if abtm::is_zero(v) {
+    if abtm_values::is_zero(v) {
         return 0.0;
     }
     v

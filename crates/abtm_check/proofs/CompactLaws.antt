@@ -19,7 +19,7 @@ use Rattle.topology.specs.Words.{setBits}
 use Rattle.topology.proofs.ScanLaws.{bits-append, bits-one}
 use Rattle.topology.proofs.CallLaws.{bits-whole}
 use Rattle.topology.proofs.LastLaws.{nonzero}
-use Rattle.abtm.specs.Values.{solid}
+use Rattle.abtm_values.specs.Values.{solid}
 use Rattle.abtm.specs.Tiles.{kindIn, places, gapless, slotRules}
 use Rattle.abtm.proofs.KindLaws.{compact-places, compact-count}
 use Rattle.abtm_check.proofs.OffsetLaws.{Following, follow-empty, follow-none, follow-more, follow-done}

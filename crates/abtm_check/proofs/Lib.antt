@@ -1,6 +1,5 @@
 pub mod MetaLaws
 pub mod TilesLaws
-pub mod ValueLaws
 pub mod DenseLaws
 pub mod SlotLaws
 pub mod OffsetLaws

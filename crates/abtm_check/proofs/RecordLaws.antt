@@ -26,7 +26,7 @@ use Rattle.csr32.specs.Csr.{Entry}
 use Rattle.topology.specs.Words.{topologyOf, wordRules}
 use Rattle.topology.proofs.TopologyLaws.{topology-accepted}
 use Rattle.abtm.specs.declared.AbtmConfig.{AbtmConfig}
-use Rattle.abtm.specs.Values.{solid, plusZero}
+use Rattle.abtm_values.specs.Values.{solid, plusZero}
 use Rattle.abtm.specs.Tiles.{Tile, Tiles, Listed, wordIn, kindIn, isDense, placesOf, places, stored, kindOf, metaOf, tileOf, rowTilesOf, laid, masksOf, metasOf, offsetsOf, slotsOf, tilesOf, tileAt, listedTiles, rowTiles, inTile, inTiles, tileEntries, tileWords, tileSizes, valueRule, tileRule, gapless, slotRules, tilesRules, tilesAnswer}
 use Rattle.abtm.proofs.PlaceLaws.{kind-small, laid-long}
 use Rattle.abtm_check.proofs.TilesLaws.{row-listed}

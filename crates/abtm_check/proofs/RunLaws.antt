@@ -18,11 +18,11 @@ use Rattle.word.specs.Bits.{has, below, count, members}
 use Rattle.word.proofs.OpLaws.{members-count}
 use Rattle.topology.specs.Words.{setBits}
 use Rattle.topology.proofs.ScanLaws.{bits-append, bits-one}
-use Rattle.abtm.specs.Values.{solid, plusZero}
+use Rattle.abtm_values.specs.Values.{solid, plusZero}
 use Rattle.abtm.specs.Tiles.{Listed, kindIn, isDense, places, slotCount, stored, valueRule, tileAt, tileRule, gapless, slotRules}
 use Rattle.abtm.proofs.KindLaws.{dense-count, compact-places}
 use Rattle.word.proofs.PassLaws.{all-pass, pass-all, count-only}
-use Rattle.abtm_check.proofs.ValueLaws.{plus-not-solid}
+use Rattle.abtm_values.proofs.ValueLaws.{plus-not-solid}
 use Rattle.abtm_check.proofs.DenseLaws.{of-absent, counts-say, says-counts, counts-le}
 use Rattle.abtm_check.proofs.TilesLaws.{listed, none-listed, gapless-le}
 use Rattle.abtm_check.proofs.SlotLaws.{tileWith, valuesKeep, dense-sized, dense-rule, compact-rule}

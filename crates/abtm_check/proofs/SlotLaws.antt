@@ -14,7 +14,7 @@ use Rattle.lent.proofs.ListLaws.{every-map}
 use Rattle.word.specs.Bits.{has, from, below, members}
 use Rattle.word.proofs.BitLaws.{every-below}
 use Rattle.csr32.specs.Csr.{Entry}
-use Rattle.abtm.specs.Values.{solid, plusZero}
+use Rattle.abtm_values.specs.Values.{solid, plusZero}
 use Rattle.abtm.specs.Tiles.{Tile, wordIn, kindIn, placesOf, places, stored, valueRule}
 use Rattle.abtm.proofs.KindLaws.{dense-places, compact-places}
 

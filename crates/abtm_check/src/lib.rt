@@ -2,7 +2,6 @@
 ghost use mathlib.Core.Path.{_≡_};
 ghost use mathlib.Core.Bool.{true, not, _&&_};
 ghost use mathlib.Core.List.{map, zip};
-ghost use mir.Val.{boolByte};
 ghost use Prim.Native.Nat.{_+_, _≤_, _<_, _^_};
 ghost use lib.Dec.{leb, ltb, eqb};
 ghost use lib.ListN.{length, getD, drop};
@@ -13,19 +12,10 @@ ghost use Rattle.word.specs.Bits.{has, below, count};
 ghost use Rattle.csr32.specs.Csr.{framedLists};
 ghost use Rattle.csr32.proofs.FrameLaws.{RowIn};
 ghost use Rattle.topology.specs.Words.{asWords, wordRule, rowRule, rowRules, setBits};
-ghost use Rattle.abtm.specs.Values.{solid, plusZero};
+ghost use Rattle.abtm_values.specs.Values.{solid, plusZero};
 ghost use Rattle.abtm.specs.Tiles.{Listed, wordIn, kindIn, stored, tileAt, asTiles, valueRule, gapless, tilesRules, tilesAnswer};
 use hybit_core::HybitError;
 use hybit_core::Verdict;
-
-fn is_plus_zero(v: f64) -> bool
-    ensures { λ r. ⌜ r ≡ plusZero v ⌝ }
-{
-    if v == 0.0 {
-        return f64::to_bits(v) == 0;
-    }
-    false
-}
 
 // Whether the absent places of a Dense tile hold +0.0.
 fn absent_hold(mask: u64, values: &[f64]) -> bool
@@ -34,70 +24,12 @@ fn absent_hold(mask: u64, values: &[f64]) -> bool
 {
     let mut rest = word::and_not(18446744073709551615, mask);
     while rest != 0 {
-        if !is_plus_zero(values[word::lowest(rest)]) {
+        if !abtm_values::is_plus_zero(values[word::lowest(rest)]) {
             return false;
         }
         rest = word::without_lowest(rest);
     }
     true
-}
-
-fn one_if_solid(v: f64) -> usize
-    ensures { λ r. ⌜ r ≡ boolByte (solid v) ⌝ }
-{
-    if v < 0.0 {
-        return 1;
-    }
-    if 0.0 < v {
-        return 1;
-    }
-    0
-}
-
-fn count_each(values: &[f64]) -> usize
-    ensures { λ r. ⌜ r ≡ length (only solid (now (values .entry))) ⌝ }
-{
-    let mut solid: usize = 0;
-    let mut i: usize = 0;
-    while i < values.len() {
-        solid += one_if_solid(values[i]);
-        i += 1;
-    }
-    solid
-}
-
-// How many values of four lists of one length are neither NaN nor zero.
-fn count_four(first: &[f64], second: &[f64], third: &[f64], fourth: &[f64]) -> usize
-    requires { ⌜ (length (now second) ≡ length (now first)) × (length (now third) ≡ length (now first)) × (length (now fourth) ≡ length (now first)) ⌝ }
-    ensures { λ r. ⌜ r ≡ length (only solid (now (first .entry))) + length (only solid (now (second .entry))) + length (only solid (now (third .entry))) + length (only solid (now (fourth .entry))) ⌝ }
-{
-    let mut a: usize = 0;
-    let mut b: usize = 0;
-    let mut c: usize = 0;
-    let mut d: usize = 0;
-    let mut i: usize = 0;
-    while i < first.len() {
-        a += one_if_solid(first[i]);
-        b += one_if_solid(second[i]);
-        c += one_if_solid(third[i]);
-        d += one_if_solid(fourth[i]);
-        i += 1;
-    }
-    a + b + c + d
-}
-
-// How many values are neither NaN nor zero. Four parts are read side by side: memory serves four streams better than one.
-fn count_solid(values: &[f64]) -> usize
-    ensures { λ r. ⌜ r ≡ length (only solid (now (values .entry))) ⌝ }
-{
-    let q = values.len() / 4;
-    let most = count_four(
-        &values[0..q],
-        &values[q..2 * q],
-        &values[2 * q..3 * q],
-        &values[3 * q..4 * q],
-    );
-    most + count_each(&values[4 * q..])
 }
 
 fn also_at(holds: bool, offset: u32, slots: usize, next: usize) -> bool
@@ -180,7 +112,7 @@ fn count_ahead(values: &[f64], done: Counted, end: usize) -> Counted
     let to = hybit_core::smaller(end + 32704, values.len());
     Counted {
         upto: to,
-        solid: done.solid + count_solid(&values[from..to]),
+        solid: done.solid + abtm_values::count_solid(&values[from..to]),
     }
 }
 
@@ -212,7 +144,7 @@ fn values_hold(
             }
         }
     }
-    solid + count_solid(&values[upto..]) == matrix_nnz
+    solid + abtm_values::count_solid(&values[upto..]) == matrix_nnz
 }
 
 // The two tests below run to the end, without a branch on what they find.
@@ -451,7 +383,7 @@ fn rules_hold(
     if !rows_hold(nrows, ncols, row_tile_ptr, masks, metas) {
         return false;
     }
-    count_solid(values) == matrix_nnz
+    abtm_values::count_solid(values) == matrix_nnz
 }
 
 // The rules that the Rust's private fields keep.

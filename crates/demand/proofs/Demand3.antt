@@ -16,7 +16,8 @@ use Rattle.metadata_first.proofs.ActiveLaws.{demanded-same}
 use Rattle.metadata_first_build.specs.Pack.{StoreRoom, packAnswer, wanted}
 use Rattle.metadata_first_build.proofs.DemandLaws.{pruned-dot}
 use Rattle.demand.specs.Demand.{Alike, EveryActive, Row, Demand3}
-use Rattle.demand.proofs.PackedLaws.{Packable, packable}
+use Rattle.metadata_first_merge.proofs.MergeLaws.{Packable}
+use Rattle.demand.proofs.PackedLaws.{packable}
 use Rattle.demand.proofs.RestrictingLaws.{restricting}
 use Rattle.demand.proofs.TilingLaws.{tiling}
 

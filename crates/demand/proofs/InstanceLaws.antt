@@ -25,7 +25,7 @@ use Rattle.metadata_first.specs.Store.{packedOf}
 use Rattle.metadata_first.specs.Dot.{Three, sumOver, demanded}
 use Rattle.metadata_first_merge.specs.Merge.{rowValues, mergedFinite, mergeAnswer}
 use Rattle.metadata_first_build.specs.Pack.{storeOf, fitsStore, packAnswer, prunedDot, wanted}
-use Rattle.abtm.specs.Values.{mergedNonzero}
+use Rattle.abtm_values.specs.Values.{mergedNonzero}
 use Rattle.abtm.specs.Tiles.{placesOf, stored, thresholdRules, kindOf, metaOf, tileOf, rowTilesOf, laid, tilesOf, tileAt, listedTiles, rowTiles, tileEntries, tileSizes, valueRule, tileRule, gapless, slotRules, tilesRules}
 use Rattle.abtm.specs.Calls.{thresholdAnswer}
 use Rattle.abtm_build.specs.Build.{tilesFrom, fitsTiles, tileAnswer, tiled}

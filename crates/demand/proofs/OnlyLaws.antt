@@ -12,8 +12,8 @@ use Rattle.lent.proofs.ListLaws.{only-none}
 use Rattle.csr32.specs.Csr.{Entry, ofColumn, present, merged}
 use Rattle.csr32.specs.Made.{entriesIn}
 use Rattle.metadata_first.proofs.ActiveLaws.{merged-in}
-use Rattle.abtm.specs.Values.{isZero, mergedNonzero}
-use Rattle.abtm.proofs.ZeroLaws.{zero-is-zero}
+use Rattle.abtm_values.specs.Values.{isZero, mergedNonzero}
+use Rattle.abtm_values.proofs.ZeroLaws.{zero-is-zero}
 
 pub only-turned : {A : Type 0} (p q : A → Bool) (l : List A) → only p (only q l) ≡ only q (only p l)
 unfolding only

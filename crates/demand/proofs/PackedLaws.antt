@@ -18,13 +18,8 @@ use Rattle.csr32.specs.Csr.{Csr, Entry, csrSizes, csrRules, csrAnswer, entries,
 use Rattle.csr32.proofs.CsrLaws.{Valid, valid, row-columns, row-values, row-sides}
 use Rattle.csr32.proofs.FrameLaws.{Framed, parts-all}
 use Rattle.metadata_first_merge.specs.Merge.{rowValues, mergedFinite, mergeAnswer}
-use Rattle.metadata_first_merge.proofs.MergeLaws.{merged-row}
+use Rattle.metadata_first_merge.proofs.MergeLaws.{merged-row, Packable}
 use Rattle.metadata_first_build.specs.Pack.{StoreRoom, storeOf, fitsStore, packAnswer}
-
--- accepted for packing, apart from the lent lists
-pub record Packable (m : Csr) : Type 0 where
-  pub list : csrAnswer m ≡ accepted
-  pub finites : mergedFinite m ≡ true
 
 pub packable : (m : Csr) (room : StoreRoom) → packAnswer m room ≡ accepted → Packable m
 unfolding packAnswer mergeAnswer

@@ -28,7 +28,8 @@ use Rattle.metadata_first_build.specs.Pack.{StoreRoom, storeOf, fitsStore, pack
 use Rattle.metadata_first_build.proofs.DemandLaws.{pruned-dot}
 use Rattle.restricted.specs.Restricted.{restricted, restrictAnswer, restrictedLeft}
 use Rattle.demand.specs.Demand.{EveryActive, Restricting}
-use Rattle.demand.proofs.PackedLaws.{Packable, sizes-in, rules-in, is-valid, entries-good, entries-few, merged-at}
+use Rattle.metadata_first_merge.proofs.MergeLaws.{Packable}
+use Rattle.demand.proofs.PackedLaws.{sizes-in, rules-in, is-valid, entries-good, entries-few, merged-at}
 
 module _ (m : Csr) (k : Packable m) (a : Mask) where
   -- a row of the restricted list

@@ -29,7 +29,7 @@ use Rattle.metadata_first.specs.Dot.{sumOver, dotOf, threeOf, demanded, Three}
 use Rattle.metadata_first.proofs.DotLaws.{three-cong}
 use Rattle.metadata_first_build.specs.Pack.{wanted}
 use Rattle.abtm.specs.declared.AbtmConfig.{AbtmConfig}
-use Rattle.abtm.specs.Values.{isZero, mergedNonzero}
+use Rattle.abtm_values.specs.Values.{isZero, mergedNonzero}
 use Rattle.abtm.specs.Tiles.{Tile, Tiles, tilesOf, tileSizes, tilesRules, tilesAnswer, tileEntries, thresholdRules, rowTilesOf}
 use Rattle.abtm.specs.Calls.{thresholdAnswer}
 use Rattle.abtm.proofs.PlaceLaws.{laid-long}
@@ -40,7 +40,8 @@ use Rattle.restricted.specs.Restricted.{restrictedTiles, restrictTilesAnswer, r
 use Rattle.demand.specs.Demand.{NoZero, Tiling}
 use Rattle.demand.proofs.OnlyLaws.{merged-nonzero, nonzero-present}
 use Rattle.demand.proofs.ZeroSumLaws.{finite-nonzero}
-use Rattle.demand.proofs.PackedLaws.{Packable, is-valid, entries-few, merged-at}
+use Rattle.metadata_first_merge.proofs.MergeLaws.{Packable}
+use Rattle.demand.proofs.PackedLaws.{is-valid, entries-few, merged-at}
 
 -- ---- what an accepted build of tiles hands on is the tiles
 

@@ -16,7 +16,7 @@ use borrow.Author.Tests.{eqb-true}
 use Rattle.hybit_core.specs.Floats.{zero64, finite}
 use Rattle.lent.specs.Lists.{consIf, only}
 use Rattle.csr32.specs.Csr.{Entry, ofColumn, merged}
-use Rattle.abtm.specs.Values.{isZero, mergedNonzero}
+use Rattle.abtm_values.specs.Values.{isZero, mergedNonzero}
 use Rattle.demand.proofs.OnlyLaws.{only-turned, nonzero}
 use Rattle.demand.proofs.HeldLaws.{zero-exp, round-zero, round-self}
 

@@ -13,7 +13,7 @@ use Rattle.csr32.specs.Csr.{Csr, Entry, entries, present, merged, at, product, 
 use Rattle.csr32.specs.Made.{entriesIn, CsrRoom, fitsCsr}
 use Rattle.metadata_first_build.specs.Pack.{StoreRoom, storeOf, fitsStore, packAnswer, prunedDot, wanted}
 use Rattle.abtm.specs.declared.AbtmConfig.{AbtmConfig}
-use Rattle.abtm.specs.Values.{isZero}
+use Rattle.abtm_values.specs.Values.{isZero}
 use Rattle.abtm.specs.Tiles.{thresholdRules}
 use Rattle.abtm_build.specs.Build.{TileRoom, tilesFrom, fitsTiles, tileAnswer, tiled}
 use Rattle.restricted.specs.Restricted.{restricted, restrictAnswer, restrictedLeft, restrictedTiles, restrictTilesAnswer, restrictedTilesLeft}

@@ -21,7 +21,7 @@ use Rattle.hybit_core.specs.Domain.{few}
 use Rattle.hybit_core.proofs.AnswerLaws.{demand-accepted, then-first, then-second, length-accepted}
 use Rattle.csr32.specs.Made.{CsrRoom, csrLeft}
 use Rattle.metadata_first_merge.specs.Merge.{mergedFinite}
-use Rattle.demand.proofs.PackedLaws.{Packable}
+use Rattle.metadata_first_merge.proofs.MergeLaws.{Packable}
 use Rattle.demand_examine.specs.Calls.{recordsAnswer, questionAnswer}
 
 -- ---- answers with a result

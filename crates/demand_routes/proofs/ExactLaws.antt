@@ -21,7 +21,8 @@ use Rattle.metadata_first_build.specs.Pack.{StoreRoom, storeOf, fitsStore, pack
 use Rattle.metadata_first_build.proofs.DemandLaws.{built-dot}
 use Rattle.restricted.specs.Restricted.{restricted, restrictAnswer, restrictedLeft}
 use Rattle.restricted_csr32.proofs.LeftLaws.{left-list}
-use Rattle.demand.proofs.PackedLaws.{Packable, sizes-in, rules-in}
+use Rattle.metadata_first_merge.proofs.MergeLaws.{Packable}
+use Rattle.demand.proofs.PackedLaws.{sizes-in, rules-in}
 use Rattle.demand.proofs.RestrictingLaws.{restricted-list, restricted-finite, mask-few}
 use Rattle.demand_examine.specs.Steps.{after}
 use Rattle.demand_routes.specs.Routes.{packedDot, allAnswer, allDot, restrictedDot}

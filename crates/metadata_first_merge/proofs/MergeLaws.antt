@@ -9,15 +9,21 @@ use lib.Dec.{ltb}
 use lib.ListN.{length, getD, take, drop}
 use lib.Ieee.{Float}
 use borrow.Author.Tests.{ltb-true}
+use Rattle.hybit_core.specs.Answer.{accepted}
 use Rattle.hybit_core.specs.Floats.{finite}
 use Rattle.hybit_core.proofs.BoolLaws.{same-test, not-both, flag-on, flag-off}
 use Rattle.lent.specs.Lists.{joined, every}
 use Rattle.lent.proofs.ListLaws.{every-append, every-front, every-back, every-map, joined-at, every-at, every-listed}
 use Rattle.word.specs.Bits.{below}
 use Rattle.word.proofs.BitLaws.{every-below, every-below-at}
-use Rattle.csr32.specs.Csr.{Csr, Entry, entries, present, merged}
+use Rattle.csr32.specs.Csr.{Csr, Entry, csrAnswer, entries, present, merged}
 use Rattle.csr32.proofs.CsrLaws.{present-columns, entries-lent}
 use Rattle.metadata_first_merge.specs.Merge.{rowValues, mergedFinite}
+
+-- accepted for packing, apart from the lent lists
+pub record Packable (m : Csr) : Type 0 where
+  pub list : csrAnswer m ≡ accepted
+  pub finites : mergedFinite m ≡ true
 
 -- ---- the merged values of a row's columns are its row values
 

@@ -13,7 +13,7 @@ use Rattle.topology.specs.Calls.{rowAnswer, rankAnswer, metadataBytes}
 use Rattle.metadata_first.specs.Store.{packedOf, valueAt, storeSizes, valueRules, storeRules, storeFaults}
 use Rattle.metadata_first.specs.Dot.{sumOver, dotOf, dotOn, operandsAnswer, dotAnswer, sparseDotRow}
 use Rattle.metadata_first_build.specs.Pack.{storeOf}
-use Rattle.abtm.specs.Values.{mergedNonzero}
+use Rattle.abtm_values.specs.Values.{mergedNonzero}
 use Rattle.abtm.specs.Tiles.{placesOf, kindOf, metaOf, tileOf, rowTilesOf, laid, tilesOf}
 use Rattle.abtm_build.specs.Build.{tilesFrom}
 use Rattle.plots.specs.Worked.{Cell, table}

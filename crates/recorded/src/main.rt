@@ -2262,7 +2262,7 @@ fn tile_value(text: &[u8], at: &mut usize) {
     size(abtm::slot_count(mask, meta));
     size(hybit_core::wide(thresholds.kind_of(nnz)));
     default_thresholds();
-    truth(abtm::is_zero(x));
+    truth(abtm_values::is_zero(x));
 }
 
 fn default_thresholds() {

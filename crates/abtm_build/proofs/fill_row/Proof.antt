@@ -5,7 +5,7 @@ use Prim.Native.Nat.{_+_, _-_, _*_, _/_, _^_}
 use native.Mathlib.Omega.{arith}
 use lib.ListN.{length, replicate}
 use Rattle.hybit_core.specs.Floats.{zero64}
-use Rattle.abtm.specs.Values.{mergedNonzero}
+use Rattle.abtm_values.specs.Values.{mergedNonzero}
 use Rattle.csr32.proofs.WindowLaws.{zeros-as}
 use Rattle.abtm_build.proofs.WindowLaws.{sized-as}
 use Rattle.abtm_build.proofs.EmitLaws.{Emitting, emitting-none, emitting-bounded, emitting-lists}

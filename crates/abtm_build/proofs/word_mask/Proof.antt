@@ -7,7 +7,7 @@ use lib.Dec.{ltb}
 use lib.ListN.{getD}
 use lib.Ieee.{nan}
 use Rattle.word.specs.Bits.{wordOf}
-use Rattle.abtm.specs.Values.{isZero}
+use Rattle.abtm_values.specs.Values.{isZero}
 use Rattle.abtm_build.proofs.WordLaws.{first-none, first-more, first-done}
 use borrow.Author.Needs.{needs}
 use Rattle.abtm_build.proofs.word_mask.Statement.{statement}

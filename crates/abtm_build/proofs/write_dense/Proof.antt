@@ -9,7 +9,7 @@ use lib.Ieee.{nan}
 use Rattle.hybit_core.specs.Floats.{zero64}
 use Rattle.lent.specs.Lent.{Appended}
 use Rattle.word.specs.Bits.{below}
-use Rattle.abtm.specs.Values.{isZero}
+use Rattle.abtm_values.specs.Values.{isZero}
 use Rattle.abtm_build.proofs.WordLaws.{all-none, all-more, all-done}
 use borrow.Author.Needs.{needs}
 use Rattle.abtm_build.proofs.write_dense.Statement.{statement}

@@ -5,7 +5,7 @@ use lib.ListN.{length, getD}
 use Rattle.hybit_core.proofs.BoolLaws.{flag-on, flag-off}
 use Rattle.word.specs.Bits.{members}
 use Rattle.word.proofs.WalkLaws.{walk-less, lowest-small}
-use Rattle.abtm.specs.Values.{plusZero}
+use Rattle.abtm_values.specs.Values.{plusZero}
 use Rattle.abtm_check.proofs.DenseLaws.{Absent, absent-none, absent-more, absent-fails, absent-done}
 use borrow.Author.Needs.{needs}
 use Rattle.abtm_check.proofs.absent_hold.Statement.{statement}

@@ -1,6 +1,6 @@
 -- `abtm_check::count_ahead` meets its contract. Assumes nothing.
 use native.Mathlib.Omega.{arith}
-use Rattle.abtm.specs.Values.{solid}
+use Rattle.abtm_values.specs.Values.{solid}
 use Rattle.lent.proofs.ListLaws.{length-only}
 use Rattle.abtm_check.proofs.RunLaws.{solids-apart}
 use borrow.Author.Needs.{needs}

@@ -7,7 +7,7 @@ use Rattle.hybit_core.proofs.BoolLaws.{flag-on, flag-off}
 use Rattle.lent.specs.Lists.{only}
 use Rattle.lent.proofs.ListLaws.{length-only}
 use Rattle.topology.specs.Words.{setBits}
-use Rattle.abtm.specs.Values.{solid}
+use Rattle.abtm_values.specs.Values.{solid}
 use Rattle.abtm_check.proofs.RunLaws.{Tested, tested-none, tested-compact, dense-inside, dense-lent, dense-fails, tested-dense, tested-done, solids-rest}
 use borrow.Author.Needs.{needs}
 use Rattle.abtm_check.proofs.values_hold.Statement.{statement}

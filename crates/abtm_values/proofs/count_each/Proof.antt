@@ -1,13 +1,13 @@
--- `abtm_check::count_each` meets its contract. Assumes nothing.
+-- `abtm_values::count_each` meets its contract. Assumes nothing.
 use Prim.Native.Nat.{_-_}
 use native.Mathlib.Omega.{arith}
 use lib.Ieee.{nan}
 use lib.ListN.{length}
-use Rattle.abtm.specs.Values.{solid}
+use Rattle.abtm_values.specs.Values.{solid}
 use Rattle.word.proofs.PassLaws.{Passing, passing-none, passing-more, passing-done}
 use borrow.Author.Needs.{needs}
-use Rattle.abtm_check.proofs.count_each.Statement.{statement}
-use Rattle.abtm_check.proofs.count_each.Tie as tie
+use Rattle.abtm_values.proofs.count_each.Statement.{statement}
+use Rattle.abtm_values.proofs.count_each.Tie as tie
 
 abbrev Inv-loop : tie.InvT-loop
 Inv-loop values n₀ i₀ n i = Passing solid values i n

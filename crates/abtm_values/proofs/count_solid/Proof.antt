@@ -1,15 +1,15 @@
--- `abtm_check::count_solid` meets its contract. Assumes nothing.
+-- `abtm_values::count_solid` meets its contract. Assumes nothing.
 use mathlib.Core.Path.{_≡_}
 use Prim.Native.Nat.{_/_}
 use native.Mathlib.Omega.{arith}
 use lib.ListN.{length}
-use Rattle.abtm.specs.Values.{solid}
+use Rattle.abtm_values.specs.Values.{solid}
 use Rattle.lent.specs.Lists.{only}
 use Rattle.lent.proofs.ListLaws.{length-only}
 use Rattle.word.proofs.PassLaws.{quarters}
 use borrow.Author.Needs.{needs}
-use Rattle.abtm_check.proofs.count_solid.Statement.{statement}
-use Rattle.abtm_check.proofs.count_solid.Tie as tie
+use Rattle.abtm_values.proofs.count_solid.Statement.{statement}
+use Rattle.abtm_values.proofs.count_solid.Tie as tie
 
 sub-count-four : tie.Need-sub-count-four
 sub-count-four c = search needs

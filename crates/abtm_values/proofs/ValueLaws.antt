@@ -10,8 +10,8 @@ use lib.Ieee.{Float, nan, inf, fin, binary64, up, down, low, hid, top, lt, eq, i
 use lib.Ieee.Fits.{up-pos}
 use borrow.Author.Tests.{lt-ltb, le-ltb}
 use Rattle.hybit_core.proofs.BoolLaws.{and-right}
-use Rattle.abtm.specs.Values.{isZero, solid, plusZero}
-use Rattle.abtm.proofs.ZeroLaws.{eq-zero}
+use Rattle.abtm_values.specs.Values.{isZero, solid, plusZero}
+use Rattle.abtm_values.proofs.ZeroLaws.{eq-zero}
 
 -- ---- neither NaN nor zero: below 0.0 or above it
 

@@ -1,9 +1,9 @@
--- `abtm_check::one_if_solid` meets its contract. Assumes nothing.
+-- `abtm_values::one_if_solid` meets its contract. Assumes nothing.
 use mathlib.Core.Path.{sym, ap}
 use mir.Val.{boolByte}
-use Rattle.abtm_check.proofs.ValueLaws.{low-solid, high-solid, not-solid}
-use Rattle.abtm_check.proofs.one_if_solid.Statement.{statement}
-use Rattle.abtm_check.proofs.one_if_solid.Tie as tie
+use Rattle.abtm_values.proofs.ValueLaws.{low-solid, high-solid, not-solid}
+use Rattle.abtm_values.proofs.one_if_solid.Statement.{statement}
+use Rattle.abtm_values.proofs.one_if_solid.Tie as tie
 
 returns : tie.Need-returns
 returns c = sym (ap boolByte (low-solid _ (c .if1 .taken)))

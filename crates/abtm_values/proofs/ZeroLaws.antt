@@ -7,7 +7,7 @@ use lib.Dec.{eqb, eqb·suc-zero}
 use lib.Ieee.{Float, nan, inf, fin, binary64, up, down, eq, ofBits}
 use lib.Ieee.Fits.{up-pos}
 use Rattle.hybit_core.specs.Floats.{zero64}
-use Rattle.abtm.specs.Values.{isZero}
+use Rattle.abtm_values.specs.Values.{isZero}
 
 above-zero : (s : Bool) (a b : ℕ) → 0 < a → b ≡ 0 → (eqb a b && (s || eqb a 0)) ≡ false
 above-zero s zero b h z = absurd (lt-irrefl 0 h)

@@ -1,7 +1,7 @@
--- `abtm_check::is_plus_zero` meets its contract. Assumes nothing.
-use Rattle.abtm_check.proofs.ValueLaws.{zero-is-number, zero-is-plus, not-plus}
-use Rattle.abtm_check.proofs.is_plus_zero.Statement.{statement}
-use Rattle.abtm_check.proofs.is_plus_zero.Tie as tie
+-- `abtm_values::is_plus_zero` meets its contract. Assumes nothing.
+use Rattle.abtm_values.proofs.ValueLaws.{zero-is-number, zero-is-plus, not-plus}
+use Rattle.abtm_values.proofs.is_plus_zero.Statement.{statement}
+use Rattle.abtm_values.proofs.is_plus_zero.Tie as tie
 
 float-to-bits-result : tie.Need-float-to-bits-result
 float-to-bits-result c = zero-is-number _ (c .if1 .taken)

@@ -1,13 +1,13 @@
--- `abtm_check::count_four` meets its contract. Assumes nothing.
+-- `abtm_values::count_four` meets its contract. Assumes nothing.
 use Prim.Native.Nat.{_-_}
 use native.Mathlib.Omega.{arith}
 use lib.Ieee.{nan}
 use lib.ListN.{length}
-use Rattle.abtm.specs.Values.{solid}
+use Rattle.abtm_values.specs.Values.{solid}
 use Rattle.word.proofs.PassLaws.{FourPassing, passing-none, passing-more, passing-done}
 use borrow.Author.Needs.{needs}
-use Rattle.abtm_check.proofs.count_four.Statement.{statement}
-use Rattle.abtm_check.proofs.count_four.Tie as tie
+use Rattle.abtm_values.proofs.count_four.Statement.{statement}
+use Rattle.abtm_values.proofs.count_four.Tie as tie
 
 abbrev Inv-loop : tie.InvT-loop
 Inv-loop first second third fourth a₀ b₀ c₀ d₀ i₀ a b c d i = FourPassing solid first second third fourth i a b c d

@@ -21,43 +21,47 @@ use Rattle.word.proofs.OpLaws.{has-word, rest-is}
 use Rattle.word.proofs.WalkLaws.{walk-step}
 use Rattle.word.proofs.WordLaws.{empty-at}
 
--- ---- the absent places: those of `rest` are still to be tested
+-- ---- places that are tested one after the other: those of `rest` are still to be tested
 
-pub record Absent (z : ℕ → Bool) (mask rest : ℕ) : Type 0 where
+pub record Walked (z : ℕ → Bool) (places rest : ℕ) : Type 0 where
   pub fits : rest < 2 ^ 64
-  pub is : every z (below (λ i. not (has mask i)) 64) ≡ every z (members rest)
+  pub is : every z (members places) ≡ every z (members rest)
 
-module _ (z : ℕ → Bool) (mask : ℕ) where
-  pub absent-none : (rest : ℕ) → rest < 2 ^ 64 → rest ≡ wordOf (λ i. has (2 ^ 64 - 1) i && not (has mask i)) → Absent z mask rest
-  unfolding members
-  absent-none rest h e =
-      record {
-        fits = h;
-        is =
-            ap (every z)
-            (below-cong (λ i. not (has mask i)) (has rest) 64
-            (λ i l. sym (ap (λ (w : ℕ). has w i) e ∙ has-word (λ i. has (2 ^ 64 - 1) i && not (has mask i)) i l ∙ ap (λ (t : Bool). t && not (has mask i)) (has-ones 64 i l))));
-      }
+module _ (z : ℕ → Bool) (places : ℕ) where
+  pub walked-none : places < 2 ^ 64 → Walked z places places
+  walked-none h = record { fits = h; is = refl }
 
-  module _ (rest : ℕ) (inv : Absent z mask rest) where
+  module _ (rest : ℕ) (inv : Walked z places rest) where
     module _ (some : rest ≡ 0 → ⊥) (low : ℕ) (el : low ≡ getD (members rest) 0 64) where
-      pub absent-fails : false ≡ z low → false ≡ every z (below (λ i. not (has mask i)) 64)
+      pub walked-fails : false ≡ z low → false ≡ every z (members places)
       unfolding every
-      absent-fails f =
+      walked-fails f =
           sym (inv .is ∙ ap (every z) (walk-step rest low (bitAnd rest (rest - 1)) (inv .fits) some el (rest-is rest (inv .fits) some))
           ∙ ap (λ (t : Bool). t && every z (members (bitAnd rest (rest - 1)))) (sym f))
 
-      pub absent-more : true ≡ z low → (r : ℕ) → members r ≡ drop 1 (members rest) → r < 2 ^ 64 → Absent z mask r
+      pub walked-more : true ≡ z low → (r : ℕ) → members r ≡ drop 1 (members rest) → r < 2 ^ 64 → Walked z places r
       unfolding every
-      absent-more t r e h =
+      walked-more t r e h =
           record {
             fits = h;
             is = inv .is ∙ ap (every z) (walk-step rest low r (inv .fits) some el e) ∙ ap (λ (s : Bool). s && every z (members r)) (sym t);
           }
 
-    pub absent-done : rest ≡ 0 → true ≡ every z (below (λ i. not (has mask i)) 64)
+    pub walked-done : rest ≡ 0 → true ≡ every z (members places)
     unfolding every
-    absent-done e = sym (inv .is ∙ ap (λ (w : ℕ). every z (members w)) e ∙ ap (every z) members-none)
+    walked-done e = sym (inv .is ∙ ap (λ (w : ℕ). every z (members w)) e ∙ ap (every z) members-none)
+
+-- ---- the word of a Dense tile's absent places, 0 for another tile
+
+abbrev pub absentWord : ℕ → ℕ
+absentWord mask = wordOf (λ i. has (2 ^ 64 - 1) i && not (has mask i))
+
+pub absent-tested : (z : ℕ → Bool) (mask : ℕ) → every z (below (λ i. not (has mask i)) 64) ≡ every z (members (absentWord mask))
+unfolding members
+absent-tested z mask =
+    ap (every z)
+    (below-cong (λ i. not (has mask i)) (has (absentWord mask)) 64
+    (λ i l. sym (has-word (λ i. has (2 ^ 64 - 1) i && not (has mask i)) i l ∙ ap (λ (t : Bool). t && not (has mask i)) (has-ones 64 i l))))
 
 -- ---- h: the place is present; s: its value is neither NaN nor zero; z: its value is +0.0
 

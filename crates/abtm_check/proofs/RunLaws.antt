@@ -15,6 +15,7 @@ use Rattle.hybit_core.proofs.BoolLaws.{and-left, and-right, and-both, and-first
 use Rattle.lent.specs.Lists.{only, every}
 use Rattle.lent.proofs.ListLaws.{only-append, length-only, slice-lent, drop-apart, drop-rest}
 use Rattle.word.specs.Bits.{has, below, count, members}
+use Rattle.word.proofs.LowestLaws.{members-none}
 use Rattle.word.proofs.OpLaws.{members-count}
 use Rattle.topology.specs.Words.{setBits}
 use Rattle.topology.proofs.ScanLaws.{bits-append, bits-one}
@@ -23,7 +24,7 @@ use Rattle.abtm.specs.Tiles.{Listed, kindIn, isDense, places, slotCount, stored
 use Rattle.abtm.proofs.KindLaws.{dense-count, compact-places}
 use Rattle.word.proofs.PassLaws.{all-pass, pass-all, count-only}
 use Rattle.abtm_values.proofs.ValueLaws.{plus-not-solid}
-use Rattle.abtm_check.proofs.DenseLaws.{of-absent, counts-say, says-counts, counts-le}
+use Rattle.abtm_check.proofs.DenseLaws.{absentWord, absent-tested, of-absent, counts-say, says-counts, counts-le}
 use Rattle.abtm_check.proofs.TilesLaws.{listed, none-listed, gapless-le}
 use Rattle.abtm_check.proofs.SlotLaws.{tileWith, valuesKeep, dense-sized, dense-rule, compact-rule}
 
@@ -50,6 +51,46 @@ absentKeep mask vs = every (λ i. plusZero (getD vs i nan)) (below (λ i. not (h
 -- those of a tile of any kind
 abbrev pub absentIn : ℕ → ℕ → List Float → Bool
 absentIn mask meta vs = cond (isDense meta) (absentKeep mask vs) true
+
+-- its absent places as a word, which is 0 where there is none
+abbrev pub wordIs : ℕ → ℕ → ℕ
+wordIs mask meta = cond (isDense meta) (absentWord mask) 0
+
+module _ (mask meta k : ℕ) (e : k ≡ kindIn meta) where
+  pub word-dense : k ≡ 2 → (w : ℕ) → w ≡ absentWord mask → w ≡ wordIs mask meta
+  word-dense d w q = q ∙ ap (λ (t : Bool). cond t (absentWord mask) 0) (sym (eq-eqb (kindIn meta) 2 (sym e ∙ d)))
+
+  pub word-other : (k ≡ 2 → ⊥) → 0 ≡ wordIs mask meta
+  word-other d = go (isDense meta) refl
+    where
+      go : (t : Bool) → isDense meta ≡ t → 0 ≡ cond t (absentWord mask) 0
+      go true f = absurd (d (e ∙ eqb-true (kindIn meta) 2 f))
+      go false f = refl
+
+module _ (mask meta w : ℕ) (e : w ≡ wordIs mask meta) where
+  word-dense-only : (w ≡ 0 → ⊥) → kindIn meta ≡ 2
+  word-dense-only d = go (isDense meta) refl
+    where
+      go : (t : Bool) → isDense meta ≡ t → kindIn meta ≡ 2
+      go true f = eqb-true (kindIn meta) 2 f
+      go false f = absurd (d (e ∙ ap (λ (t : Bool). cond t (absentWord mask) 0) f))
+
+  -- the test of its places is that of the absent places
+  word-tested : (w ≡ 0 → ⊥) → (vs : List Float) → every (λ i. plusZero (getD vs i nan)) (members w) ≡ absentKeep mask vs
+  word-tested d vs =
+      let dense : isDense meta ≡ true = eq-eqb (kindIn meta) 2 (word-dense-only d) in
+      ap (λ (u : ℕ). every (λ i. plusZero (getD vs i nan)) (members u)) (e ∙ ap (λ (t : Bool). cond t (absentWord mask) 0) dense)
+      ∙ sym (absent-tested (λ i. plusZero (getD vs i nan)) mask)
+
+  word-none : w ≡ 0 → (vs : List Float) → absentIn mask meta vs ≡ true
+  unfolding every
+  word-none z vs = go (isDense meta) refl
+    where
+      go : (t : Bool) → isDense meta ≡ t → cond t (absentKeep mask vs) true ≡ true
+      go true f =
+          let q : absentWord mask ≡ 0 = sym (e ∙ ap (λ (t : Bool). cond t (absentWord mask) 0) f) ∙ z in
+          absent-tested (λ i. plusZero (getD vs i nan)) mask ∙ ap (λ (u : ℕ). every (λ i. plusZero (getD vs i nan)) (members u)) q ∙ ap (every (λ i. plusZero (getD vs i nan))) members-none
+      go false f = refl
 
 module _ (mask meta : ℕ) (vs : List Float) (same : length vs ≡ length (places mask meta)) where
   abbrev bySolid : ℕ → Bool
@@ -240,10 +281,17 @@ module _ (ms os ks : List ℕ) (vals : List Float) where
           go true f = absurd (d (e ∙ eqb-true (kindIn (getD ks i 0)) 2 f))
           go false f = refl
 
-      -- a Dense tile, whose values start at place `from`
-      module _ (k : ℕ) (e : k ≡ kindIn (getD ks i 0)) (d : k ≡ 2) (from : ℕ) (ea : from ≡ getD os i 0) where
+      -- w: its absent places; there is none
+      pub tested-full : (w : ℕ) → w ≡ wordIs (getD ms i 0) (getD ks i 0) → w ≡ 0 → Tested ms os ks vals (i + 1)
+      tested-full w e z = more (word-none (getD ms i 0) (getD ks i 0) w e z (slice (getD os i 0) (getD os i 0 + size) vals))
+
+      -- or there are, and its values start at place `from`
+      module _ (w : ℕ) (e : w ≡ wordIs (getD ms i 0) (getD ks i 0)) (d : w ≡ 0 → ⊥) (from : ℕ) (ea : from ≡ getD os i 0) where
+        dense : kindIn (getD ks i 0) ≡ 2
+        dense = word-dense-only (getD ms i 0) (getD ks i 0) w e d
+
         long : 64 ≡ size
-        long = dense-count k (getD ms i 0) (getD ks i 0) e d
+        long = dense-count (kindIn (getD ks i 0)) (getD ms i 0) (getD ks i 0) refl dense
 
         pub dense-inside : from + 64 ≤ length vals
         dense-inside = omega (arith, ea, next-start, long, ends)
@@ -251,17 +299,18 @@ module _ (ms os ks : List ℕ) (vals : List Float) where
         pub dense-lent : length (take (from + 64 - from) (drop from vals)) ≡ 64
         dense-lent = length-take-le (from + 64 - from) (drop from vals) (omega (arith, length-drop from vals, dense-inside)) ∙ omega arith
 
-        here : absentKeep (getD ms i 0) (take (from + 64 - from) (drop from vals)) ≡ absentHere
+        here : every (λ j. plusZero (getD (take (from + 64 - from) (drop from vals)) j nan)) (members w) ≡ absentHere
         here =
-            ap (absentKeep (getD ms i 0)) (slice-lent from (from + 64) vals ∙ ap₂ (λ (a n : ℕ). slice a (a + n) vals) ea long)
-            ∙ ap (λ (t : Bool). cond t (absentKeep (getD ms i 0) (slice (getD os i 0) (getD os i 0 + size) vals)) true) (sym (eq-eqb (kindIn (getD ks i 0)) 2 (sym e ∙ d)))
+            word-tested (getD ms i 0) (getD ks i 0) w e d (take (from + 64 - from) (drop from vals))
+            ∙ ap (absentKeep (getD ms i 0)) (slice-lent from (from + 64) vals ∙ ap₂ (λ (a n : ℕ). slice a (a + n) vals) ea long)
+            ∙ ap (λ (t : Bool). cond t (absentKeep (getD ms i 0) (slice (getD os i 0) (getD os i 0 + size) vals)) true) (sym (eq-eqb (kindIn (getD ks i 0)) 2 dense))
 
-        pub dense-fails : false ≡ absentKeep (getD ms i 0) (take (from + 64 - from) (drop from vals)) → false ≡ every (valuesOf vals) (zip ms (zip os ks))
+        pub dense-fails : false ≡ every (λ j. plusZero (getD (take (from + 64 - from) (drop from vals)) j nan)) (members w) → false ≡ every (valuesOf vals) (zip ms (zip os ks))
         dense-fails f =
             absent-fails ms os ks vals (inv .offsets-long) (inv .metas-long) (inv .whole)
             (and-first absentHere (every (absentOf vals) (drop (i + 1) all)) (f ∙ here) ∙ sym step)
 
-        pub tested-dense : true ≡ absentKeep (getD ms i 0) (take (from + 64 - from) (drop from vals)) → Tested ms os ks vals (i + 1)
+        pub tested-dense : true ≡ every (λ j. plusZero (getD (take (from + 64 - from) (drop from vals)) j nan)) (members w) → Tested ms os ks vals (i + 1)
         tested-dense t = more (sym (t ∙ here))
 
     pub tested-done : length ms ≤ i → (n t : ℕ) → n ≡ length (only solid vals) → t ≡ setBits ms → eqb n t ≡ every (valuesOf vals) (zip ms (zip os ks))

@@ -1,28 +1,38 @@
 // abtm.rs: the check of tiles that are handed in. Their lists are lent by the caller, and every call on a record checks it: 1, 12.
 ghost use mathlib.Core.Path.{_≡_};
-ghost use mathlib.Core.Bool.{true, not, _&&_};
+ghost use mathlib.Core.Bool.{true, not, cond, _&&_};
 ghost use mathlib.Core.List.{map, zip};
-ghost use Prim.Native.Nat.{_+_, _≤_, _<_, _^_};
+ghost use Prim.Native.Nat.{_+_, _-_, _%_, _≤_, _<_, _^_};
 ghost use lib.Dec.{leb, ltb, eqb};
 ghost use lib.ListN.{length, getD, drop};
 ghost use lib.Ieee.{nan};
 ghost use Rattle.hybit_core.specs.Table.{told};
 ghost use Rattle.lent.specs.Lists.{part, every, only, climbs};
-ghost use Rattle.word.specs.Bits.{has, below, count};
+ghost use Rattle.word.specs.Bits.{has, members, wordOf};
 ghost use Rattle.csr32.specs.Csr.{framedLists};
 ghost use Rattle.csr32.proofs.FrameLaws.{RowIn};
 ghost use Rattle.topology.specs.Words.{asWords, wordRule, rowRule, rowRules, setBits};
 ghost use Rattle.abtm_values.specs.Values.{solid, plusZero};
-ghost use Rattle.abtm.specs.Tiles.{Listed, wordIn, kindIn, stored, tileAt, asTiles, valueRule, gapless, tilesRules, tilesAnswer};
+ghost use Rattle.abtm.specs.Tiles.{Listed, wordIn, kindIn, isDense, places, stored, tileAt, asTiles, valueRule, gapless, tilesRules, tilesAnswer};
 use hybit_core::HybitError;
 use hybit_core::Verdict;
 
-// Whether the absent places of a Dense tile hold +0.0.
-fn absent_hold(mask: u64, values: &[f64]) -> bool
-    requires { ⌜ length (now values) ≡ 64 ⌝ }
-    ensures { λ r. ⌜ r ≡ every (λ i. plusZero (getD (now (values .entry)) i nan)) (below (λ i. not (has mask i)) 64) ⌝ }
+// The absent places of a Dense tile; none of another.
+fn absent_in(mask: u64, meta: u32) -> u64
+    ensures { λ r. ⌜ r ≡ cond (isDense meta) (wordOf (λ i. has (2 ^ 64 - 1) i && not (has mask i))) 0 ⌝ }
 {
-    let mut rest = word::and_not(18446744073709551615, mask);
+    if abtm::kind_in(meta) == 2 {
+        return word::and_not(18446744073709551615, mask);
+    }
+    0
+}
+
+// Whether the places of a word hold +0.0.
+fn all_plus_zero(places: u64, values: &[f64]) -> bool
+    requires { ⌜ length (now values) ≡ 64 ⌝ }
+    ensures { λ r. ⌜ r ≡ every (λ i. plusZero (getD (now (values .entry)) i nan)) (members places) ⌝ }
+{
+    let mut rest = places;
     while rest != 0 {
         if !abtm_values::is_plus_zero(values[word::lowest(rest)]) {
             return false;
@@ -42,36 +52,6 @@ fn also_at(holds: bool, offset: u32, slots: usize, next: usize) -> bool
     false
 }
 
-// Whether the first tile's values start at 0, each tile's end where the next one's start, and the last one's end at `places`. The
-// test runs to the end, without a branch on what it finds.
-fn offsets_follow(masks: &[u64], value_offsets: &[u32], metas: &[u32], places: usize) -> bool
-    requires { ⌜ (length (now «value_offsets») ≡ length (now masks)) × (length (now metas) ≡ length (now masks)) ⌝ }
-    ensures { λ r. ⌜ r ≡ gapless 0 places (zip (now (masks .entry)) (zip (now («value_offsets» .entry)) (now (metas .entry)))) ⌝ }
-{
-    if masks.len() == 0 {
-        return places == 0;
-    }
-    let mut holds = value_offsets[0] == 0;
-    let mut i: usize = 1;
-    while i < masks.len() {
-        let slots = abtm::slot_count(masks[i - 1], metas[i - 1]);
-        holds = also_at(
-            holds,
-            value_offsets[i - 1],
-            slots,
-            hybit_core::wide(value_offsets[i]),
-        );
-        i += 1;
-    }
-    let last = masks.len() - 1;
-    also_at(
-        holds,
-        value_offsets[last],
-        abtm::slot_count(masks[last], metas[last]),
-        places,
-    )
-}
-
 fn also_kind(holds: bool, meta: u32) -> bool
     ensures { λ r. ⌜ r ≡ (holds && leb (kindIn meta) 2) ⌝ }
 {
@@ -79,19 +59,6 @@ fn also_kind(holds: bool, meta: u32) -> bool
         return holds;
     }
     false
-}
-
-// No kind 3.
-fn kinds_hold(metas: &[u32]) -> bool
-    ensures { λ r. ⌜ r ≡ every (λ m. leb (kindIn m) 2) (now (metas .entry)) ⌝ }
-{
-    let mut holds = true;
-    let mut i: usize = 0;
-    while i < metas.len() {
-        holds = also_kind(holds, metas[i]);
-        i += 1;
-    }
-    holds
 }
 
 // How many of the first `upto` values are neither NaN nor zero.
@@ -134,12 +101,13 @@ fn values_hold(
     while next < masks.len() {
         let i = next;
         next += 1;
-        if abtm::kind_in(metas[i]) == 2 {
+        let absent = absent_in(masks[i], metas[i]);
+        if absent != 0 {
             let at = hybit_core::wide(value_offsets[i]);
             let c = count_ahead(values, Counted { upto, solid }, at + 64);
             upto = c.upto;
             solid = c.solid;
-            if !absent_hold(masks[i], &values[at..at + 64]) {
+            if !all_plus_zero(absent, &values[at..at + 64]) {
                 return false;
             }
         }
@@ -147,7 +115,7 @@ fn values_hold(
     solid + abtm_values::count_solid(&values[upto..]) == matrix_nnz
 }
 
-// The two tests below run to the end, without a branch on what they find.
+// The test runs to the end, without a branch on what it finds.
 fn also_above(holds: bool, before: u32, number: u32) -> bool
     ensures { λ r. ⌜ r ≡ (holds && ltb before number) ⌝ }
 {
@@ -176,18 +144,6 @@ fn also_some(holds: bool, mask: u64) -> bool
         return holds;
     }
     false
-}
-
-fn masks_hold(masks: &[u64]) -> bool
-    ensures { λ r. ⌜ r ≡ every (λ m. not (eqb m 0)) (now (masks .entry)) ⌝ }
-{
-    let mut holds = true;
-    let mut i: usize = 0;
-    while i < masks.len() {
-        holds = also_some(holds, masks[i]);
-        i += 1;
-    }
-    holds
 }
 
 fn word_holds(ncols: usize, index: usize, mask: u64) -> bool
@@ -268,14 +224,15 @@ fn also_compact(holds: bool, meta: u32) -> bool
 }
 
 fn also_next(holds: bool, mask: u64, offset: u32, meta: u32, next: usize) -> bool
-    ensures { λ r. ⌜ r ≡ (((holds && not (eqb mask 0)) && leb (kindIn meta) 1) && eqb (offset + count (has mask) 64) next) ⌝ }
+    ensures { λ r. ⌜ r ≡ (((holds && not (eqb mask 0)) && leb (kindIn meta) 1) && eqb (offset + length (places mask meta)) next) ⌝ }
 {
     let some = also_some(holds, mask);
     let compact = also_compact(some, meta);
     also_at(compact, offset, word::popcount(mask), next)
 }
 
-// Whether no mask is 0, no tile is Dense or of kind 3, and the offsets follow as in offsets_follow: one pass for most records.
+// Whether no mask is 0, no tile is Dense or of kind 3, the first tile's values start at 0, each tile's end where the next one's start,
+// and the last one's end at `end`: one pass for most records. It runs to the end, without a branch on what it finds.
 fn compact_follow(masks: &[u64], value_offsets: &[u32], metas: &[u32], end: usize) -> bool
     requires { ⌜ (length (now «value_offsets») ≡ length (now masks)) × (length (now metas) ≡ length (now masks)) ⌝ }
     ensures { λ r. ⌜ r ≡ ((every (λ m. not (eqb m 0)) (now (masks .entry)) && every (λ m. leb (kindIn m) 1) (now (metas .entry))) && gapless 0 end (zip (now (masks .entry)) (zip (now («value_offsets» .entry)) (now (metas .entry))))) ⌝ }
@@ -316,6 +273,51 @@ fn all_compact(
     compact_follow(masks, value_offsets, metas, places)
 }
 
+fn also_tile(holds: bool, mask: u64, offset: u32, meta: u32, next: usize) -> bool
+    ensures { λ r. ⌜ r ≡ (((holds && not (eqb mask 0)) && leb (kindIn meta) 2) && eqb (offset + length (places mask meta)) next) ⌝ }
+{
+    let some = also_some(holds, mask);
+    let kind = also_kind(some, meta);
+    also_at(kind, offset, abtm::slot_count(mask, meta), next)
+}
+
+// What one pass over tiles of any kinds finds: whether no mask is 0, no kind is 3 and the offsets follow, and how many bits are set.
+struct Scan {
+    holds: bool,
+    bits: usize,
+}
+
+fn mixed_follow(masks: &[u64], value_offsets: &[u32], metas: &[u32], end: usize) -> Scan
+    requires { ⌜ (length (now «value_offsets») ≡ length (now masks)) × (length (now metas) ≡ length (now masks)) ⌝ }
+    ensures { λ r. ⌜ (r .holds ≡ ((every (λ m. not (eqb m 0)) (now (masks .entry)) && every (λ m. leb (kindIn m) 2) (now (metas .entry))) && gapless 0 end (zip (now (masks .entry)) (zip (now («value_offsets» .entry)) (now (metas .entry)))))) × (r .bits ≡ setBits (now (masks .entry)) % 2 ^ 64) ⌝ }
+{
+    if masks.len() == 0 {
+        return Scan {
+            holds: end == 0,
+            bits: 0,
+        };
+    }
+    let mut holds = value_offsets[0] == 0;
+    let mut bits: usize = 0;
+    let mut i: usize = 1;
+    while i < masks.len() {
+        bits = std::num::wrapping_add_usize(bits, word::popcount(masks[i - 1]));
+        holds = also_tile(
+            holds,
+            masks[i - 1],
+            value_offsets[i - 1],
+            metas[i - 1],
+            hybit_core::wide(value_offsets[i]),
+        );
+        i += 1;
+    }
+    let last = masks.len() - 1;
+    Scan {
+        holds: also_tile(holds, masks[last], value_offsets[last], metas[last], end),
+        bits: std::num::wrapping_add_usize(bits, word::popcount(masks[last])),
+    }
+}
+
 // The rules of tiles of any kinds, one after the other.
 fn mixed_hold(
     nrows: usize,
@@ -330,19 +332,14 @@ fn mixed_hold(
     requires { ⌜ framedLists nrows (now «row_tile_ptr») (length (now metas)) (length (now masks)) ≡ true ⌝ ∗ ⌜ (length (now «value_offsets») ≡ length (now masks)) × (length (now metas) ≡ length (now masks)) ⌝ ∗ ⌜ length (now masks) ≤ 2 ^ 24 ⌝ }
     ensures { λ r. ⌜ r ≡ tilesRules (asTiles nrows ncols (now («row_tile_ptr» .entry)) (now (masks .entry)) (now («value_offsets» .entry)) (now (metas .entry)) (now (values .entry)) «matrix_nnz») ⌝ }
 {
-    if !masks_hold(masks) {
+    let found = mixed_follow(masks, value_offsets, metas, values.len());
+    if !found.holds {
         return false;
     }
     if !rows_hold(nrows, ncols, row_tile_ptr, masks, metas) {
         return false;
     }
-    if !offsets_follow(masks, value_offsets, metas, values.len()) {
-        return false;
-    }
-    if !kinds_hold(metas) {
-        return false;
-    }
-    if matrix_nnz != topology::count_bits(masks) {
+    if matrix_nnz != found.bits {
         return false;
     }
     values_hold(masks, value_offsets, metas, values, matrix_nnz)

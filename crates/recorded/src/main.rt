@@ -2185,11 +2185,12 @@ fn csr32_pointers(text: &[u8], at: &mut usize) {
     truth(csr32::lists_hold(nrows, row_ptr, left, right));
 }
 
-fn csr32_all_finite(text: &[u8], at: &mut usize) {
+fn value_list(text: &[u8], at: &mut usize) {
     let mut values_room = [0.0f64; ROOM];
     let values = list_f64(text, at, &mut values_room);
     refusal(0, 0, 0);
     truth(csr32::all_finite(values));
+    size(abtm_values::count_solid(values));
 }
 
 fn topology_count_bits(text: &[u8], at: &mut usize) {
@@ -2263,6 +2264,7 @@ fn tile_value(text: &[u8], at: &mut usize) {
     size(hybit_core::wide(thresholds.kind_of(nnz)));
     default_thresholds();
     truth(abtm_values::is_zero(x));
+    truth(abtm_values::is_plus_zero(x));
 }
 
 fn default_thresholds() {
@@ -2362,7 +2364,7 @@ fn list_calls(call: u64, text: &[u8], at: &mut usize) {
         65 => local_check(text, at),
         66 => local_gather_input(text, at),
         241 => csr32_pointers(text, at),
-        242 => csr32_all_finite(text, at),
+        242 => value_list(text, at),
         243 => topology_count_bits(text, at),
         _ => topology_clear_past(text, at),
     }

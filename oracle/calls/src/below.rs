@@ -26,6 +26,7 @@ pub enum Below {
     MaskIsMember(Mask, usize),
     /// Rows, pointers, and the lengths of two lists.
     Pointers(usize, Vec<u32>, usize, usize),
+    /// Whether all are finite, and how many are neither NaN nor zero.
     AllFinite(Vec<f64>),
     CountBits(Vec<u64>),
     /// The used rows and words, and the lent lists.

@@ -30,7 +30,12 @@ pub fn judge_below(call: &Below) -> Outcome {
         Below::Word(call, a, b) => answer(Ok([word(*call, *a, *b)])),
         Below::MaskIsMember(m, index) => truth(Ok(is_member(m, *index))),
         Below::Pointers(nrows, list, left, right) => pointers(*nrows, list, *left, *right),
-        Below::AllFinite(list) => truth(Ok(list.iter().all(|x| x.is_finite()))),
+        Below::AllFinite(list) => {
+            let solid = list.iter().filter(|x| !x.is_nan() && **x != 0.0).count();
+            let mut outcome = truth(Ok(list.iter().all(|x| x.is_finite())));
+            outcome.result.push(solid as u64);
+            outcome
+        }
         Below::CountBits(list) => answer(Ok([ones(list) as u64])),
         Below::ClearPast(rows, words, room) => clear_past(*rows, *words, room),
         Below::CheckLists(words) => verdict(topology::check(&counted(words))),
@@ -46,6 +51,7 @@ pub fn judge_below(call: &Below) -> Outcome {
             let zero = f64::from_bits(*bits) == 0.0;
             let mut outcome = abtm::judge_value(*meta, *mask, *thresholds, *count);
             outcome.result.push(zero.into());
+            outcome.result.push((*bits == 0).into());
             outcome
         }
         Below::Restriction([nrows, ncols, source, kept]) => joined(

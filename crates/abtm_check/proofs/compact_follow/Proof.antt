@@ -1,25 +1,25 @@
 -- `abtm_check::compact_follow` meets its contract. Assumes nothing.
 use Prim.Native.Nat.{_-_}
 use lib.ListN.{length}
-use Rattle.abtm_check.proofs.CompactLaws.{Compacting, compacting-empty, compacting-none, compacting-more, compacting-done}
+use Rattle.abtm_check.proofs.CompactLaws.{compactKind, Scanning, scanning-empty, scanning-none, scanning-more, scanning-done}
 use borrow.Author.Needs.{needs}
 use Rattle.abtm_check.proofs.compact_follow.Statement.{statement}
 use Rattle.abtm_check.proofs.compact_follow.Tie as tie
 
 abbrev Inv-loop : tie.InvT-loop
-Inv-loop masks value-offsets metas end holds₀ i₀ holds i = Compacting masks value-offsets metas end holds i
+Inv-loop masks value-offsets metas end holds₀ i₀ holds i = Scanning compactKind masks value-offsets metas end holds i
 
 abbrev μ-loop : tie.MeasureT-loop
 μ-loop masks value-offsets metas end holds₀ i₀ holds i = length masks - i
 
 returns : tie.Need-returns Inv-loop μ-loop
-returns c = compacting-empty _ _ _ _ (c .before .before .before .before .pre .1) (c .if1 .taken)
+returns c = scanning-empty compactKind _ _ _ _ (c .before .before .before .before .pre .1) (c .if1 .taken)
 
 shared-slice-read-holds : tie.Need-shared-slice-read-holds Inv-loop μ-loop
 shared-slice-read-holds c = search needs
 
 loop-holds : tie.Need-loop-holds Inv-loop μ-loop
-loop-holds c = compacting-none _ _ _ _ (c .before .before .before .before .before .pre .0) (c .before .before .before .before .before .pre .1) (c .before .if1 .left)
+loop-holds c = scanning-none compactKind _ _ _ _ (c .before .before .before .before .before .pre .0) (c .before .before .before .before .before .pre .1) (c .before .if1 .left)
 
 sub-also-next : tie.Need-sub-also-next Inv-loop μ-loop
 sub-also-next c = search needs
@@ -67,7 +67,7 @@ loop-less : tie.Need-loop-less Inv-loop μ-loop
 loop-less c = search needs
 
 loop-again : tie.Need-loop-again Inv-loop μ-loop
-loop-again c = compacting-more _ _ _ _ _ _ (c .before .before .before .before .before .before .before .loop .inv) (c .before .before .before .before .before .before .loop-test .taken) _ _ (c .before .wide .ensures) (c .also-next .ensures)
+loop-again c = scanning-more compactKind _ _ _ _ _ _ (c .before .before .before .before .before .before .before .loop .inv) (c .before .before .before .before .before .before .loop-test .taken) _ _ (c .before .wide .ensures) (c .also-next .ensures)
 
 sub-last : tie.Need-sub-last Inv-loop μ-loop
 sub-last c = search needs
@@ -94,7 +94,7 @@ also-next-requires-2 : tie.Need-also-next-requires-2 Inv-loop μ-loop
 also-next-requires-2 c κs = search needs
 
 returns-2 : tie.Need-returns-2 Inv-loop μ-loop
-returns-2 c = compacting-done _ _ _ _ _ _ (c .before .before .before .before .before .loop .inv) (search needs) _ (c .also-next2 .ensures)
+returns-2 c = scanning-done compactKind _ _ _ _ _ _ (c .before .before .before .before .before .loop .inv) (search needs) _ (c .also-next2 .ensures)
 
 pub compact-follow-spec : {M : Type 1} → statement M
 compact-follow-spec =

@@ -8,7 +8,7 @@ use Rattle.lent.specs.Lists.{only}
 use Rattle.lent.proofs.ListLaws.{length-only}
 use Rattle.topology.specs.Words.{setBits}
 use Rattle.abtm_values.specs.Values.{solid}
-use Rattle.abtm_check.proofs.RunLaws.{Tested, tested-none, tested-compact, dense-inside, dense-lent, dense-fails, tested-dense, tested-done, solids-rest}
+use Rattle.abtm_check.proofs.RunLaws.{Tested, tested-none, tested-full, dense-inside, dense-lent, dense-fails, tested-dense, tested-done, solids-rest}
 use borrow.Author.Needs.{needs}
 use Rattle.abtm_check.proofs.values_hold.Statement.{statement}
 use Rattle.abtm_check.proofs.values_hold.Tie as tie
@@ -25,14 +25,20 @@ loop-holds c = let pre = c .before .before .before .before .pre in (tested-none 
 add-next : tie.Need-add-next Inv-loop μ-loop
 add-next c = search needs
 
-mul-kind-in : tie.Need-mul-kind-in Inv-loop μ-loop
-mul-kind-in c = search needs
+mul-absent-in : tie.Need-mul-absent-in Inv-loop μ-loop
+mul-absent-in c = search needs
 
-shared-slice-read-kind-in : tie.Need-shared-slice-read-kind-in Inv-loop μ-loop
-shared-slice-read-kind-in c = search needs
+shared-slice-read-absent-in : tie.Need-shared-slice-read-absent-in Inv-loop μ-loop
+shared-slice-read-absent-in c = search needs
 
-kind-in-requires : tie.Need-kind-in-requires Inv-loop μ-loop
-kind-in-requires c κs = search needs
+mul-absent-in-2 : tie.Need-mul-absent-in-2 Inv-loop μ-loop
+mul-absent-in-2 c = search needs
+
+shared-slice-read-absent-in-2 : tie.Need-shared-slice-read-absent-in-2 Inv-loop μ-loop
+shared-slice-read-absent-in-2 c = search needs
+
+absent-in-requires : tie.Need-absent-in-requires Inv-loop μ-loop
+absent-in-requires c κs = search needs
 
 mul-wide : tie.Need-mul-wide Inv-loop μ-loop
 mul-wide c = search needs
@@ -46,71 +52,65 @@ wide-requires c κs = search needs
 add-count-ahead : tie.Need-add-count-ahead Inv-loop μ-loop
 add-count-ahead c =
     let w = c in
-    let l = c .before .before .before .before .before .before in
-    omega (arith, dense-inside _ _ _ _ _ (l .loop .inv .0) (search needs) _ (w .before .before .before .kind-in .ensures) (w .before .before .if1 .taken) _ (w .wide .ensures))
+    let l = w .before .before .before .before .before .before .before in
+    omega (arith, dense-inside _ _ _ _ _ (l .loop .inv .0) (search needs) _ (w .before .before .before .absent-in .ensures) (w .before .before .if1 .taken) _ (w .wide .ensures))
 
 count-ahead-requires : tie.Need-count-ahead-requires Inv-loop μ-loop
 count-ahead-requires c κs =
     let w = c in
-    let l = c .before .before .before .before .before .before in
-    ((l .loop .inv .2, dense-inside _ _ _ _ _ (l .loop .inv .0) (search needs) _ (w .before .before .before .kind-in .ensures) (w .before .before .if1 .taken) _ (w .wide .ensures)), l .loop .inv .3)
+    let l = w .before .before .before .before .before .before .before in
+    ((l .loop .inv .2, dense-inside _ _ _ _ _ (l .loop .inv .0) (search needs) _ (w .before .before .before .absent-in .ensures) (w .before .before .if1 .taken) _ (w .wide .ensures)), l .loop .inv .3)
 
-mul-absent-hold : tie.Need-mul-absent-hold Inv-loop μ-loop
-mul-absent-hold c = search needs
+add-all-plus-zero : tie.Need-add-all-plus-zero Inv-loop μ-loop
+add-all-plus-zero c =
+    let w = c .before in
+    let l = w .before .before .before .before .before .before .before in
+    omega (arith, dense-inside _ _ _ _ _ (l .loop .inv .0) (search needs) _ (w .before .before .before .absent-in .ensures) (w .before .before .if1 .taken) _ (w .wide .ensures))
 
-shared-slice-read-absent-hold : tie.Need-shared-slice-read-absent-hold Inv-loop μ-loop
-shared-slice-read-absent-hold c = search needs
+mul-all-plus-zero : tie.Need-mul-all-plus-zero Inv-loop μ-loop
+mul-all-plus-zero c =
+    let w = c .before in
+    let l = w .before .before .before .before .before .before .before in
+    omega (arith, dense-inside _ _ _ _ _ (l .loop .inv .0) (search needs) _ (w .before .before .before .absent-in .ensures) (w .before .before .if1 .taken) _ (w .wide .ensures))
 
-add-absent-hold : tie.Need-add-absent-hold Inv-loop μ-loop
-add-absent-hold c =
+sub-all-plus-zero : tie.Need-sub-all-plus-zero Inv-loop μ-loop
+sub-all-plus-zero c = search needs
+
+part-all-plus-zero-start : tie.Need-part-all-plus-zero-start Inv-loop μ-loop
+part-all-plus-zero-start c = search needs
+
+part-all-plus-zero-end : tie.Need-part-all-plus-zero-end Inv-loop μ-loop
+part-all-plus-zero-end c =
+    let w = c .before in
+    let l = w .before .before .before .before .before .before .before in
+    dense-inside _ _ _ _ _ (l .loop .inv .0) (search needs) _ (w .before .before .before .absent-in .ensures) (w .before .before .if1 .taken) _ (w .wide .ensures)
+
+all-plus-zero-requires : tie.Need-all-plus-zero-requires Inv-loop μ-loop
+all-plus-zero-requires c κs =
     let w = c .before .before in
-    let l = c .before .before .before .before .before .before .before .before in
-    omega (arith, dense-inside _ _ _ _ _ (l .loop .inv .0) (search needs) _ (w .before .before .before .kind-in .ensures) (w .before .before .if1 .taken) _ (w .wide .ensures))
-
-mul-absent-hold-2 : tie.Need-mul-absent-hold-2 Inv-loop μ-loop
-mul-absent-hold-2 c =
-    let w = c .before .before in
-    let l = c .before .before .before .before .before .before .before .before in
-    omega (arith, dense-inside _ _ _ _ _ (l .loop .inv .0) (search needs) _ (w .before .before .before .kind-in .ensures) (w .before .before .if1 .taken) _ (w .wide .ensures))
-
-sub-absent-hold : tie.Need-sub-absent-hold Inv-loop μ-loop
-sub-absent-hold c = search needs
-
-part-absent-hold-start : tie.Need-part-absent-hold-start Inv-loop μ-loop
-part-absent-hold-start c = search needs
-
-part-absent-hold-end : tie.Need-part-absent-hold-end Inv-loop μ-loop
-part-absent-hold-end c =
-    let w = c .before .before in
-    let l = c .before .before .before .before .before .before .before .before in
-    dense-inside _ _ _ _ _ (l .loop .inv .0) (search needs) _ (w .before .before .before .kind-in .ensures) (w .before .before .if1 .taken) _ (w .wide .ensures)
-
-absent-hold-requires : tie.Need-absent-hold-requires Inv-loop μ-loop
-absent-hold-requires c κs =
-    let w = c .before .before .before in
-    let l = c .before .before .before .before .before .before .before .before .before in
-    dense-lent _ _ _ _ _ (l .loop .inv .0) (search needs) _ (w .before .before .before .kind-in .ensures) (w .before .before .if1 .taken) _ (w .wide .ensures)
+    let l = w .before .before .before .before .before .before .before in
+    dense-lent _ _ _ _ _ (l .loop .inv .0) (search needs) _ (w .before .before .before .absent-in .ensures) (w .before .before .if1 .taken) _ (w .wide .ensures)
 
 returns : tie.Need-returns Inv-loop μ-loop
 returns c =
-    let w = c .before .before .before .before .before in
-    let l = c .before .before .before .before .before .before .before .before .before .before .before in
-    dense-fails _ _ _ _ _ (l .loop .inv .0) (search needs) _ (w .before .before .before .kind-in .ensures) (w .before .before .if1 .taken) _ (w .wide .ensures) (flag-off _ _ (c .before .absent-hold .ensures) (c .if2 .taken))
+    let w = c .before .before .before .before in
+    let l = w .before .before .before .before .before .before .before in
+    dense-fails _ _ _ _ _ (l .loop .inv .0) (search needs) _ (w .before .before .before .absent-in .ensures) (w .before .before .if1 .taken) _ (w .wide .ensures) (flag-off _ _ (c .before .all-plus-zero .ensures) (c .if2 .taken))
 
 loop-less : tie.Need-loop-less Inv-loop μ-loop
 loop-less c = search needs
 
 loop-again : tie.Need-loop-again Inv-loop μ-loop
 loop-again c =
-    let w = c .before .before .before .before .before in
-    let l = c .before .before .before .before .before .before .before .before .before .before .before in
-    (tested-dense _ _ _ _ _ (l .loop .inv .0) (search needs) _ (w .before .before .before .kind-in .ensures) (w .before .before .if1 .taken) _ (w .wide .ensures) (flag-on _ _ (c .before .absent-hold .ensures) (c .if2 .left)), l .loop .inv .1, c .before .before .before .before .count-ahead .ensures .0, c .before .before .before .before .count-ahead .ensures .1)
+    let w = c .before .before .before .before in
+    let l = w .before .before .before .before .before .before .before in
+    (tested-dense _ _ _ _ _ (l .loop .inv .0) (search needs) _ (w .before .before .before .absent-in .ensures) (w .before .before .if1 .taken) _ (w .wide .ensures) (flag-on _ _ (c .before .all-plus-zero .ensures) (c .if2 .left)), l .loop .inv .1, c .before .before .before .count-ahead .ensures .0, c .before .before .before .count-ahead .ensures .1)
 
 loop-less-2 : tie.Need-loop-less-2 Inv-loop μ-loop
 loop-less-2 c = search needs
 
 loop-again-2 : tie.Need-loop-again-2 Inv-loop μ-loop
-loop-again-2 c = let l = c .before .before .before .before in (tested-compact _ _ _ _ _ (l .loop .inv .0) (search needs) _ (c .before .kind-in .ensures) (c .if1 .left), l .loop .inv .1, l .loop .inv .2, l .loop .inv .3)
+loop-again-2 c = let l = c .before .before .before .before .before in (tested-full _ _ _ _ _ (l .loop .inv .0) (search needs) _ (c .before .absent-in .ensures) (c .if1 .left), l .loop .inv .1, l .loop .inv .2, l .loop .inv .3)
 
 mul-count-solid : tie.Need-mul-count-solid Inv-loop μ-loop
 mul-count-solid c = omega (arith, c .before .loop .inv .2)
@@ -145,22 +145,22 @@ values-hold-spec =
     μ-loop
     loop-holds
     add-next
-    mul-kind-in
-    shared-slice-read-kind-in
-    kind-in-requires
+    mul-absent-in
+    shared-slice-read-absent-in
+    mul-absent-in-2
+    shared-slice-read-absent-in-2
+    absent-in-requires
     mul-wide
     shared-slice-read-wide
     wide-requires
     add-count-ahead
     count-ahead-requires
-    mul-absent-hold
-    shared-slice-read-absent-hold
-    add-absent-hold
-    mul-absent-hold-2
-    sub-absent-hold
-    part-absent-hold-start
-    part-absent-hold-end
-    absent-hold-requires
+    add-all-plus-zero
+    mul-all-plus-zero
+    sub-all-plus-zero
+    part-all-plus-zero-start
+    part-all-plus-zero-end
+    all-plus-zero-requires
     returns
     loop-less
     loop-again

@@ -211,13 +211,19 @@ fn pointers(all: &mut Vec<Below>) {
     }
 }
 
-/// Values that are all finite, and one that isn't at each place; the bits of masks, short lists and long.
+/// Values that are all finite, and one that isn't at each place; one NaN or zero at each place among others; the bits of masks,
+/// short lists and long.
 fn lists(all: &mut Vec<Below>) {
     all.push(Below::AllFinite(vec![]));
     all.push(Below::AllFinite(vec![f64::MAX, -0.0, 5e-324, f64::MIN]));
     for place in 0..20 {
         for value in [NAN, INF, -INF] {
             let mut list = vec![0.0; 20];
+            list[place] = value;
+            all.push(Below::AllFinite(list));
+        }
+        for value in [NAN, -0.0] {
+            let mut list = vec![-1.0; 20];
             list[place] = value;
             all.push(Below::AllFinite(list));
         }

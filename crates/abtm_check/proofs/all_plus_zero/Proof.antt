@@ -1,4 +1,4 @@
--- `abtm_check::absent_hold` meets its contract. Assumes nothing.
+-- `abtm_check::all_plus_zero` meets its contract. Assumes nothing.
 use native.Mathlib.Omega.{arith}
 use lib.Ieee.{nan}
 use lib.ListN.{length, getD}
@@ -6,22 +6,19 @@ use Rattle.hybit_core.proofs.BoolLaws.{flag-on, flag-off}
 use Rattle.word.specs.Bits.{members}
 use Rattle.word.proofs.WalkLaws.{walk-less, lowest-small}
 use Rattle.abtm_values.specs.Values.{plusZero}
-use Rattle.abtm_check.proofs.DenseLaws.{Absent, absent-none, absent-more, absent-fails, absent-done}
+use Rattle.abtm_check.proofs.DenseLaws.{Walked, walked-none, walked-more, walked-fails, walked-done}
 use borrow.Author.Needs.{needs}
-use Rattle.abtm_check.proofs.absent_hold.Statement.{statement}
-use Rattle.abtm_check.proofs.absent_hold.Tie as tie
+use Rattle.abtm_check.proofs.all_plus_zero.Statement.{statement}
+use Rattle.abtm_check.proofs.all_plus_zero.Tie as tie
 
 abbrev Inv-loop : tie.InvT-loop
-Inv-loop mask values rest₀ rest = Absent (λ k. plusZero (getD values k nan)) mask rest
+Inv-loop places values rest₀ rest = Walked (λ k. plusZero (getD values k nan)) places rest
 
 abbrev μ-loop : tie.MeasureT-loop
-μ-loop mask values rest₀ rest = length (members rest)
-
-and-not-requires : tie.Need-and-not-requires Inv-loop μ-loop
-and-not-requires c κs = search needs
+μ-loop places values rest₀ rest = length (members rest)
 
 loop-holds : tie.Need-loop-holds Inv-loop μ-loop
-loop-holds c = absent-none _ _ _ (c .and-not .ok) (c .and-not .ensures)
+loop-holds c = walked-none _ _ (search needs)
 
 lowest-requires : tie.Need-lowest-requires Inv-loop μ-loop
 lowest-requires c κs = search needs
@@ -36,7 +33,7 @@ is-plus-zero-requires : tie.Need-is-plus-zero-requires Inv-loop μ-loop
 is-plus-zero-requires c κs = search needs
 
 returns : tie.Need-returns Inv-loop μ-loop
-returns c = absent-fails _ _ _ (c .before .before .before .before .before .loop .inv) (c .before .before .before .before .loop-test .taken) _ (c .before .before .before .lowest .ensures) (flag-off _ _ (c .before .is-plus-zero .ensures) (c .if1 .taken))
+returns c = walked-fails _ _ _ (c .before .before .before .before .before .loop .inv) (c .before .before .before .before .loop-test .taken) _ (c .before .before .before .lowest .ensures) (flag-off _ _ (c .before .is-plus-zero .ensures) (c .if1 .taken))
 
 without-lowest-requires : tie.Need-without-lowest-requires Inv-loop μ-loop
 without-lowest-requires c κs = search needs
@@ -45,18 +42,17 @@ loop-less : tie.Need-loop-less Inv-loop μ-loop
 loop-less c = walk-less _ (c .before .before .before .before .before .before .loop .inv .fits) (c .before .before .before .before .before .loop-test .taken) _ (c .without-lowest .ensures)
 
 loop-again : tie.Need-loop-again Inv-loop μ-loop
-loop-again c = absent-more _ _ _ (c .before .before .before .before .before .before .loop .inv) (c .before .before .before .before .before .loop-test .taken) _ (c .before .before .before .before .lowest .ensures) (flag-on _ _ (c .before .before .is-plus-zero .ensures) (c .before .if1 .left)) _ (c .without-lowest .ensures) (c .without-lowest .ok)
+loop-again c = walked-more _ _ _ (c .before .before .before .before .before .before .loop .inv) (c .before .before .before .before .before .loop-test .taken) _ (c .before .before .before .before .lowest .ensures) (flag-on _ _ (c .before .before .is-plus-zero .ensures) (c .before .if1 .left)) _ (c .without-lowest .ensures) (c .without-lowest .ok)
 
 returns-2 : tie.Need-returns-2 Inv-loop μ-loop
-returns-2 c = absent-done _ _ _ (c .before .loop .inv) (c .loop-test .left)
+returns-2 c = walked-done _ _ _ (c .before .loop .inv) (c .loop-test .left)
 
-pub absent-hold-spec : {M : Type 1} → statement M
-absent-hold-spec =
+pub all-plus-zero-spec : {M : Type 1} → statement M
+all-plus-zero-spec =
     tie.close
     (tie.spec
     Inv-loop
     μ-loop
-    and-not-requires
     loop-holds
     lowest-requires
     mul-is-plus-zero

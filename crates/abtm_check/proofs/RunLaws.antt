@@ -273,19 +273,15 @@ module _ (ms os ks : List ℕ) (vals : List Float) where
         is = step ∙ ap (λ (t : Bool). t && every (absentOf vals) (drop (i + 1) all)) e;
       }
 
-      -- a Sparse or Bitmap tile has no absent place
-      pub tested-compact : (k : ℕ) → k ≡ kindIn (getD ks i 0) → (k ≡ 2 → ⊥) → Tested ms os ks vals (i + 1)
-      tested-compact k e d = more (ap (λ (t : Bool). cond t (absentKeep (getD ms i 0) (slice (getD os i 0) (getD os i 0 + size) vals)) true) (go (isDense (getD ks i 0)) refl))
-        where
-          go : (t : Bool) → isDense (getD ks i 0) ≡ t → t ≡ false
-          go true f = absurd (d (e ∙ eqb-true (kindIn (getD ks i 0)) 2 f))
-          go false f = refl
-
       -- w: its absent places; there is none
       pub tested-full : (w : ℕ) → w ≡ wordIs (getD ms i 0) (getD ks i 0) → w ≡ 0 → Tested ms os ks vals (i + 1)
       tested-full w e z = more (word-none (getD ms i 0) (getD ks i 0) w e z (slice (getD os i 0) (getD os i 0 + size) vals))
 
-      -- or there are, and its values start at place `from`
+      -- a Sparse or Bitmap tile has none
+      pub tested-compact : (k : ℕ) → k ≡ kindIn (getD ks i 0) → (k ≡ 2 → ⊥) → Tested ms os ks vals (i + 1)
+      tested-compact k e d = tested-full 0 (word-other (getD ms i 0) (getD ks i 0) k e d) refl
+
+      -- a tile that has absent places, and whose values start at place `from`
       module _ (w : ℕ) (e : w ≡ wordIs (getD ms i 0) (getD ks i 0)) (d : w ≡ 0 → ⊥) (from : ℕ) (ea : from ≡ getD os i 0) where
         dense : kindIn (getD ks i 0) ≡ 2
         dense = word-dense-only (getD ms i 0) (getD ks i 0) w e d

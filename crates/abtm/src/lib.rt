@@ -1,6 +1,8 @@
 // abtm.rs: a tile by value, `AbtmConfig` with its thresholds. What its values may be is the crate abtm_values, the check of tiles
 // abtm_check, the parts of a row and the figures are abtm_rows, the build from a plot list is abtm_build, the product abtm_apply, the
 // expansion of a mask abtm_expand.
+#![tactic(auto)]
+
 ghost use Rattle.std.specs.Prelude.{◌≡◌, ◌*◌, length};
 ghost use Rattle.hybit_core.specs.Table.{told};
 ghost use Rattle.abtm.specs.Tiles.{word_in, kind_in, places, kind_of};
@@ -8,7 +10,7 @@ ghost use Rattle.abtm.specs.Calls.{threshold_answer, told_kind, kind_answer};
 
 use hybit_core::{HybitError, Verdict};
 
-#[derive(Drop)]
+#[derive(Clone, Copy)]
 pub enum TileKind {
     Sparse,
     Bitmap,
@@ -16,21 +18,21 @@ pub enum TileKind {
 }
 
 // `TileKind`, or 12 for kind 3, which the Rust's `meta` can't hold.
-#[derive(Drop)]
+#[derive(Clone, Copy)]
 pub enum KindAnswer {
     Kind(TileKind),
     Refused(HybitError),
 }
 
 // A tile by value.
-#[derive(Drop)]
+#[derive(Clone, Copy)]
 pub struct TileDesc {
     pub mask: u64,
     pub value_offset: u32,
     pub meta: u32,
 }
 
-#[derive(Drop)]
+#[derive(Clone, Copy)]
 pub struct AbtmConfig {
     pub sparse_max_nnz: u8,
     pub dense_min_nnz: u8,

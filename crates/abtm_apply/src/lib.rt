@@ -1,4 +1,6 @@
 // abtm.rs: `LinearOperator::apply` of `AbtmMatrix`, the product of tiles. Each tile is read once.
+#![tactic(auto)]
+
 ghost use Rattle.std.specs.Prelude.{◌≡◌, true, ◌+◌, ◌≤◌, ◌^◌, ltb, length};
 ghost use mathlib.Core.List.{map, zip};
 ghost use Rattle.hybit_core.specs.Answer.{accepted};

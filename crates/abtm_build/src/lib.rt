@@ -2,6 +2,8 @@
 // one for each of 32,768 columns, with marks of the words and of the blocks of 64 words that have one; its tiles come out
 // ascending, and the next window starts at the row's next column. What the tiles take is counted to the end even where the lists
 // are full: only then is it known whether the result fits, since merged zeros take no place.
+#![tactic(auto)]
+
 ghost use Rattle.std.specs.Prelude.{◌≡◌, true, not, cond, ◌||◌, ◌+◌, ◌*◌, ◌≤◌, ◌<◌, ◌^◌, ltb, eqb, length, take, replicate, set, get_or};
 ghost use mathlib.Core.List.{[], map, zip};
 ghost use Rattle.std.specs.Float.{nan, binary64};
@@ -24,7 +26,7 @@ use abtm::AbtmConfig;
 use hybit_core::{HybitError, Verdict};
 
 // What a build of tiles answers: how many tiles and value slots it wrote and how many values there are.
-#[derive(Drop)]
+#[derive(Clone, Copy)]
 pub enum TilesAnswer {
     Built {
         tiles: usize,
@@ -35,7 +37,7 @@ pub enum TilesAnswer {
 }
 
 // The next places of the tile lists and of the values, and the values so far.
-#[derive(Drop)]
+#[derive(Clone, Copy)]
 pub struct Cursor {
     pub tiles: usize,
     pub slots: usize,

@@ -1,4 +1,6 @@
 // abtm.rs: the check of tiles that are handed in. Their lists are lent by the caller, and every call on a record checks it: 1, 12.
+#![tactic(auto)]
+
 ghost use Rattle.std.specs.Prelude.{◌≡◌, ◌+◌, ◌-◌, ◌%◌, ◌^◌, ◌<◌, ◌≤◌, true, not, ◌&&◌, leb, map, length, drop, if◌then◌else◌, ◌==◌, nat_eq, nat_le, nat_lt, slice_index_or};
 ghost use mathlib.Core.List.{zip};
 ghost use Rattle.std.specs.Float.{nan};
@@ -58,7 +60,7 @@ fn also_kind(holds: bool, meta: u32) -> bool
 }
 
 // How many of the first `upto` values are neither NaN nor zero.
-#[derive(Drop)]
+#[derive(Clone, Copy)]
 struct Counted {
     upto: usize,
     solid: usize,
@@ -284,7 +286,7 @@ fn also_tile(holds: bool, mask: u64, offset: u32, meta: u32, next: usize) -> boo
 }
 
 // What one pass over tiles of any kinds finds: whether no mask is 0, no kind is 3 and the offsets follow, and how many bits are set.
-#[derive(Drop)]
+#[derive(Clone, Copy)]
 struct Scan {
     holds: bool,
     bits: usize,

@@ -1,4 +1,6 @@
 // abtm.rs: `AbtmMatrix::expand_mask_one_hop`.
+#![tactic(auto)]
+
 ghost use Rattle.std.specs.Prelude.{◌≡◌, true, ◌&&◌, ◌||◌, ℕ, eqb, ltb, length, get_or};
 ghost use mathlib.Core.List.{zip};
 ghost use Rattle.hybit_core.specs.Answer.{accepted};

@@ -1,4 +1,6 @@
 // abtm.rs: `AbtmMatrix::row_tiles` and `AbtmMatrix::stats`.
+#![tactic(auto)]
+
 ghost use Rattle.std.specs.Prelude.{◌≡◌, length};
 ghost use Rattle.hybit_core.specs.Answer.{number_in, answers};
 ghost use Rattle.hybit_core.specs.Table.{told};
@@ -10,7 +12,7 @@ ghost use Rattle.abtm_rows.specs.Rows.{tile_row_answer, of_kind, tile_stats, tol
 
 use hybit_core::{HybitError, Verdict};
 
-#[derive(Drop)]
+#[derive(Clone, Copy)]
 pub struct AbtmStats {
     pub nrows: usize,
     pub ncols: usize,
@@ -23,7 +25,7 @@ pub struct AbtmStats {
     pub metadata_bytes: usize,
 }
 
-#[derive(Drop)]
+#[derive(Clone, Copy)]
 pub enum AbtmStatsAnswer {
     Stats(AbtmStats),
     Refused(HybitError),

@@ -1,4 +1,6 @@
 // abtm.rs: values of tiles. A zero of either sign, +0.0, and how many values of a list may stand at present places.
+#![tactic(auto)]
+
 ghost use Rattle.std.specs.Prelude.{◌≡◌, ◌+◌, length};
 ghost use mir.Val.{bool_byte};
 ghost use Rattle.lent.specs.Lists.{only};

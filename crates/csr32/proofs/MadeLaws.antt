@@ -6,15 +6,15 @@ use mathlib.Core.Path.{◌≡◌, refl, sym, ap, ap₂, ◌∙◌}
 use Prim.Native.Nat.{ℕ, suc, ◌^◌, ◌≤◌, ◌<◌}
 use native.Mathlib.Omega.{arith}
 use lib.Dec.{eqb, ltb}
-use lib.ListN.{length, get_or, length-map}
+use lib.ListN.{length, length-map}
 use lib.Ieee.{Float}
 use borrow.Author.Tests.{le-leb, eq-eqb}
 use Rattle.hybit_core.specs.Answer.{Answer, accepted, demand, ◌and_then◌}
 use Rattle.hybit_core.specs.Domain.{few, many, sizes_fit}
 use Rattle.hybit_core.specs.Floats.{zero64, finite}
 use Rattle.hybit_core.proofs.BoolLaws.{and_left, and_right, and_both, and-four}
-use Rattle.lent.specs.Lists.{joined, starts, part, every, rises}
-use Rattle.lent.proofs.ListLaws.{map-joined, part-joined, zip_maps, map_id, length-starts, get_or-starts, every-joined, every_map, every_by, every-all}
+use Rattle.lent.specs.Lists.{joined, starts, part, every}
+use Rattle.lent.proofs.ListLaws.{map-joined, part-joined, zip_maps, map_id, length-starts, every-joined, every_map, every_by, every-all}
 use Rattle.lent.proofs.LentLaws.{handed_used}
 use Rattle.csr32.specs.Csr.{Csr, Entry, framed, framed_lists, csr_sizes, csr_rules, csr_answer, entries}
 use Rattle.csr32.specs.Made.{csr_of, CsrRoom, csr_left}

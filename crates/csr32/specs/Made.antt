@@ -1,5 +1,5 @@
 -- A plot list made row by row: its lists, the room that they take, and what a build of one leaves.
-use Rattle.std.specs.Prelude.{ℕ, suc, Bool, ◌&&◌, List, map, leb, length, Float}
+use Rattle.std.specs.Prelude.{ℕ, suc, Bool, ◌&&◌, List, map, leb, length}
 use Rattle.hybit_core.specs.Answer.{Answer}
 use Rattle.hybit_core.specs.Floats.{zero64}
 use Rattle.lent.specs.Lists.{joined, starts, only}

@@ -1,4 +1,6 @@
 // csr32.rs: `Csr32Matrix`, the plot list. Its lists are lent by the caller, and every call checks them.
+#![tactic(auto)]
+
 ghost use Rattle.std.specs.Prelude.{◌≡◌, true, ◌&&◌, ltb, length};
 ghost use Rattle.hybit_core.specs.Answer.{answers};
 ghost use Rattle.hybit_core.specs.Domain.{few};

@@ -1,4 +1,6 @@
 // csr32.rs: `LinearOperator::apply` of `Csr32Matrix`, the product of a plot list.
+#![tactic(auto)]
+
 ghost use Rattle.std.specs.Prelude.{◌≡◌, ◌*◌, ◌^◌, ◌<◌, ◌≤◌, length, get_or};
 ghost use Rattle.hybit_core.specs.Answer.{accepted};
 ghost use Rattle.hybit_core.specs.Floats.{zero64};
@@ -10,7 +12,7 @@ ghost use Rattle.csr32.specs.Sums.{between, added_to, product_at, Sides, Places}
 use hybit_core::{HybitError, Verdict};
 
 // Three sums made side by side.
-#[derive(Drop)]
+#[derive(Clone, Copy)]
 struct Three {
     first: f64,
     second: f64,

@@ -7,7 +7,7 @@ use mathlib.Core.Bool.{Bool, ◌&&◌}
 use lib.IntN.{ℤ, pos, negsuc}
 use lib.Dec.{T, leb, ltb, eqb, ltb→lt, leb→le, eqb→eq}
 use lib.Pow.{pow-add, pow_pos, pow-lt}
-use lib.Ieee.{Float, fin, Format, prec, emax, low, up, down, round, fits}
+use lib.Ieee.{Float, nan, inf, fin, Format, prec, emax, low, up, down, round, fits}
 use lib.Ieee.Digits.{back}
 use lib.Ieee.Fits.{up_pos, down_pos, and_l, and_r, round-fits}
 use lib.Ieee.Exact.{HasValue, round_exact}
@@ -93,6 +93,12 @@ unique f (fin t (suc m) e) (fin u zero g) s a c C p q v w =
 unique f (fin t (suc m) e) (fin u (suc n) g) s a c C p q v w =
     let r = same_exp (suc m) (suc n) e g (held f t m e p).is_odd (held f u n g q).is_odd (cross (suc m * up e) (suc n * up g) (down e) (down g) a c C v.1 w.1) in
     λ i. fin ((v.0 ∙ sym w.0) i) (r.0 i) (r.1 i)
+unique f nan y s a c C p q v w = elim v [ ]
+unique f (inf _) y s a c C p q v w = elim v [ ]
+unique f (fin t zero e) nan s a c C p q v w = elim w [ ]
+unique f (fin t zero e) (inf _) s a c C p q v w = elim w [ ]
+unique f (fin t (suc m) e) nan s a c C p q v w = elim w [ ]
+unique f (fin t (suc m) e) (inf _) s a c C p q v w = elim w [ ]
 
 -- ---- a value that the format holds is a whole number of the format's smallest values
 pow-le : (i j : ℕ) → 2 ^ i ≤ 2 ^ j → i ≤ j

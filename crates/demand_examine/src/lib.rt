@@ -1,5 +1,7 @@
 // What the three routes of demand 3 ask first, of any input: the records, the thresholds in the route by tiles, and the question to a
 // row. The crates demand_routes and demand_tiled run the routes.
+#![tactic(auto)]
+
 ghost use Rattle.std.specs.Prelude.{◌≡◌};
 ghost use Rattle.hybit_core.specs.Answer.{accepted, ◌and_then◌};
 ghost use Rattle.hybit_core.specs.Table.{told};

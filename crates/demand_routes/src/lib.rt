@@ -1,6 +1,8 @@
 // Demand 3's two dots of a row on lent lists: the pruned dot; the dot of the restriction with every plot active. Each runs its calls one
 // after the other and answers the first refusal. proofs/AgreeLaws shows from the theorem of the crate demand that these two and the
 // route of the crate demand_tiled agree.
+#![tactic(auto)]
+
 ghost use Rattle.std.specs.Prelude.{◌≡◌, true, [], ◌≤◌, ◌^◌, length};
 ghost use Rattle.hybit_core.specs.Answer.{answers, ◌and_then◌};
 ghost use Rattle.hybit_core.specs.Floats.{zero64};

@@ -1,5 +1,7 @@
 // Demand 3's route by tiles on lent lists: the row product of the list restricted from the plot list's tiles. It runs its calls one
 // after the other and answers the first refusal.
+#![tactic(auto)]
+
 ghost use Rattle.std.specs.Prelude.{◌≡◌, [], length};
 ghost use Rattle.hybit_core.specs.Answer.{answers, ◌and_then◌};
 ghost use Rattle.hybit_core.specs.Floats.{zero64};
@@ -20,7 +22,7 @@ use hybit_core::{HybitError, Verdict};
 use restricted::RestrictAnswer;
 
 // A row product.
-#[derive(Drop)]
+#[derive(Clone, Copy)]
 pub enum NumberAnswer {
     Number(f64),
     Refused(HybitError),

@@ -1,6 +1,8 @@
 // The C interface: every public call of mask, csr32, topology, metadata_first, abtm, restricted and dense_block under a name of
 // its own, for programs in C and Rust to link (denimrasp.h). A list crosses as a pointer and a length, an answer as one struct of
 // denimrasp_answers.
+#![tactic(auto)]
+
 ghost use Rattle.std.specs.Prelude.{◌≡◌, false, not, ◌&&◌, ◌||◌, min, ◌+◌, ◌-◌, ◌*◌, ◌^◌, eqb, length};
 ghost use Rattle.std.specs.Float.{binary64};
 ghost use Rattle.std.specs.Float.Ieee.{div};
@@ -53,40 +55,35 @@ use topology::{AbtmTopologyStats, AbtmTopologyWord};
 use word::Operation;
 
 // 5 where the words are not those of a mask of that length.
-#[unsafe(no_mangle)]
-pub extern "C" fn denimrasp_mask_check(len: usize, words: &[u64]) -> DenimraspVerdict
+pub fn denimrasp_mask_check(len: usize, words: &[u64]) -> DenimraspVerdict
     ensures { result ≡ verdict_of (mask_answer (as_mask len words.now)) }
 {
     denimrasp_answers::verdict(mask::check(len, words))
 }
 
 // Whether index is a member; false from the length on.
-#[unsafe(no_mangle)]
-pub extern "C" fn denimrasp_mask_contains(len: usize, words: &[u64], index: usize) -> DenimraspBool
+pub fn denimrasp_mask_contains(len: usize, words: &[u64], index: usize) -> DenimraspBool
     ensures { result ≡ bool_of (answers (mask_answer (as_mask len words.now)) (active (as_mask len words.now) index)) }
 {
     denimrasp_answers::truth(mask::contains(len, words, index))
 }
 
 // How many members the mask has.
-#[unsafe(no_mangle)]
-pub extern "C" fn denimrasp_mask_count_ones(len: usize, words: &[u64]) -> DenimraspCount
+pub fn denimrasp_mask_count_ones(len: usize, words: &[u64]) -> DenimraspCount
     ensures { result ≡ count_of (answers (mask_answer (as_mask len words.now)) (count (active (as_mask len words.now)) len)) }
 {
     denimrasp_answers::count(mask::count_ones(len, words))
 }
 
 // Whether the mask has no member.
-#[unsafe(no_mangle)]
-pub extern "C" fn denimrasp_mask_is_empty(len: usize, words: &[u64]) -> DenimraspBool
+pub fn denimrasp_mask_is_empty(len: usize, words: &[u64]) -> DenimraspBool
     ensures { result ≡ bool_of (answers (mask_answer (as_mask len words.now)) (eqb (count (active (as_mask len words.now)) len) 0)) }
 {
     denimrasp_answers::truth(mask::is_empty(len, words))
 }
 
 // The empty mask of that length.
-#[unsafe(no_mangle)]
-pub extern "C" fn denimrasp_mask_new(len: usize, words: &mut [u64]) -> DenimraspVerdict
+pub fn denimrasp_mask_new(len: usize, words: &mut [u64]) -> DenimraspVerdict
     ensures answer { result ≡ verdict_of (new_answer len (length words.old)) }
     ensures list { words.new ≡ built 0 (length words.old) (new_answer len (length words.old)) (mask_words (λ c. false) len) }
 {
@@ -94,8 +91,7 @@ pub extern "C" fn denimrasp_mask_new(len: usize, words: &mut [u64]) -> Denimrasp
 }
 
 // The mask of the listed members.
-#[unsafe(no_mangle)]
-pub extern "C" fn denimrasp_mask_from_indices(
+pub fn denimrasp_mask_from_indices(
     len: usize,
     indices: &[usize],
     words: &mut [u64],
@@ -107,8 +103,7 @@ pub extern "C" fn denimrasp_mask_from_indices(
 }
 
 // Puts index in or out; a refused call leaves the words as they were.
-#[unsafe(no_mangle)]
-pub extern "C" fn denimrasp_mask_set(
+pub fn denimrasp_mask_set(
     len: usize,
     words: &mut [u64],
     index: usize,
@@ -121,8 +116,7 @@ pub extern "C" fn denimrasp_mask_set(
 }
 
 // Joins the members of one word; bits from the length on are dropped, a word past the end changes nothing.
-#[unsafe(no_mangle)]
-pub extern "C" fn denimrasp_mask_or_word(
+pub fn denimrasp_mask_or_word(
     len: usize,
     words: &mut [u64],
     word_index: usize,
@@ -135,12 +129,7 @@ pub extern "C" fn denimrasp_mask_or_word(
 }
 
 // The members, ascending; answers how many.
-#[unsafe(no_mangle)]
-pub extern "C" fn denimrasp_mask_indices(
-    len: usize,
-    words: &[u64],
-    out: &mut [usize],
-) -> DenimraspCount
+pub fn denimrasp_mask_indices(len: usize, words: &[u64], out: &mut [usize]) -> DenimraspCount
     ensures answer { result ≡ count_of (answers (indices_answer (as_mask len words.now) (length out.old)) (count (active (as_mask len words.now)) len)) }
     ensures list { out.new ≡ built 0 (length out.old) (indices_answer (as_mask len words.now) (length out.old)) (below (active (as_mask len words.now)) len) }
 {
@@ -148,8 +137,7 @@ pub extern "C" fn denimrasp_mask_indices(
 }
 
 // Joins the other mask's members to this one's.
-#[unsafe(no_mangle)]
-pub extern "C" fn denimrasp_mask_union_assign(
+pub fn denimrasp_mask_union_assign(
     len: usize,
     words: &mut [u64],
     other_len: usize,
@@ -162,8 +150,7 @@ pub extern "C" fn denimrasp_mask_union_assign(
 }
 
 // Keeps the members that the other mask has too.
-#[unsafe(no_mangle)]
-pub extern "C" fn denimrasp_mask_intersect_assign(
+pub fn denimrasp_mask_intersect_assign(
     len: usize,
     words: &mut [u64],
     other_len: usize,
@@ -176,8 +163,7 @@ pub extern "C" fn denimrasp_mask_intersect_assign(
 }
 
 // Keeps the members that the other mask does not have.
-#[unsafe(no_mangle)]
-pub extern "C" fn denimrasp_mask_and_not_assign(
+pub fn denimrasp_mask_and_not_assign(
     len: usize,
     words: &mut [u64],
     other_len: usize,
@@ -190,8 +176,7 @@ pub extern "C" fn denimrasp_mask_and_not_assign(
 }
 
 // Whether the two masks have a member in common.
-#[unsafe(no_mangle)]
-pub extern "C" fn denimrasp_mask_intersects(
+pub fn denimrasp_mask_intersects(
     len: usize,
     words: &[u64],
     other_len: usize,
@@ -203,8 +188,7 @@ pub extern "C" fn denimrasp_mask_intersects(
 }
 
 // The Rust's `new` and `validate`.
-#[unsafe(no_mangle)]
-pub extern "C" fn denimrasp_csr32_check(
+pub fn denimrasp_csr32_check(
     nrows: usize,
     ncols: usize,
     row_ptr: &[u32],
@@ -217,8 +201,7 @@ pub extern "C" fn denimrasp_csr32_check(
 }
 
 // The row products; a refused call leaves y as it was.
-#[unsafe(no_mangle)]
-pub extern "C" fn denimrasp_csr32_apply(
+pub fn denimrasp_csr32_apply(
     nrows: usize,
     ncols: usize,
     row_ptr: &[u32],
@@ -234,8 +217,7 @@ pub extern "C" fn denimrasp_csr32_apply(
 }
 
 // The bytes of the pointers and columns.
-#[unsafe(no_mangle)]
-pub extern "C" fn denimrasp_csr32_metadata_bytes(
+pub fn denimrasp_csr32_metadata_bytes(
     nrows: usize,
     ncols: usize,
     row_ptr: &[u32],
@@ -248,8 +230,7 @@ pub extern "C" fn denimrasp_csr32_metadata_bytes(
 }
 
 // The same and those of the values.
-#[unsafe(no_mangle)]
-pub extern "C" fn denimrasp_csr32_storage_bytes(
+pub fn denimrasp_csr32_storage_bytes(
     nrows: usize,
     ncols: usize,
     row_ptr: &[u32],
@@ -262,8 +243,7 @@ pub extern "C" fn denimrasp_csr32_storage_bytes(
 }
 
 // The Rust's `validate`.
-#[unsafe(no_mangle)]
-pub extern "C" fn denimrasp_topology_check(
+pub fn denimrasp_topology_check(
     nrows: usize,
     ncols: usize,
     row_word_ptr: &[u32],
@@ -285,8 +265,7 @@ pub extern "C" fn denimrasp_topology_check(
 }
 
 // The words of a plot list.
-#[unsafe(no_mangle)]
-pub extern "C" fn denimrasp_topology_from_csr32(
+pub fn denimrasp_topology_from_csr32(
     nrows: usize,
     ncols: usize,
     row_ptr: &[u32],
@@ -315,8 +294,7 @@ pub extern "C" fn denimrasp_topology_from_csr32(
 }
 
 // The places of the row's word numbers and masks in their lists: from start, below end.
-#[unsafe(no_mangle)]
-pub extern "C" fn denimrasp_topology_row_words(
+pub fn denimrasp_topology_row_words(
     nrows: usize,
     ncols: usize,
     row_word_ptr: &[u32],
@@ -345,8 +323,7 @@ pub extern "C" fn denimrasp_topology_row_words(
 }
 
 // How many words the row has.
-#[unsafe(no_mangle)]
-pub extern "C" fn denimrasp_topology_row_nonempty_words(
+pub fn denimrasp_topology_row_nonempty_words(
     nrows: usize,
     ncols: usize,
     row_word_ptr: &[u32],
@@ -370,8 +347,7 @@ pub extern "C" fn denimrasp_topology_row_nonempty_words(
 }
 
 // How many columns the row holds.
-#[unsafe(no_mangle)]
-pub extern "C" fn denimrasp_topology_row_popcount(
+pub fn denimrasp_topology_row_popcount(
     nrows: usize,
     ncols: usize,
     row_word_ptr: &[u32],
@@ -395,8 +371,7 @@ pub extern "C" fn denimrasp_topology_row_popcount(
 }
 
 // Whether the row holds the column; false from the column count on.
-#[unsafe(no_mangle)]
-pub extern "C" fn denimrasp_topology_row_contains(
+pub fn denimrasp_topology_row_contains(
     nrows: usize,
     ncols: usize,
     row_word_ptr: &[u32],
@@ -422,8 +397,7 @@ pub extern "C" fn denimrasp_topology_row_contains(
 }
 
 // How many columns below col the row holds; the column count is allowed.
-#[unsafe(no_mangle)]
-pub extern "C" fn denimrasp_topology_row_rank(
+pub fn denimrasp_topology_row_rank(
     nrows: usize,
     ncols: usize,
     row_word_ptr: &[u32],
@@ -449,8 +423,7 @@ pub extern "C" fn denimrasp_topology_row_rank(
 }
 
 // The row's column with ordinal columns below it, if there is one.
-#[unsafe(no_mangle)]
-pub extern "C" fn denimrasp_topology_row_select(
+pub fn denimrasp_topology_row_select(
     nrows: usize,
     ncols: usize,
     row_word_ptr: &[u32],
@@ -476,8 +449,7 @@ pub extern "C" fn denimrasp_topology_row_select(
 }
 
 // The figures of a record.
-#[unsafe(no_mangle)]
-pub extern "C" fn denimrasp_topology_stats(
+pub fn denimrasp_topology_stats(
     nrows: usize,
     ncols: usize,
     row_word_ptr: &[u32],
@@ -499,8 +471,7 @@ pub extern "C" fn denimrasp_topology_stats(
 }
 
 // The columns that either record holds, row by row.
-#[unsafe(no_mangle)]
-pub extern "C" fn denimrasp_topology_union(
+pub fn denimrasp_topology_union(
     nrows: usize,
     ncols: usize,
     row_word_ptr: &[u32],
@@ -544,8 +515,7 @@ pub extern "C" fn denimrasp_topology_union(
 }
 
 // The columns that both hold.
-#[unsafe(no_mangle)]
-pub extern "C" fn denimrasp_topology_intersection(
+pub fn denimrasp_topology_intersection(
     nrows: usize,
     ncols: usize,
     row_word_ptr: &[u32],
@@ -589,8 +559,7 @@ pub extern "C" fn denimrasp_topology_intersection(
 }
 
 // The columns that the first holds and the other does not.
-#[unsafe(no_mangle)]
-pub extern "C" fn denimrasp_topology_and_not(
+pub fn denimrasp_topology_and_not(
     nrows: usize,
     ncols: usize,
     row_word_ptr: &[u32],
@@ -634,8 +603,7 @@ pub extern "C" fn denimrasp_topology_and_not(
 }
 
 // The columns that one of them holds and the other does not.
-#[unsafe(no_mangle)]
-pub extern "C" fn denimrasp_topology_xor(
+pub fn denimrasp_topology_xor(
     nrows: usize,
     ncols: usize,
     row_word_ptr: &[u32],
@@ -679,8 +647,7 @@ pub extern "C" fn denimrasp_topology_xor(
 }
 
 // The Rust's `validate`.
-#[unsafe(no_mangle)]
-pub extern "C" fn denimrasp_metadata_first_check(
+pub fn denimrasp_metadata_first_check(
     nrows: usize,
     ncols: usize,
     row_word_ptr: &[u32],
@@ -706,8 +673,7 @@ pub extern "C" fn denimrasp_metadata_first_check(
 }
 
 // Whether the plot list can be packed: 4 too where a merged value is not finite. Writes nothing.
-#[unsafe(no_mangle)]
-pub extern "C" fn denimrasp_metadata_first_check_merge(
+pub fn denimrasp_metadata_first_check_merge(
     nrows: usize,
     ncols: usize,
     row_ptr: &[u32],
@@ -721,8 +687,7 @@ pub extern "C" fn denimrasp_metadata_first_check_merge(
 }
 
 // The packed store of a plot list.
-#[unsafe(no_mangle)]
-pub extern "C" fn denimrasp_metadata_first_from_csr32(
+pub fn denimrasp_metadata_first_from_csr32(
     nrows: usize,
     ncols: usize,
     row_ptr: &[u32],
@@ -757,8 +722,7 @@ pub extern "C" fn denimrasp_metadata_first_from_csr32(
 }
 
 // The places of the row's values in their list: from start, below end.
-#[unsafe(no_mangle)]
-pub extern "C" fn denimrasp_metadata_first_row_values(
+pub fn denimrasp_metadata_first_row_values(
     nrows: usize,
     ncols: usize,
     row_word_ptr: &[u32],
@@ -791,8 +755,7 @@ pub extern "C" fn denimrasp_metadata_first_row_values(
 }
 
 // The figures of a store.
-#[unsafe(no_mangle)]
-pub extern "C" fn denimrasp_metadata_first_stats(
+pub fn denimrasp_metadata_first_stats(
     nrows: usize,
     ncols: usize,
     row_word_ptr: &[u32],
@@ -818,8 +781,7 @@ pub extern "C" fn denimrasp_metadata_first_stats(
 }
 
 // One row's pruned dot, with its counts.
-#[unsafe(no_mangle)]
-pub extern "C" fn denimrasp_metadata_first_sparse_dot_row(
+pub fn denimrasp_metadata_first_sparse_dot_row(
     nrows: usize,
     ncols: usize,
     row_word_ptr: &[u32],
@@ -853,8 +815,7 @@ pub extern "C" fn denimrasp_metadata_first_sparse_dot_row(
 }
 
 // Every row's number and count of executed products.
-#[unsafe(no_mangle)]
-pub extern "C" fn denimrasp_metadata_first_sparse_dot_rows(
+pub fn denimrasp_metadata_first_sparse_dot_rows(
     nrows: usize,
     ncols: usize,
     row_word_ptr: &[u32],
@@ -892,8 +853,7 @@ pub extern "C" fn denimrasp_metadata_first_sparse_dot_rows(
 }
 
 // The first column of a word.
-#[unsafe(no_mangle)]
-pub extern "C" fn denimrasp_word_base_col(word_index: u32) -> usize
+pub fn denimrasp_word_base_col(word_index: u32) -> usize
     ensures { result ≡ 64 * word_index }
 {
     AbtmTopologyWord {
@@ -904,43 +864,35 @@ pub extern "C" fn denimrasp_word_base_col(word_index: u32) -> usize
 }
 
 // How many bits the mask has.
-#[unsafe(no_mangle)]
-pub extern "C" fn denimrasp_word_popcount(mask: u64) -> usize
+pub fn denimrasp_word_popcount(mask: u64) -> usize
     ensures { result ≡ count (has mask) 64 }
 {
     word::popcount(mask)
 }
 
 // Whether bit offset is set; false from 64 on.
-#[unsafe(no_mangle)]
-pub extern "C" fn denimrasp_word_contains_offset(mask: u64, offset: usize) -> bool
+pub fn denimrasp_word_contains_offset(mask: u64, offset: usize) -> bool
     ensures { result ≡ has mask offset }
 {
     word::contains_offset(mask, offset)
 }
 
 // How many bits below offset are set; 7 above 64.
-#[unsafe(no_mangle)]
-pub extern "C" fn denimrasp_word_rank(mask: u64, offset: usize) -> DenimraspCount
+pub fn denimrasp_word_rank(mask: u64, offset: usize) -> DenimraspCount
     ensures { result ≡ count_of (word_rank_answer mask offset) }
 {
     denimrasp_answers::count(word::rank(mask, offset))
 }
 
 // The bit with ordinal set bits below it, if there is one.
-#[unsafe(no_mangle)]
-pub extern "C" fn denimrasp_word_select(mask: u64, ordinal: usize) -> DenimraspSelect
+pub fn denimrasp_word_select(mask: u64, ordinal: usize) -> DenimraspSelect
     ensures { result ≡ select_of (gives (selected (has mask) 64 ordinal)) }
 {
     denimrasp_answers::word_selection(word::select(mask, ordinal))
 }
 
 // Columns for each word; the ratios are 0.0 where there is nothing to divide by.
-#[unsafe(no_mangle)]
-pub extern "C" fn denimrasp_topology_average_word_nnz(
-    structural_nnz: usize,
-    nonempty_words: usize,
-) -> f64
+pub fn denimrasp_topology_average_word_nnz(structural_nnz: usize, nonempty_words: usize) -> f64
     ensures { result ≡ ratio_of structural_nnz nonempty_words }
 {
     let s = AbtmTopologyStats {
@@ -954,11 +906,7 @@ pub extern "C" fn denimrasp_topology_average_word_nnz(
 }
 
 // The same for each of the 64 columns of a word.
-#[unsafe(no_mangle)]
-pub extern "C" fn denimrasp_topology_word_fill_ratio(
-    structural_nnz: usize,
-    nonempty_words: usize,
-) -> f64
+pub fn denimrasp_topology_word_fill_ratio(structural_nnz: usize, nonempty_words: usize) -> f64
     ensures { result ≡ div binary64 (ratio_of structural_nnz nonempty_words) (count_as_float 64) }
 {
     let s = AbtmTopologyStats {
@@ -972,8 +920,7 @@ pub extern "C" fn denimrasp_topology_word_fill_ratio(
 }
 
 // Bytes for each column.
-#[unsafe(no_mangle)]
-pub extern "C" fn denimrasp_topology_metadata_bytes_per_nnz(
+pub fn denimrasp_topology_metadata_bytes_per_nnz(
     metadata_bytes: usize,
     structural_nnz: usize,
 ) -> f64
@@ -990,8 +937,7 @@ pub extern "C" fn denimrasp_topology_metadata_bytes_per_nnz(
 }
 
 // Skipped products among the candidates.
-#[unsafe(no_mangle)]
-pub extern "C" fn denimrasp_metadata_first_pruning_ratio(
+pub fn denimrasp_metadata_first_pruning_ratio(
     skipped_products: usize,
     candidate_products: usize,
 ) -> f64
@@ -1008,11 +954,7 @@ pub extern "C" fn denimrasp_metadata_first_pruning_ratio(
 }
 
 // Words without a product among the words; 0.0 where more are active than there are.
-#[unsafe(no_mangle)]
-pub extern "C" fn denimrasp_metadata_first_empty_word_ratio(
-    topology_words: usize,
-    active_words: usize,
-) -> f64
+pub fn denimrasp_metadata_first_empty_word_ratio(topology_words: usize, active_words: usize) -> f64
     ensures { result ≡ ratio_of (topology_words - active_words) topology_words }
 {
     let s = AbtmProductPruningStats {
@@ -1026,8 +968,7 @@ pub extern "C" fn denimrasp_metadata_first_empty_word_ratio(
 }
 
 // Their sum, at most 2^64 − 1.
-#[unsafe(no_mangle)]
-pub extern "C" fn denimrasp_metadata_first_total_estimated_bytes(
+pub fn denimrasp_metadata_first_total_estimated_bytes(
     topology_metadata_bytes: usize,
     value_row_ptr_bytes: usize,
     packed_value_bytes: usize,
@@ -1046,8 +987,7 @@ pub extern "C" fn denimrasp_metadata_first_total_estimated_bytes(
 }
 
 // The five totals of two reports; 1 and no totals where one is above 2^64 − 1.
-#[unsafe(no_mangle)]
-pub extern "C" fn denimrasp_metadata_first_accumulate(
+pub fn denimrasp_metadata_first_accumulate(
     candidate_products: usize,
     executed_products: usize,
     skipped_products: usize,
@@ -1079,8 +1019,7 @@ pub extern "C" fn denimrasp_metadata_first_accumulate(
 }
 
 // 9 where the thresholds are bad.
-#[unsafe(no_mangle)]
-pub extern "C" fn denimrasp_abtm_validate(sparse_max_nnz: u8, dense_min_nnz: u8) -> DenimraspVerdict
+pub fn denimrasp_abtm_validate(sparse_max_nnz: u8, dense_min_nnz: u8) -> DenimraspVerdict
     ensures { result ≡ verdict_of (threshold_answer (thresholds_from sparse_max_nnz dense_min_nnz)) }
 {
     let config = AbtmConfig {
@@ -1091,8 +1030,7 @@ pub extern "C" fn denimrasp_abtm_validate(sparse_max_nnz: u8, dense_min_nnz: u8)
 }
 
 // 12 where the tiles break a rule.
-#[unsafe(no_mangle)]
-pub extern "C" fn denimrasp_abtm_check(
+pub fn denimrasp_abtm_check(
     nrows: usize,
     ncols: usize,
     row_tile_ptr: &[u32],
@@ -1118,8 +1056,7 @@ pub extern "C" fn denimrasp_abtm_check(
 }
 
 // The tiles of a plot list; 13 exactly where they do not fit.
-#[unsafe(no_mangle)]
-pub extern "C" fn denimrasp_abtm_from_csr32(
+pub fn denimrasp_abtm_from_csr32(
     nrows: usize,
     ncols: usize,
     row_ptr: &[u32],
@@ -1161,8 +1098,7 @@ pub extern "C" fn denimrasp_abtm_from_csr32(
 }
 
 // The kind of a tile: 0 Sparse, 1 Bitmap, 2 Dense; 12 for kind 3.
-#[unsafe(no_mangle)]
-pub extern "C" fn denimrasp_abtm_tile_kind(meta: u32) -> DenimraspCount
+pub fn denimrasp_abtm_tile_kind(meta: u32) -> DenimraspCount
     ensures { result ≡ count_of (kind_answer meta) }
 {
     let tile = TileDesc {
@@ -1174,8 +1110,7 @@ pub extern "C" fn denimrasp_abtm_tile_kind(meta: u32) -> DenimraspCount
 }
 
 // The first column of a tile.
-#[unsafe(no_mangle)]
-pub extern "C" fn denimrasp_abtm_tile_base_col(meta: u32) -> usize
+pub fn denimrasp_abtm_tile_base_col(meta: u32) -> usize
     ensures { result ≡ 64 * word_in meta }
 {
     TileDesc {
@@ -1187,8 +1122,7 @@ pub extern "C" fn denimrasp_abtm_tile_base_col(meta: u32) -> usize
 }
 
 // The places of the row's tiles in the lists of masks, offsets and metas: from start, below end.
-#[unsafe(no_mangle)]
-pub extern "C" fn denimrasp_abtm_row_tiles(
+pub fn denimrasp_abtm_row_tiles(
     nrows: usize,
     ncols: usize,
     row_tile_ptr: &[u32],
@@ -1221,8 +1155,7 @@ pub extern "C" fn denimrasp_abtm_row_tiles(
 }
 
 // The figures of tiles.
-#[unsafe(no_mangle)]
-pub extern "C" fn denimrasp_abtm_stats(
+pub fn denimrasp_abtm_stats(
     nrows: usize,
     ncols: usize,
     row_tile_ptr: &[u32],
@@ -1248,11 +1181,7 @@ pub extern "C" fn denimrasp_abtm_stats(
 }
 
 // Bytes for each value; 0.0 where there is none.
-#[unsafe(no_mangle)]
-pub extern "C" fn denimrasp_abtm_metadata_bytes_per_nnz(
-    metadata_bytes: usize,
-    matrix_nnz: usize,
-) -> f64
+pub fn denimrasp_abtm_metadata_bytes_per_nnz(metadata_bytes: usize, matrix_nnz: usize) -> f64
     ensures { result ≡ ratio_of metadata_bytes matrix_nnz }
 {
     let s = AbtmStats {
@@ -1270,11 +1199,7 @@ pub extern "C" fn denimrasp_abtm_metadata_bytes_per_nnz(
 }
 
 // The bytes of the metadata and 8 for each value slot, at most 2^64 − 1.
-#[unsafe(no_mangle)]
-pub extern "C" fn denimrasp_abtm_total_estimated_bytes(
-    metadata_bytes: usize,
-    value_slots: usize,
-) -> usize
+pub fn denimrasp_abtm_total_estimated_bytes(metadata_bytes: usize, value_slots: usize) -> usize
     ensures { result ≡ min (metadata_bytes + 8 * value_slots) (2 ^ 64 - 1) }
 {
     let s = AbtmStats {
@@ -1292,8 +1217,7 @@ pub extern "C" fn denimrasp_abtm_total_estimated_bytes(
 }
 
 // The row products of tiles; a refused call leaves y as it was.
-#[unsafe(no_mangle)]
-pub extern "C" fn denimrasp_abtm_apply(
+pub fn denimrasp_abtm_apply(
     nrows: usize,
     ncols: usize,
     row_tile_ptr: &[u32],
@@ -1324,8 +1248,7 @@ pub extern "C" fn denimrasp_abtm_apply(
 }
 
 // The mask joined with the columns of its rows' tiles, in out.
-#[unsafe(no_mangle)]
-pub extern "C" fn denimrasp_abtm_expand_mask_one_hop(
+pub fn denimrasp_abtm_expand_mask_one_hop(
     nrows: usize,
     ncols: usize,
     row_tile_ptr: &[u32],
@@ -1358,8 +1281,7 @@ pub extern "C" fn denimrasp_abtm_expand_mask_one_hop(
 }
 
 // The entries of a plot list in active columns, in stored order; 13 exactly where they do not fit.
-#[unsafe(no_mangle)]
-pub extern "C" fn denimrasp_restricted_from_csr32(
+pub fn denimrasp_restricted_from_csr32(
     nrows: usize,
     ncols: usize,
     row_ptr: &[u32],
@@ -1392,8 +1314,7 @@ pub extern "C" fn denimrasp_restricted_from_csr32(
 }
 
 // The entries of tiles in active columns, ascending; 4 where one is infinite, 13 exactly where they do not fit.
-#[unsafe(no_mangle)]
-pub extern "C" fn denimrasp_restricted_from_abtm(
+pub fn denimrasp_restricted_from_abtm(
     nrows: usize,
     ncols: usize,
     row_tile_ptr: &[u32],
@@ -1432,11 +1353,7 @@ pub extern "C" fn denimrasp_restricted_from_abtm(
 }
 
 // Entries kept among those of the source; 0.0 where it has none.
-#[unsafe(no_mangle)]
-pub extern "C" fn denimrasp_restricted_retained_fraction(
-    retained_nnz: usize,
-    source_nnz: usize,
-) -> f64
+pub fn denimrasp_restricted_retained_fraction(retained_nnz: usize, source_nnz: usize) -> f64
     ensures { result ≡ retained_fraction (restriction_from 0 0 source_nnz retained_nnz) }
 {
     let s = ColumnRestriction {
@@ -1449,12 +1366,7 @@ pub extern "C" fn denimrasp_restricted_retained_fraction(
 }
 
 // The bytes of a restricted list and of its mask, at most 2^64 − 1.
-#[unsafe(no_mangle)]
-pub extern "C" fn denimrasp_restricted_storage_bytes(
-    nrows: usize,
-    ncols: usize,
-    retained_nnz: usize,
-) -> usize
+pub fn denimrasp_restricted_storage_bytes(nrows: usize, ncols: usize, retained_nnz: usize) -> usize
     ensures { result ≡ restriction_bytes (restriction_from nrows ncols 0 retained_nnz) }
 {
     let s = ColumnRestriction {
@@ -1467,8 +1379,7 @@ pub extern "C" fn denimrasp_restricted_storage_bytes(
 }
 
 // A region's rows and columns of a plot list, numbered anew; 13 exactly where they do not fit.
-#[unsafe(no_mangle)]
-pub extern "C" fn denimrasp_local_from_csr32(
+pub fn denimrasp_local_from_csr32(
     nrows: usize,
     ncols: usize,
     row_ptr: &[u32],
@@ -1504,16 +1415,14 @@ pub extern "C" fn denimrasp_local_from_csr32(
 }
 
 // 12 where the members do not rise or are not below the global size.
-#[unsafe(no_mangle)]
-pub extern "C" fn denimrasp_local_check(global_size: usize, members: &[u32]) -> DenimraspVerdict
+pub fn denimrasp_local_check(global_size: usize, members: &[u32]) -> DenimraspVerdict
     ensures { result ≡ verdict_of (members_answer global_size members.now) }
 {
     denimrasp_answers::verdict(restricted_gather::check(global_size, members))
 }
 
 // A region's numbers of a vector, in local; a refused call leaves local as it was.
-#[unsafe(no_mangle)]
-pub extern "C" fn denimrasp_local_gather_input(
+pub fn denimrasp_local_gather_input(
     global_size: usize,
     members: &[u32],
     global: &[f64],
@@ -1527,11 +1436,7 @@ pub extern "C" fn denimrasp_local_gather_input(
 }
 
 // 1.0 less the entries kept among the source entries of the region's rows; 0.0 where they have none.
-#[unsafe(no_mangle)]
-pub extern "C" fn denimrasp_local_boundary_pruning_ratio(
-    local_nnz: usize,
-    source_row_nnz: usize,
-) -> f64
+pub fn denimrasp_local_boundary_pruning_ratio(local_nnz: usize, source_row_nnz: usize) -> f64
     ensures { result ≡ boundary_ratio (region_from 0 0 local_nnz source_row_nnz) }
 {
     let s = LocalRegion {
@@ -1544,8 +1449,7 @@ pub extern "C" fn denimrasp_local_boundary_pruning_ratio(
 }
 
 // The bytes of a local list and of its members, at most 2^64 − 1.
-#[unsafe(no_mangle)]
-pub extern "C" fn denimrasp_local_storage_bytes(local_nodes: usize, local_nnz: usize) -> usize
+pub fn denimrasp_local_storage_bytes(local_nodes: usize, local_nnz: usize) -> usize
     ensures { result ≡ region_bytes (region_from 0 local_nodes local_nnz 0) }
 {
     let s = LocalRegion {
@@ -1558,8 +1462,7 @@ pub extern "C" fn denimrasp_local_storage_bytes(local_nodes: usize, local_nnz: u
 }
 
 // The blocks of a plot list, of width 6 or 3; 13 exactly where they do not fit.
-#[unsafe(no_mangle)]
-pub extern "C" fn denimrasp_dense_block_from_csr32(
+pub fn denimrasp_dense_block_from_csr32(
     nrows: usize,
     ncols: usize,
     row_ptr: &[u32],
@@ -1591,8 +1494,7 @@ pub extern "C" fn denimrasp_dense_block_from_csr32(
 }
 
 // 12 where the lists are not those of a matrix in blocks.
-#[unsafe(no_mangle)]
-pub extern "C" fn denimrasp_dense_block_check(
+pub fn denimrasp_dense_block_check(
     nrows: usize,
     ncols: usize,
     six: bool,
@@ -1608,8 +1510,7 @@ pub extern "C" fn denimrasp_dense_block_check(
 }
 
 // The row products of blocks; a refused call leaves y as it was.
-#[unsafe(no_mangle)]
-pub extern "C" fn denimrasp_dense_block_apply(
+pub fn denimrasp_dense_block_apply(
     nrows: usize,
     ncols: usize,
     six: bool,
@@ -1628,8 +1529,7 @@ pub extern "C" fn denimrasp_dense_block_apply(
 }
 
 // The blocks wholly inside the frame among all blocks; 0.0 without blocks.
-#[unsafe(no_mangle)]
-pub extern "C" fn denimrasp_dense_block_fast_block_fraction(
+pub fn denimrasp_dense_block_fast_block_fraction(
     nrows: usize,
     ncols: usize,
     six: bool,
@@ -1647,11 +1547,7 @@ pub extern "C" fn denimrasp_dense_block_fast_block_fraction(
 }
 
 // The distinct places with an entry among the places of the blocks inside the frame; 0.0 where there are none.
-#[unsafe(no_mangle)]
-pub extern "C" fn denimrasp_dense_block_block_fill(
-    structural_slots: usize,
-    valid_dense_slots: usize,
-) -> f64
+pub fn denimrasp_dense_block_block_fill(structural_slots: usize, valid_dense_slots: usize) -> f64
     ensures { result ≡ block_fill (blocks_from 0 0 0 structural_slots valid_dense_slots) }
 {
     let s = DenseBlocks {
@@ -1667,8 +1563,7 @@ pub extern "C" fn denimrasp_dense_block_block_fill(
 }
 
 // The values of the blocks to the distinct places with an entry; 0.0 where there are none.
-#[unsafe(no_mangle)]
-pub extern "C" fn denimrasp_dense_block_value_padding_ratio(
+pub fn denimrasp_dense_block_value_padding_ratio(
     dense_value_slots: usize,
     structural_slots: usize,
 ) -> f64
@@ -1687,11 +1582,7 @@ pub extern "C" fn denimrasp_dense_block_value_padding_ratio(
 }
 
 // The bytes of pointers and block columns, at most 2^64 − 1.
-#[unsafe(no_mangle)]
-pub extern "C" fn denimrasp_dense_block_metadata_bytes(
-    block_rows: usize,
-    unique_blocks: usize,
-) -> usize
+pub fn denimrasp_dense_block_metadata_bytes(block_rows: usize, unique_blocks: usize) -> usize
     ensures { result ≡ block_metadata_bytes (blocks_from block_rows unique_blocks 0 0 0) }
 {
     let s = DenseBlocks {
@@ -1707,8 +1598,7 @@ pub extern "C" fn denimrasp_dense_block_metadata_bytes(
 }
 
 // The same with the values.
-#[unsafe(no_mangle)]
-pub extern "C" fn denimrasp_dense_block_storage_bytes(
+pub fn denimrasp_dense_block_storage_bytes(
     block_rows: usize,
     unique_blocks: usize,
     dense_value_slots: usize,

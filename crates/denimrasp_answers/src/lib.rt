@@ -1,5 +1,7 @@
 // The answers of the C interface: each is one struct, the refusal's number, expected and actual first (0 when accepted), then
 // the result, which is 0 where the call is refused. The calls are the crate denimrasp.
+#![tactic(auto)]
+
 ghost use Rattle.std.specs.Prelude.{◌≡◌, get_or};
 ghost use Rattle.hybit_core.specs.Answer.{gives, refuses};
 ghost use Rattle.hybit_core.specs.Table.{paper, told, told_count, told_bool};
@@ -26,7 +28,7 @@ use topology::{SelectAnswer, StatsAnswer, TopologyAnswer};
 use word::WordSelect;
 
 #[repr(C)]
-#[derive(Drop)]
+#[derive(Clone, Copy)]
 pub struct DenimraspVerdict {
     pub number: u32,
     pub expected: usize,
@@ -34,7 +36,7 @@ pub struct DenimraspVerdict {
 }
 
 #[repr(C)]
-#[derive(Drop)]
+#[derive(Clone, Copy)]
 pub struct DenimraspCount {
     pub number: u32,
     pub expected: usize,
@@ -43,7 +45,7 @@ pub struct DenimraspCount {
 }
 
 #[repr(C)]
-#[derive(Drop)]
+#[derive(Clone, Copy)]
 pub struct DenimraspBool {
     pub number: u32,
     pub expected: usize,
@@ -53,7 +55,7 @@ pub struct DenimraspBool {
 
 // The column is 0 where nothing was found.
 #[repr(C)]
-#[derive(Drop)]
+#[derive(Clone, Copy)]
 pub struct DenimraspSelect {
     pub number: u32,
     pub expected: usize,
@@ -64,7 +66,7 @@ pub struct DenimraspSelect {
 
 // A part of a lent list: the places from start, below end.
 #[repr(C)]
-#[derive(Drop)]
+#[derive(Clone, Copy)]
 pub struct DenimraspPart {
     pub number: u32,
     pub expected: usize,
@@ -75,7 +77,7 @@ pub struct DenimraspPart {
 
 // How much of the lent lists a build used.
 #[repr(C)]
-#[derive(Drop)]
+#[derive(Clone, Copy)]
 pub struct DenimraspTopology {
     pub number: u32,
     pub expected: usize,
@@ -85,7 +87,7 @@ pub struct DenimraspTopology {
 }
 
 #[repr(C)]
-#[derive(Drop)]
+#[derive(Clone, Copy)]
 pub struct DenimraspTopologyStats {
     pub number: u32,
     pub expected: usize,
@@ -98,7 +100,7 @@ pub struct DenimraspTopologyStats {
 }
 
 #[repr(C)]
-#[derive(Drop)]
+#[derive(Clone, Copy)]
 pub struct DenimraspStoreStats {
     pub number: u32,
     pub expected: usize,
@@ -112,7 +114,7 @@ pub struct DenimraspStoreStats {
 }
 
 #[repr(C)]
-#[derive(Drop)]
+#[derive(Clone, Copy)]
 pub struct DenimraspDot {
     pub number: u32,
     pub expected: usize,
@@ -126,7 +128,7 @@ pub struct DenimraspDot {
 }
 
 #[repr(C)]
-#[derive(Drop)]
+#[derive(Clone, Copy)]
 pub struct DenimraspTotals {
     pub number: u32,
     pub expected: usize,
@@ -140,7 +142,7 @@ pub struct DenimraspTotals {
 
 // How much of the lent lists a build of tiles used, and how many values there are.
 #[repr(C)]
-#[derive(Drop)]
+#[derive(Clone, Copy)]
 pub struct DenimraspTiles {
     pub number: u32,
     pub expected: usize,
@@ -151,7 +153,7 @@ pub struct DenimraspTiles {
 }
 
 #[repr(C)]
-#[derive(Drop)]
+#[derive(Clone, Copy)]
 pub struct DenimraspTileStats {
     pub number: u32,
     pub expected: usize,
@@ -169,7 +171,7 @@ pub struct DenimraspTileStats {
 
 // A list cut to the active columns: its frame, the entries of its source and those kept.
 #[repr(C)]
-#[derive(Drop)]
+#[derive(Clone, Copy)]
 pub struct DenimraspRestriction {
     pub number: u32,
     pub expected: usize,
@@ -182,7 +184,7 @@ pub struct DenimraspRestriction {
 
 // A list cut to a region: its members, its entries, and the source entries of its rows.
 #[repr(C)]
-#[derive(Drop)]
+#[derive(Clone, Copy)]
 pub struct DenimraspRegion {
     pub number: u32,
     pub expected: usize,
@@ -196,7 +198,7 @@ pub struct DenimraspRegion {
 // The numbers of a matrix in blocks: the used parts are block_rows + 1 pointers, unique_blocks block columns and dense_value_slots
 // values.
 #[repr(C)]
-#[derive(Drop)]
+#[derive(Clone, Copy)]
 pub struct DenimraspBlocks {
     pub number: u32,
     pub expected: usize,
@@ -211,7 +213,7 @@ pub struct DenimraspBlocks {
 }
 
 #[repr(C)]
-#[derive(Drop)]
+#[derive(Clone, Copy)]
 pub struct DenimraspRatio {
     pub number: u32,
     pub expected: usize,

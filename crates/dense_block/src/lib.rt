@@ -1,19 +1,21 @@
 // dense_block.rs: the width of a block and the figures of `DenseBlockCsrOperator`. The check of blocks that are handed in is the crate
 // dense_block_check, the build from a plot list dense_block_build, the product dense_block_apply.
+#![tactic(auto)]
+
 ghost use Rattle.std.specs.Prelude.{◌≡◌, ◌/◌, ◌%◌};
 ghost use Rattle.dense_block.specs.Blocks.{width_of, blocks_for};
 ghost use Rattle.dense_block.specs.Calls.{block_fill, value_padding, block_metadata_bytes, block_storage_bytes};
 
 use hybit_core::HybitError;
 
-#[derive(Drop)]
+#[derive(Clone, Copy)]
 pub enum DenseBlockSize {
     B3,
     B6,
 }
 
 // The numbers of blocks that were built: their lists are the caller's.
-#[derive(Drop)]
+#[derive(Clone, Copy)]
 pub struct DenseBlocks {
     pub nrows: usize,
     pub ncols: usize,
@@ -25,13 +27,13 @@ pub struct DenseBlocks {
 }
 
 // `Result<DenseBlockCsrOperator, HybitError>`
-#[derive(Drop)]
+#[derive(Clone, Copy)]
 pub enum BlocksAnswer {
     Built(DenseBlocks),
     Refused(HybitError),
 }
 
-#[derive(Drop)]
+#[derive(Clone, Copy)]
 pub enum RatioAnswer {
     Ratio(f64),
     Refused(HybitError),

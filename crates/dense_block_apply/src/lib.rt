@@ -1,4 +1,6 @@
 // dense_block.rs: `LinearOperator::apply` of `DenseBlockCsrOperator`, the product of blocks. Each value is read once.
+#![tactic(auto)]
+
 ghost use Rattle.std.specs.Prelude.{◌≡◌, ◌+◌, ◌-◌, ◌*◌, ◌/◌, ◌≤◌, ◌<◌, ◌^◌, length, get_or, take, set};
 ghost use Rattle.std.specs.Float.{nan, binary64};
 ghost use Rattle.std.specs.Float.Ieee.{add, mul};
@@ -197,7 +199,7 @@ fn add_blocks3(
 }
 
 // The three rows of two full block rows.
-#[derive(Drop)]
+#[derive(Clone, Copy)]
 struct Two3 {
     first: [f64; 3],
     second: [f64; 3],
@@ -274,7 +276,7 @@ fn add_blocks6(
 }
 
 // The six rows of two full block rows.
-#[derive(Drop)]
+#[derive(Clone, Copy)]
 struct Two6 {
     first: [f64; 6],
     second: [f64; 6],

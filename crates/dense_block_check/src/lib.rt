@@ -1,5 +1,7 @@
 // dense_block.rs: the check of blocks that are handed in, and `fast_block_fraction`, which needs them. Their lists are lent by the
 // caller, and every call on a record checks it: 1, 12.
+#![tactic(auto)]
+
 ghost use Rattle.std.specs.Prelude.{◌≡◌, true, ◌&&◌, ◌+◌, ◌*◌, ◌≤◌, ◌^◌, leb, ltb, length};
 ghost use Rattle.hybit_core.specs.Table.{told};
 ghost use Rattle.lent.specs.Lists.{every, only, climbs};

@@ -1,5 +1,7 @@
 // dense_block.rs: `structural_slots` of `DenseBlockCsrOperator::from_csr32`, the distinct places with an entry. The Rust counts them
 // block by block; they are the same for either width, so here they are counted row by row.
+#![tactic(auto)]
+
 ghost use Rattle.std.specs.Prelude.{◌≡◌, true, false, ◌≤◌, ◌^◌, ltb};
 ghost use Rattle.hybit_core.specs.Answer.{accepted, answers};
 ghost use Rattle.hybit_core.specs.Table.{told_count};

@@ -1,4 +1,6 @@
 // hybit-core/src/lib.rs: the refusals and what carries them, the limits of the domain, counts as floats.
+#![tactic(auto)]
+
 ghost use Rattle.std.specs.Prelude.{◌≡◌, ◌+◌, ◌*◌, ◌%◌, ◌^◌, min, Float};
 ghost use mir.Val.{bool_byte};
 ghost use Rattle.hybit_core.specs.Answer.{number_in};
@@ -13,7 +15,7 @@ pub const MAX_DIMENSION: usize = 1048576;
 pub const MAX_ENTRIES: usize = 16777216;
 
 // Document 01's refusals. The Rust has names for two of them; the others have the document's words.
-#[derive(Drop)]
+#[derive(Clone, Copy)]
 pub enum HybitError {
     SizeOverflow,
     BadFrame,
@@ -31,21 +33,21 @@ pub enum HybitError {
 }
 
 // The answer of a call that has no other result: the Rust's `Result<(), HybitError>`.
-#[derive(Drop)]
+#[derive(Clone, Copy)]
 pub enum Verdict {
     Accepted,
     Refused(HybitError),
 }
 
 // `Result<usize, HybitError>`
-#[derive(Drop)]
+#[derive(Clone, Copy)]
 pub enum CountAnswer {
     Count(usize),
     Refused(HybitError),
 }
 
 // `Result<bool, HybitError>`
-#[derive(Drop)]
+#[derive(Clone, Copy)]
 pub enum BoolAnswer {
     Is(bool),
     Refused(HybitError),

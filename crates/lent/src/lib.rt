@@ -1,5 +1,7 @@
 // Lists that the caller lends: clearing from a place on. A build that is refused clears from 0 on, an accepted one from
 // the end of its used part on. A place past the end clears nothing.
+#![tactic(auto)]
+
 ghost use Rattle.std.specs.Prelude.{◌≡◌, length, take};
 ghost use Rattle.hybit_core.specs.Floats.{zero64};
 ghost use Rattle.lent.specs.Lent.{padded};

@@ -1,5 +1,7 @@
 // mask.rs: `DofMask`, a length and its words, which the caller lends: its check, the questions to it, `or_word`. Every call but
 // `is_member` checks the mask that it is handed: 1 for the length, 5 for the words.
+#![tactic(auto)]
+
 ghost use Rattle.std.specs.Prelude.{◌≡◌, map, ◌+◌, ◌*◌, ◌≤◌, ◌^◌, eqb, length};
 ghost use Rattle.hybit_core.specs.Answer.{answers};
 ghost use Rattle.hybit_core.specs.Table.{told, told_count, told_bool};

@@ -1,4 +1,6 @@
 // mask.rs: the calls of `DofMask` that make a mask or set a bit of one: `new`, `from_indices`, `set`.
+#![tactic(auto)]
+
 ghost use Rattle.std.specs.Prelude.{◌≡◌, true, false, cond, [], ◌≤◌, ◌^◌, eqb, ltb, leb, length};
 ghost use Rattle.hybit_core.specs.Table.{told};
 ghost use Rattle.lent.specs.Lists.{every};

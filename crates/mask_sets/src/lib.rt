@@ -1,4 +1,6 @@
 // mask.rs: the calls of `DofMask` on two masks: `union_assign`, `intersect_assign`, `and_not_assign`, `intersects`.
+#![tactic(auto)]
+
 ghost use Rattle.std.specs.Prelude.{◌≡◌, not, ◌&&◌, ◌||◌, ◌*◌, eqb, length, get_or};
 ghost use Rattle.hybit_core.specs.Answer.{answers};
 ghost use Rattle.hybit_core.specs.Table.{told, told_bool};

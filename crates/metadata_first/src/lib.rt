@@ -1,6 +1,8 @@
 // metadata_first.rs: `AbtmMetadataFirstMatrix`, the packed store: the words of a matrix and one value per present column. Its
 // lists are lent by the caller, and every call on a store checks it: 1; 11, 12. Here are its check, its parts and figures, and
 // the report of a dot; the dot itself is the crate metadata_first_dot, packing is metadata_first_build.
+#![tactic(auto)]
+
 ghost use Rattle.std.specs.Prelude.{◌≡◌, true, [], ◌+◌, ◌-◌, ◌%◌, ◌<◌, ◌^◌, eqb, ltb, length};
 ghost use Rattle.hybit_core.specs.Answer.{accepted, refused, plain, demand, number_in, answers, ◌and_then◌};
 ghost use Rattle.hybit_core.specs.Table.{told};
@@ -14,7 +16,7 @@ ghost use Rattle.metadata_first.specs.Dot.{counts_of, pruning_ratio, empty_word_
 use hybit_core::{HybitError, Verdict};
 
 // The counts of one dot, or of several together.
-#[derive(Drop)]
+#[derive(Clone, Copy)]
 pub struct AbtmProductPruningStats {
     pub candidate_products: usize,
     pub executed_products: usize,
@@ -24,7 +26,7 @@ pub struct AbtmProductPruningStats {
 }
 
 // The report of a row's dot: the number and its five counts, where the Rust answers a pair.
-#[derive(Drop)]
+#[derive(Clone, Copy)]
 pub struct AbtmRowDot {
     pub sum: f64,
     pub candidate_products: usize,
@@ -34,7 +36,7 @@ pub struct AbtmRowDot {
     pub active_words: usize,
 }
 
-#[derive(Drop)]
+#[derive(Clone, Copy)]
 pub struct AbtmMetadataFirstStats {
     pub nrows: usize,
     pub ncols: usize,
@@ -45,20 +47,20 @@ pub struct AbtmMetadataFirstStats {
 }
 
 // The Rust's `Result<(f64, AbtmProductPruningStats), HybitError>`.
-#[derive(Drop)]
+#[derive(Clone, Copy)]
 pub enum DotAnswer {
     Dot(AbtmRowDot),
     Refused(HybitError),
 }
 
 // `accumulate` by value: the totals, or the refusal and no totals.
-#[derive(Drop)]
+#[derive(Clone, Copy)]
 pub enum TotalsAnswer {
     Totals(AbtmProductPruningStats),
     Refused(HybitError),
 }
 
-#[derive(Drop)]
+#[derive(Clone, Copy)]
 pub enum StoreStatsAnswer {
     Stats(AbtmMetadataFirstStats),
     Refused(HybitError),

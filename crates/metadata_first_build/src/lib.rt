@@ -1,6 +1,8 @@
 // metadata_first.rs: `AbtmMetadataFirstMatrix::from_csr32`, packing. The Rust sorts each row's entries. Here the words are built
 // first, as in the Rust, and each entry is then added at its column's rank among the row's words: a row takes as many steps as it
 // has entries, and copies of a column are added in stored order.
+#![tactic(auto)]
+
 ghost use Rattle.std.specs.Prelude.{◌≡◌, true, ◌+◌, ◌≤◌, ◌<◌, ◌^◌, ltb, length, replicate};
 ghost use mathlib.Core.List.{[], zip};
 ghost use Rattle.hybit_core.specs.Answer.{refuses, answers};

@@ -1,5 +1,7 @@
 // metadata_first.rs: `sparse_dot_row`, the pruned dot of a row, and the same for every row in one call. Once the operands are
 // checked both run one row kernel: it meets each word of the row with the mask first and reads values only where they overlap.
+#![tactic(auto)]
+
 ghost use Rattle.std.specs.Prelude.{◌≡◌, true, ◌≤◌, ◌<◌, ◌^◌, length};
 ghost use Rattle.hybit_core.specs.Answer.{accepted};
 ghost use Rattle.hybit_core.specs.Floats.{zero64};

@@ -1,5 +1,7 @@
 // metadata_first.rs: the merging of `AbtmMetadataFirstMatrix::from_csr32`. Whether every merged value of a plot list is finite,
 // found through a window of local sums, without a list to write to: a list that is too short must not hide refusal 4.
+#![tactic(auto)]
+
 ghost use Rattle.std.specs.Prelude.{◌≡◌, true, ◌+◌, ◌≤◌, ◌<◌, ◌^◌, ltb, length, replicate};
 ghost use mathlib.Core.List.{zip};
 ghost use Rattle.hybit_core.specs.Answer.{accepted};

@@ -1,4 +1,6 @@
 // metadata_first.rs: what the pruned dots ask of their operands before they read a row.
+#![tactic(auto)]
+
 ghost use Rattle.std.specs.Prelude.{◌≡◌};
 ghost use Rattle.hybit_core.specs.Table.{told};
 ghost use Rattle.mask.specs.Mask.{as_mask};

@@ -1,5 +1,7 @@
 // Runs the port on document 01's worked plots and writes what it computes. The file stdout was written by hand from the
 // document's figures.
+#![tactic(auto)]
+
 use abtm::AbtmConfig;
 use abtm_build::TilesAnswer;
 use demand_tiled::NumberAnswer;

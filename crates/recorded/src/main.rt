@@ -3,6 +3,8 @@
 // 65,536 bytes, none of whose lines goes on in the next. Its output has for each call what came of it: the refusal's number,
 // expected and actual, the result, and every list that was lent to be written. The expected output is what the Rust or the model
 // of document 01 answered (oracle/record).
+#![tactic(auto)]
+
 ghost use Rattle.std.specs.Prelude.{◌≤◌};
 
 use abtm::AbtmConfig;
@@ -139,7 +141,7 @@ fn list_f64<'a>(text: &[u8], at: &mut usize, room: &'a mut [f64]) -> &'a [f64] {
 }
 
 // The rows and columns that come first in most records.
-#[derive(Drop)]
+#[derive(Clone, Copy)]
 struct Frame {
     nrows: usize,
     ncols: usize,

@@ -1,5 +1,7 @@
 // restricted.rs: the figures of `PreparedColumnRestrictedCsrOperator` and `PreparedLocalCsrOperator`, and what their builds answer.
 // The builds are the crates restricted_csr32, restricted_abtm and restricted_local; the products are csr32's `apply`.
+#![tactic(auto)]
+
 ghost use Rattle.std.specs.Prelude.{◌≡◌};
 ghost use Rattle.word.specs.Bits.{ceil64};
 ghost use Rattle.restricted.specs.Restricted.{retained_fraction, restriction_bytes};
@@ -8,7 +10,7 @@ ghost use Rattle.restricted.specs.Local.{boundary_ratio, region_bytes};
 use hybit_core::HybitError;
 
 // A list cut to the active columns: its frame, the entries of its source and those kept.
-#[derive(Drop)]
+#[derive(Clone, Copy)]
 pub struct ColumnRestriction {
     pub nrows: usize,
     pub ncols: usize,
@@ -17,14 +19,14 @@ pub struct ColumnRestriction {
 }
 
 // `Result<PreparedColumnRestrictedCsrOperator, HybitError>`: the lists are the caller's.
-#[derive(Drop)]
+#[derive(Clone, Copy)]
 pub enum RestrictAnswer {
     Built(ColumnRestriction),
     Refused(HybitError),
 }
 
 // A list cut to a region: its members, its entries, and the source entries of its rows.
-#[derive(Drop)]
+#[derive(Clone, Copy)]
 pub struct LocalRegion {
     pub global_size: usize,
     pub local_nodes: usize,
@@ -33,7 +35,7 @@ pub struct LocalRegion {
 }
 
 // `Result<PreparedLocalCsrOperator, HybitError>`
-#[derive(Drop)]
+#[derive(Clone, Copy)]
 pub enum LocalAnswer {
     Built(LocalRegion),
     Refused(HybitError),

@@ -1,5 +1,7 @@
 // restricted.rs: `PreparedColumnRestrictedCsrOperator::from_abtm`. The entries are written while there is room for them, and counted
 // on; the tests of what is kept come after that, and a refused call clears its lists.
+#![tactic(auto)]
+
 ghost use Rattle.std.specs.Prelude.{◌≡◌, true, ◌+◌, ◌*◌, ◌≤◌, ◌<◌, ◌^◌, ltb, length, take};
 ghost use mathlib.Core.List.{map, zip};
 ghost use Rattle.hybit_core.specs.Answer.{accepted, answers, demand, ◌and_then◌};
@@ -320,7 +322,7 @@ fn examine(
 }
 
 // What a build leaves, and how many entries it keeps.
-#[derive(Drop)]
+#[derive(Clone, Copy)]
 struct Filled {
     verdict: Verdict,
     kept: usize,

@@ -75,7 +75,7 @@ restrict_facts m a room e =
     let fits : (p && c && v) ≡ true = demand_accepted (fits_csr (restricted m a) room) 13 (then_second a6 a13 e6) in
     record {
       list = valid m (ap₂ (λ (s : Bool) (t : Answer). demand s 1 and_then t) (and_right (few a.size) (csr_sizes m) sizes) (then_first (csr_rules m) (a5 and_then a6 and_then a13) e2));
-      mask = masks.rules-valid a.size a.bits (leb-true a.size (2 ^ 20) (and_left (few a.size) (csr_sizes m) sizes)) (demand_accepted (mask_rules a) 5 (then_first a5 (a6 and_then a13) e5));
+      mask = masks.rules_valid a.size a.bits (leb-true a.size (2 ^ 20) (and_left (few a.size) (csr_sizes m) sizes)) (demand_accepted (mask_rules a) 5 (then_first a5 (a6 and_then a13) e5));
       size = length_accepted m.cols a.size (then_first a6 a13 e6);
       pointers = omega (arith, made_pointers m.rows m.cols (kept_row m a), leb-true (length (restricted m a).ptr) room.ptr (and_left p c (and_left (p && c) v fits)));
       columns = omega (arith, made_columns m.rows m.cols (kept_row m a), leb-true (length (restricted m a).col) room.col (and_right p c (and_left (p && c) v fits)));

@@ -1,5 +1,7 @@
 // restricted.rs: `PreparedColumnRestrictedCsrOperator::from_csr32`. The entries in active columns are counted before anything is
 // written, so that a list that is too short is known at once.
+#![tactic(auto)]
+
 ghost use Rattle.std.specs.Prelude.{◌≡◌, ◌+◌, ◌≤◌, length};
 ghost use mathlib.Core.List.{map, zip};
 ghost use Rattle.hybit_core.specs.Answer.{accepted, answers};

@@ -1,5 +1,7 @@
 // restricted.rs: `gather_input` of `PreparedLocalCsrOperator`, the region's numbers of a vector, and the check of members that are
 // handed in.
+#![tactic(auto)]
+
 ghost use Rattle.std.specs.Prelude.{◌≡◌, true, ltb, length};
 ghost use Rattle.hybit_core.specs.Table.{told};
 ghost use Rattle.lent.specs.Lists.{every};

@@ -1,6 +1,8 @@
 // restricted.rs: `PreparedLocalCsrOperator`: the rows and columns of a region, numbered anew. Its product is csr32_apply's `apply`.
 // The Rust finds a local number in a table of all columns; here it is the count of members in the words before, kept in a local
 // list, and of the ones below in the column's word.
+#![tactic(auto)]
+
 ghost use Rattle.std.specs.Prelude.{◌≡◌, true, ◌+◌, ◌*◌, ◌^◌, ◌≤◌, ◌<◌, ltb, length};
 ghost use mathlib.Core.List.{map, zip};
 ghost use Rattle.hybit_core.specs.Answer.{answers};

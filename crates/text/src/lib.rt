@@ -1,14 +1,16 @@
 // Numbers read from text, for the program trial: whole numbers and decimals.
+#![tactic(auto)]
+
 ghost use Rattle.std.specs.Prelude.{◌≡◌, ◌≤◌, ◌^◌};
 ghost use Rattle.text.specs.Numbers.{digit, whole_of, place_of, alone, parts, unsigned_of, negated, real_of};
 
-#[derive(Drop)]
+#[derive(Clone, Copy)]
 pub enum Whole {
     Value(usize),
     Bad,
 }
 
-#[derive(Drop)]
+#[derive(Clone, Copy)]
 pub enum Real {
     Value(f64),
     Bad,

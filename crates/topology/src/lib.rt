@@ -1,6 +1,8 @@
 // topology.rs: `AbtmTopology`, the membership of a matrix in words of 64 columns. Its lists are lent by the caller, and every
 // call on a record checks it: 1, 11. The questions to a row are the crate topology_rows, the build from a plot list is
 // topology_build, the set operations are topology_combine.
+#![tactic(auto)]
+
 ghost use Rattle.std.specs.Prelude.{◌≡◌, ◌*◌, ◌%◌, ◌^◌, ◌<◌, true, not, ◌&&◌, length, take, ◌==◌, nat_lt};
 ghost use Rattle.hybit_core.specs.Answer.{answers};
 ghost use Rattle.hybit_core.specs.Table.{told, told_count};
@@ -17,13 +19,13 @@ use hybit_core::{CountAnswer, HybitError, Verdict};
 use word::WordSelect;
 
 // A word of a row by value.
-#[derive(Drop)]
+#[derive(Clone, Copy)]
 pub struct AbtmTopologyWord {
     pub word_index: u32,
     pub mask: u64,
 }
 
-#[derive(Drop)]
+#[derive(Clone, Copy)]
 pub struct AbtmTopologyStats {
     pub nrows: usize,
     pub ncols: usize,
@@ -33,21 +35,21 @@ pub struct AbtmTopologyStats {
 }
 
 // The Rust's `Option<usize>` of a row's select, or the refusal.
-#[derive(Drop)]
+#[derive(Clone, Copy)]
 pub enum SelectAnswer {
     At(usize),
     Nothing,
     Refused(HybitError),
 }
 
-#[derive(Drop)]
+#[derive(Clone, Copy)]
 pub enum StatsAnswer {
     Stats(AbtmTopologyStats),
     Refused(HybitError),
 }
 
 // What a build of words answers: how many words it wrote and how many bits they have.
-#[derive(Drop)]
+#[derive(Clone, Copy)]
 pub enum TopologyAnswer {
     Built { words: usize, structural_nnz: usize },
     Refused(HybitError),

@@ -1,5 +1,7 @@
 // topology.rs: `AbtmTopology::combine`, with union, intersection, and_not and xor named by an enum. Two rows are merged by
 // their word numbers in one walk over both.
+#![tactic(auto)]
+
 ghost use Rattle.std.specs.Prelude.{◌≡◌, true, cond, map, ◌+◌, ◌≤◌, ◌<◌, ◌^◌, ltb, length, get_or};
 ghost use Rattle.hybit_core.specs.Answer.{answers};
 ghost use Rattle.hybit_core.specs.Domain.{many};
@@ -19,7 +21,7 @@ use topology::TopologyAnswer;
 use word::Operation;
 
 // A word of two merged rows, and how far it takes each of them.
-#[derive(Drop)]
+#[derive(Clone, Copy)]
 struct Step {
     index: usize,
     mask: u64,

@@ -1,4 +1,6 @@
 // topology.rs: what `AbtmTopology::combine` asks of its two records before it merges them, and of the lists for the result.
+#![tactic(auto)]
+
 ghost use Rattle.std.specs.Prelude.{◌≡◌};
 ghost use Rattle.hybit_core.specs.Table.{told};
 ghost use Rattle.topology.specs.Words.{as_words};

@@ -1,4 +1,6 @@
 // topology.rs: the questions of `AbtmTopology` to a row. Each checks the record and the row: 1, 11, 7.
+#![tactic(auto)]
+
 ghost use Rattle.std.specs.Prelude.{◌≡◌, true, ◌≤◌, leb, length};
 ghost use Rattle.hybit_core.specs.Answer.{number_in, answers, demand, ◌and_then◌};
 ghost use Rattle.hybit_core.specs.Table.{told, told_count, told_bool};

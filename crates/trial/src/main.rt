@@ -2,6 +2,8 @@
 // none, and writes for each line its total, the products that were executed and skipped, and over all lines the pruning ratio. The
 // README describes the input. All that is computed is computed by the library: a line is packed, and its dot taken. Nothing is
 // written before all lines are accepted.
+#![tactic(auto)]
+
 ghost use Rattle.std.specs.Prelude.{◌≡◌, ◌%◌, ◌^◌, ◌<◌, ◌≤◌, [], ◌∷◌, length};
 ghost use Rattle.hybit_core.specs.Answer.{answers};
 ghost use Rattle.mask.specs.Mask.{as_mask};
@@ -20,7 +22,7 @@ const ROOM: usize = 65536;
 const WORD_ROOM: usize = 1024;
 
 // What the input should have had at a place.
-#[derive(Drop)]
+#[derive(Clone, Copy)]
 enum Wanted {
     Trial,
     Count,
@@ -32,28 +34,28 @@ enum Wanted {
 }
 
 // What came of reading a part of the input; Taken has the number of lines or entries where there is one.
-#[derive(Drop)]
+#[derive(Clone, Copy)]
 enum Part {
     Taken(usize),
     Wrong(Wanted),
     Refused(HybitError),
 }
 
-#[derive(Drop)]
+#[derive(Clone, Copy)]
 enum Shape {
     Of { lines: usize, plots: usize },
     Wrong(Wanted),
     Refused(HybitError),
 }
 
-#[derive(Drop)]
+#[derive(Clone, Copy)]
 enum Line {
     Of(AbtmRowDot),
     Wrong(Wanted),
     Refused(HybitError),
 }
 
-#[derive(Drop)]
+#[derive(Clone, Copy)]
 enum All {
     Of(AbtmProductPruningStats),
     Wrong(Wanted),

@@ -1,5 +1,7 @@
 // One word of 64 bits (topology.rs, `AbtmTopologyWord`, and the loops over bits of the other files). A contract names the
 // answer by the word's members.
+#![tactic(auto)]
+
 ghost use Rattle.std.specs.Prelude.{◌≡◌, not, ◌&&◌, ◌||◌, eqb, ltb, get_or, drop};
 ghost use Rattle.hybit_core.specs.Table.{told_count};
 ghost use Rattle.word.specs.Bits.{has, count, members, selected, word_of};
@@ -8,14 +10,14 @@ ghost use Rattle.word.specs.Word.{rank_answer, told_select, combined};
 use hybit_core::{CountAnswer, HybitError};
 
 // The Rust's `Option<usize>` of a select.
-#[derive(Drop)]
+#[derive(Clone, Copy)]
 pub enum WordSelect {
     At(usize),
     Nothing,
 }
 
 // The closures of the Rust's `combine`, by name.
-#[derive(Drop)]
+#[derive(Clone, Copy)]
 pub enum Operation {
     Union,
     Intersection,

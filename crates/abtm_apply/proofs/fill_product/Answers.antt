@@ -1,0 +1,94 @@
+-- `abtm_apply::fill_product` meets its contract. Assumes nothing.
+use mathlib.Core.Path.{refl}
+use Prim.Native.Nat.{◌-◌}
+use native.Mathlib.Omega.{arith}
+use Rattle.abtm_check.proofs.TilesLaws.{row_places, lent_offsets, lent_metas}
+use Rattle.abtm_apply.proofs.ProductLaws.{rows_none, rows_few, lent_inside, row_number, rows_long, rows-room, rows_more, rows_done, tiles_good}
+use Rattle.abtm_apply.proofs.fill_product.Goals as goal
+
+pub loop-row-init : goal.loop-row-init
+loop-row-init c = rows_none _ _ _
+
+pub offset_bounds-row_tile_ptr-row : goal.offset_bounds-row_tile_ptr-row
+offset_bounds-row_tile_ptr-row c = omega (arith, rows_few _ _ _ c.requires)
+
+pub bounds-row_tile_ptr-row : goal.bounds-row_tile_ptr-row
+bounds-row_tile_ptr-row c = omega (arith, (row_places _ (tiles_good _ _ _ c.requires) c.loop-row.row _ _ (omega arith) refl refl).here)
+
+pub overflow_add-row : goal.overflow_add-row
+overflow_add-row c = omega (arith, rows_few _ _ _ c.requires)
+
+pub offset_bounds-row_tile_ptr-row-in-loop-row : goal.offset_bounds-row_tile_ptr-row-in-loop-row
+offset_bounds-row_tile_ptr-row-in-loop-row c = omega (arith, rows_few _ _ _ c.requires)
+
+pub bounds-row_tile_ptr-row-in-loop-row : goal.bounds-row_tile_ptr-row-in-loop-row
+bounds-row_tile_ptr-row-in-loop-row c = omega (arith, (row_places _ (tiles_good _ _ _ c.requires) c.loop-row.row _ _ (omega arith) refl refl).next)
+
+pub offset_bounds-masks-start : goal.offset_bounds-masks-start
+offset_bounds-masks-start c = let p = row_places _ (tiles_good _ _ _ c.requires) c.loop-row.row _ _ (omega arith) c.wide-start.ensures c.wide-end.ensures in
+    omega (arith, p.order, p.in_masks)
+
+pub slice_bounds-row_sum-count : goal.slice_bounds-row_sum-count
+slice_bounds-row_sum-count c = let p = row_places _ (tiles_good _ _ _ c.requires) c.loop-row.row _ _ (omega arith) c.wide-start.ensures c.wide-end.ensures in
+    omega (arith, p.order, p.in_masks)
+
+pub slice_bounds-row_sum-start : goal.slice_bounds-row_sum-start
+slice_bounds-row_sum-start c = let p = row_places _ (tiles_good _ _ _ c.requires) c.loop-row.row _ _ (omega arith) c.wide-start.ensures c.wide-end.ensures in
+    omega (arith, p.order, p.in_masks)
+
+pub slice_bounds-row_sum-end : goal.slice_bounds-row_sum-end
+slice_bounds-row_sum-end c = let p = row_places _ (tiles_good _ _ _ c.requires) c.loop-row.row _ _ (omega arith) c.wide-start.ensures c.wide-end.ensures in
+    omega (arith, p.order, p.in_masks)
+
+pub offset_bounds-value_offsets-start : goal.offset_bounds-value_offsets-start
+offset_bounds-value_offsets-start c = let p = row_places _ (tiles_good _ _ _ c.requires) c.loop-row.row _ _ (omega arith) c.wide-start.ensures c.wide-end.ensures in
+    omega (arith, p.order, p.in_offsets)
+
+pub slice_bounds-row_sum-count-in-loop-row : goal.slice_bounds-row_sum-count-in-loop-row
+slice_bounds-row_sum-count-in-loop-row c = let p = row_places _ (tiles_good _ _ _ c.requires) c.loop-row.row _ _ (omega arith) c.wide-start.ensures c.wide-end.ensures in
+    omega (arith, p.order, p.in_offsets)
+
+pub slice_bounds-row_sum-start-in-loop-row : goal.slice_bounds-row_sum-start-in-loop-row
+slice_bounds-row_sum-start-in-loop-row c = let p = row_places _ (tiles_good _ _ _ c.requires) c.loop-row.row _ _ (omega arith) c.wide-start.ensures c.wide-end.ensures in
+    omega (arith, p.order, p.in_offsets)
+
+pub slice_bounds-row_sum-end-in-loop-row : goal.slice_bounds-row_sum-end-in-loop-row
+slice_bounds-row_sum-end-in-loop-row c = let p = row_places _ (tiles_good _ _ _ c.requires) c.loop-row.row _ _ (omega arith) c.wide-start.ensures c.wide-end.ensures in
+    omega (arith, p.order, p.in_offsets)
+
+pub offset_bounds-metas-start : goal.offset_bounds-metas-start
+offset_bounds-metas-start c = let p = row_places _ (tiles_good _ _ _ c.requires) c.loop-row.row _ _ (omega arith) c.wide-start.ensures c.wide-end.ensures in
+    omega (arith, p.order, p.in_metas)
+
+pub slice_bounds-row_sum-count-in-loop-row-2 : goal.slice_bounds-row_sum-count-in-loop-row-2
+slice_bounds-row_sum-count-in-loop-row-2 c = let p = row_places _ (tiles_good _ _ _ c.requires) c.loop-row.row _ _ (omega arith) c.wide-start.ensures c.wide-end.ensures in
+    omega (arith, p.order, p.in_metas)
+
+pub slice_bounds-row_sum-start-in-loop-row-2 : goal.slice_bounds-row_sum-start-in-loop-row-2
+slice_bounds-row_sum-start-in-loop-row-2 c = let p = row_places _ (tiles_good _ _ _ c.requires) c.loop-row.row _ _ (omega arith) c.wide-start.ensures c.wide-end.ensures in
+    omega (arith, p.order, p.in_metas)
+
+pub slice_bounds-row_sum-end-in-loop-row-2 : goal.slice_bounds-row_sum-end-in-loop-row-2
+slice_bounds-row_sum-end-in-loop-row-2 c = let p = row_places _ (tiles_good _ _ _ c.requires) c.loop-row.row _ _ (omega arith) c.wide-start.ensures c.wide-end.ensures in
+    omega (arith, p.order, p.in_metas)
+
+pub row_sum-requires : goal.row_sum-requires
+row_sum-requires c = record { fact_1 = (lent_offsets _ (tiles_good _ _ _ c.requires) c.loop-row.row _ _ (omega arith) c.wide-start.ensures c.wide-end.ensures, lent_metas _ (tiles_good _ _ _ c.requires) c.loop-row.row _ _ (omega arith) c.wide-start.ensures c.wide-end.ensures); fact_2 = lent_inside _ _ _ c.requires c.loop-row.row _ _ (omega arith) c.wide-start.ensures c.wide-end.ensures }
+
+pub offset_bounds-y-row : goal.offset_bounds-y-row
+offset_bounds-y-row c = omega (arith, rows_few _ _ _ c.requires)
+
+pub bounds-y-row : goal.bounds-y-row
+bounds-y-row c = rows-room _ _ _ c.requires _ refl _ _ c.loop-row.invariant (omega arith)
+
+pub overflow_add-row-in-loop-row : goal.overflow_add-row-in-loop-row
+overflow_add-row-in-loop-row c = omega (arith, rows_few _ _ _ c.requires)
+
+pub loop-row-preserved : goal.loop-row-preserved
+loop-row-preserved c = rows_more _ _ _ c.requires _ refl _ _ c.loop-row.invariant _ (omega arith) (row_number _ _ _ c.requires c.loop-row.row _ _ (omega arith) c.wide-start.ensures c.wide-end.ensures _ c.row_sum.ensures)
+
+pub shape_of-y : goal.shape_of-y
+shape_of-y c = rows_long _ _ _ c.requires _ refl _ _ c.loop-row.invariant
+
+pub returns : goal.returns
+returns c = rows_done _ _ _ c.requires _ refl _ _ c.loop-row.invariant (omega arith)

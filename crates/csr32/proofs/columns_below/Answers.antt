@@ -1,0 +1,14 @@
+-- `csr32::columns_below` meets its contract. Assumes nothing.
+use borrow.Author.Rules.{rules}
+use mathlib.Core.Path.{refl}
+use Rattle.csr32.proofs.ScanLaws.{passed_none, passed_more, passed_done}
+use Rattle.csr32.proofs.columns_below.Goals as goal
+
+pub loop-i-init : goal.loop-i-init
+loop-i-init c = passed_none _ _
+
+pub loop-i-preserved : goal.loop-i-preserved
+loop-i-preserved c = passed_more _ _ _ _ c.loop-i.invariant 0 _ _ (search rules) refl c.both-good.ensures
+
+pub returns : goal.returns
+returns c = search (passed_done, rules)

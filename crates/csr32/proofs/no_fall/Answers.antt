@@ -1,0 +1,14 @@
+-- `csr32::no_fall` meets its contract. Assumes nothing.
+use borrow.Author.Rules.{rules}
+use mathlib.Core.Path.{refl}
+use Rattle.csr32.proofs.ScanLaws.{risen_none, risen_more, risen_done}
+use Rattle.csr32.proofs.no_fall.Goals as goal
+
+pub loop-i-init : goal.loop-i-init
+loop-i-init c = risen_none _
+
+pub loop-i-preserved : goal.loop-i-preserved
+loop-i-preserved c = risen_more _ _ _ _ c.loop-i.invariant _ _ (search rules) refl c.both-good.ensures
+
+pub returns : goal.returns
+returns c = search (risen_done, rules)

@@ -1,0 +1,24 @@
+-- `csr32_apply::examine_apply` meets its contract. Assumes nothing.
+use borrow.Author.Rules.{rules}
+use native.Mathlib.Omega.{arith}
+use lib.ListN.{length}
+use Rattle.hybit_core.proofs.AnswerLaws.{call_accepted, length_wrong, length_right, last_length_wrong, last_length_right, checks}
+use Rattle.hybit_core.proofs.BoolLaws.{tests}
+use Rattle.csr32.specs.Csr.{apply_answer}
+use Rattle.csr32_apply.proofs.examine_apply.Goals as goal
+
+pub returns-in-Refused : goal.returns-in-Refused
+unfolding apply_answer
+returns-in-Refused c = search (checks, tests, rules)
+
+pub returns-then-x-ncols : goal.returns-then-x-ncols
+unfolding apply_answer
+returns-then-x-ncols c = call_accepted _ _ _ _ c.check-v.ensures c.in_default.is (length_wrong c.args.ncols (length c.args.x.now) _ (λ h. omega arith))
+
+pub returns-then-ny-nrows : goal.returns-then-ny-nrows
+unfolding apply_answer
+returns-then-ny-nrows c = call_accepted _ _ _ _ c.check-v.ensures c.in_default.is (length_right c.args.ncols (length c.args.x.now) _ _ (omega arith) (last_length_wrong c.args.nrows c.args.ny (λ h. omega arith)))
+
+pub returns : goal.returns
+unfolding apply_answer
+returns c = call_accepted _ _ _ _ c.check-v.ensures c.in_default.is (length_right c.args.ncols (length c.args.x.now) _ _ (omega arith) (last_length_right c.args.nrows c.args.ny (omega arith)))

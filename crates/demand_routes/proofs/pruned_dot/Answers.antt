@@ -1,0 +1,42 @@
+-- `demand_routes::pruned_dot` meets its contract. Assumes nothing.
+use Rattle.demand_routes.proofs.EndLaws.{store_zeros, pruned_told, pruned_lists}
+use Rattle.demand_examine.proofs.StepLaws.{answer_refused}
+use Rattle.demand_examine.proofs.CheckLaws.{pruned_refused}
+use Rattle.demand_routes.proofs.pruned_dot.Goals as goal
+
+pub shape_of-row_word_ptr-in-Refused : goal.shape_of-row_word_ptr-in-Refused
+shape_of-row_word_ptr-in-Refused c = c.clear_store.auto.row_word_ptr
+
+pub shape_of-word_indices-in-Refused : goal.shape_of-word_indices-in-Refused
+shape_of-word_indices-in-Refused c = c.clear_store.auto.word_indices
+
+pub shape_of-bits-in-Refused : goal.shape_of-bits-in-Refused
+shape_of-bits-in-Refused c = c.clear_store.auto.bits
+
+pub shape_of-row_value_ptr-in-Refused : goal.shape_of-row_value_ptr-in-Refused
+shape_of-row_value_ptr-in-Refused c = c.clear_store.auto.row_value_ptr
+
+pub shape_of-packed-in-Refused : goal.shape_of-packed-in-Refused
+shape_of-packed-in-Refused c = c.clear_store.auto.packed
+
+pub returns-in-Refused : goal.returns-in-Refused
+returns-in-Refused c = let k = pruned_refused _ _ _ _ _ _ _ c.examine-v.ensures c.in-Refused.is in
+    record { answer = answer_refused _ _ _ k; store = store_zeros _ _ _ _ _ _ _ _ _ k c.clear_store.ensures.pointers c.clear_store.ensures.numbers c.clear_store.ensures.bits c.clear_store.ensures.starts c.clear_store.ensures.values }
+
+pub shape_of-row_word_ptr : goal.shape_of-row_word_ptr
+shape_of-row_word_ptr c = c.pack_dot.auto.row_word_ptr
+
+pub shape_of-word_indices : goal.shape_of-word_indices
+shape_of-word_indices c = c.pack_dot.auto.word_indices
+
+pub shape_of-bits : goal.shape_of-bits
+shape_of-bits c = c.pack_dot.auto.bits
+
+pub shape_of-row_value_ptr : goal.shape_of-row_value_ptr
+shape_of-row_value_ptr c = c.pack_dot.auto.row_value_ptr
+
+pub shape_of-packed : goal.shape_of-packed
+shape_of-packed c = c.pack_dot.auto.packed
+
+pub returns : goal.returns
+returns c = record { answer = pruned_told _ _ _ _ _ _ c.examine-v.ensures c.in_default.is _ c.pack_dot.ensures.answer; store = pruned_lists _ _ _ _ _ _ c.examine-v.ensures c.in_default.is _ _ _ _ _ c.pack_dot.ensures.store }

@@ -1,0 +1,5 @@
+-- `demand_tiled::clear_list` meets its contract. Assumes nothing.
+use Rattle.demand_tiled.proofs.clear_list.Goals as goal
+
+pub returns : goal.returns
+returns c = record { pointers = c.clear_from_u32.ensures; columns = c.clear_from_u32-2.ensures; values = c.clear_from_f64.ensures; product = c.clear_from_f64-2.ensures }

@@ -1,0 +1,11 @@
+-- `denimrasp_answers::topology_stats` meets its contract. Assumes nothing.
+use mathlib.Core.Path.{sym, ap}
+use Rattle.topology.specs.Calls.{told_stats}
+use Rattle.denimrasp_answers.specs.Answers.{topology_stats_of}
+use Rattle.denimrasp_answers.proofs.topology_stats.Goals as goal
+
+pub returns-in-Stats : goal.returns-in-Stats
+returns-in-Stats c = ap (λ a. topology_stats_of (told_stats a)) (sym c.in-Stats.is)
+
+pub returns-in-Refused : goal.returns-in-Refused
+returns-in-Refused c = rw c.number.ensures (rw c.expected.ensures (rw c.actual.ensures (ap (λ a. topology_stats_of (told_stats a)) (sym c.in-Refused.is))))

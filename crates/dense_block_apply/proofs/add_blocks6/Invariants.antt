@@ -1,0 +1,12 @@
+use Prim.Native.Nat.{◌-◌}
+use lib.ListN.{get_or}
+use lib.Ieee.{nan}
+use Rattle.dense_block.specs.Blocks.{as_blocks}
+use Rattle.dense_block_apply.proofs.RowLaws.{Sums}
+use Rattle.dense_block_apply.proofs.add_blocks6.Given as goal
+
+abbrev pub invariant-loop-p : goal.invariant-loop-p
+invariant-loop-p l = Sums (as_blocks l.nrows l.ncols 6 l.row_ptr l.col_idx l.values) l.x l.row (λ i. get_or l.initial.all i nan) l.initial.p l.end l.fast l.p l.all
+
+abbrev pub decreases-loop-p : goal.decreases-loop-p
+decreases-loop-p l = l.fast - l.p

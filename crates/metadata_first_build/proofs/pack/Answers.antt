@@ -1,0 +1,14 @@
+-- `metadata_first_build::pack` meets its contract. Assumes nothing.
+use native.Mathlib.Omega.{arith}
+use Rattle.levels.proofs.LevelLaws.{zeros_long}
+use Rattle.metadata_first_build.proofs.RowsLaws.{places_in}
+use Rattle.metadata_first_build.proofs.pack.Goals as goal
+
+pub slice_bounds-pack_rows-end : goal.slice_bounds-pack_rows-end
+slice_bounds-pack_rows-end c = zeros_long 16384 16384 (omega arith)
+
+pub slice_bounds-pack_rows-end-2 : goal.slice_bounds-pack_rows-end-2
+slice_bounds-pack_rows-end-2 c = zeros_long 16384 16384 (omega arith)
+
+pub pack_rows-requires : goal.pack_rows-requires
+pack_rows-requires c = let h = places_in _ _ _ _ c.requires.fact_1 in record { fact_1 = c.requires.fact_1; fact_2 = (h, h); fact_3 = c.requires.fact_2; fact_4 = c.requires.fact_3 }

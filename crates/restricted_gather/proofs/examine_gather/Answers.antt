@@ -1,0 +1,24 @@
+-- `restricted_gather::examine_gather` meets its contract. Assumes nothing.
+use borrow.Author.Rules.{rules}
+use native.Mathlib.Omega.{arith}
+use lib.ListN.{length}
+use Rattle.hybit_core.proofs.AnswerLaws.{call_accepted, length_wrong, length_right, last_length_wrong, last_length_right, checks}
+use Rattle.hybit_core.proofs.BoolLaws.{tests}
+use Rattle.restricted.specs.Local.{gather_answer}
+use Rattle.restricted_gather.proofs.examine_gather.Goals as goal
+
+pub returns-in-Refused : goal.returns-in-Refused
+unfolding gather_answer
+returns-in-Refused c = search (checks, tests, rules)
+
+pub returns-then-global-global_size : goal.returns-then-global-global_size
+unfolding gather_answer
+returns-then-global-global_size c = call_accepted _ _ _ _ c.check-v.ensures c.in_default.is (length_wrong c.args.global_size (length c.args.global.now) _ (λ h. omega arith))
+
+pub returns-then-local_len-members : goal.returns-then-local_len-members
+unfolding gather_answer
+returns-then-local_len-members c = call_accepted _ _ _ _ c.check-v.ensures c.in_default.is (length_right c.args.global_size (length c.args.global.now) _ _ (omega arith) (last_length_wrong (length c.args.members.now) c.args.local_len (λ h. omega arith)))
+
+pub returns : goal.returns
+unfolding gather_answer
+returns c = call_accepted _ _ _ _ c.check-v.ensures c.in_default.is (length_right c.args.global_size (length c.args.global.now) _ _ (omega arith) (last_length_right (length c.args.members.now) c.args.local_len (omega arith)))

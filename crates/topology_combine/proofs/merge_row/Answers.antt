@@ -1,0 +1,59 @@
+-- `topology_combine::merge_row` meets its contract. Assumes nothing.
+use Prim.Native.Nat.{◌-◌}
+use native.Mathlib.Omega.{arith}
+use Rattle.topology_combine.proofs.WriteLaws.{writing_none, writing_empty, writing_room, writing_full, written_words, written_masks}
+use Rattle.topology_combine.proofs.MergeLaws.{merging_in, merging_few, merging_empty, merging_full, rows_few}
+use borrow.Author.Rules.{rules}
+use Rattle.topology_combine.proofs.merge_row.Goals as goal
+
+pub overflow_add-all : goal.overflow_add-all
+overflow_add-all c = let h = rows_few _ _ _ _ _ c.requires.fact_1 (λ k. (c.shared_slice_known-2-1.given k).fits) (λ k. (c.shared_slice_known-4-1.given k).fits) in omega arith
+
+pub loop-at-init : goal.loop-at-init
+loop-at-init c = writing_none _ _ _ _ _ _ _ _ _ c.requires.fact_1 (λ k. (c.shared_slice_known-2-1.given k).fits) (λ k. (c.shared_slice_known-4-1.given k).fits) c.requires.fact_2 c.requires.fact_3
+
+pub overflow_add-at : goal.overflow_add-at
+overflow_add-at c = let h = merging_few _ _ _ _ _ _ _ _ _ c.loop-at.invariant.merge in omega arith
+
+pub next_word-s-requires : goal.next_word-s-requires
+next_word-s-requires c = let m = merging_in _ _ _ _ _ _ _ _ _ c.loop-at.invariant.merge in
+    record { fact_1 = c.requires.fact_1.sides; fact_2 = c.requires.fact_1.other_sides; fact_3 = omega arith; fact_4 = m.0; fact_5 = m.1 }
+
+pub offset_bounds-out_words-to : goal.offset_bounds-out_words-to
+offset_bounds-out_words-to c = let h = writing_room _ _ _ _ _ _ _ _ _ _ _ _ _ _ c.loop-at.invariant _ _ _ _ c.next_word-s.ensures (λ z. omega arith) in search rules
+
+pub bounds-out_words-to : goal.bounds-out_words-to
+bounds-out_words-to c = let h = writing_room _ _ _ _ _ _ _ _ _ _ _ _ _ _ c.loop-at.invariant _ _ _ _ c.next_word-s.ensures (λ z. omega arith) in search rules
+
+pub offset_bounds-out_masks-to : goal.offset_bounds-out_masks-to
+offset_bounds-out_masks-to c = let h = writing_room _ _ _ _ _ _ _ _ _ _ _ _ _ _ c.loop-at.invariant _ _ _ _ c.next_word-s.ensures (λ z. omega arith) in search rules
+
+pub bounds-out_masks-to : goal.bounds-out_masks-to
+bounds-out_masks-to c = let h = writing_room _ _ _ _ _ _ _ _ _ _ _ _ _ _ c.loop-at.invariant _ _ _ _ c.next_word-s.ensures (λ z. omega arith) in search rules
+
+pub overflow_add-to : goal.overflow_add-to
+overflow_add-to c = let h = writing_room _ _ _ _ _ _ _ _ _ _ _ _ _ _ c.loop-at.invariant _ _ _ _ c.next_word-s.ensures (λ z. omega arith) in omega arith
+
+pub loop-at-smaller-then-s-gt0 : goal.loop-at-smaller-then-s-gt0
+loop-at-smaller-then-s-gt0 c = let m = merging_in _ _ _ _ _ _ _ _ _ (merging_full _ _ _ _ _ _ _ _ _ c.loop-at.invariant.merge _ _ _ _ c.next_word-s.ensures (λ z. omega arith)) in
+    omega (arith, c.next_word-s.ensures.onward)
+
+pub loop-at-preserved-then-s-gt0 : goal.loop-at-preserved-then-s-gt0
+loop-at-preserved-then-s-gt0 c = writing_full _ _ _ _ _ _ _ _ _ _ _ _ _ _ c.loop-at.invariant _ _ _ _ c.next_word-s.ensures (λ z. omega arith) _ c.narrow.ensures
+
+pub loop-at-smaller : goal.loop-at-smaller
+loop-at-smaller c = let m = merging_in _ _ _ _ _ _ _ _ _ (merging_empty _ _ _ _ _ _ _ _ _ c.loop-at.invariant.merge _ _ _ _ c.next_word-s.ensures (omega arith)) in
+    omega (arith, c.next_word-s.ensures.onward)
+
+pub loop-at-preserved : goal.loop-at-preserved
+loop-at-preserved c = writing_empty _ _ _ _ _ _ _ _ _ _ _ _ _ _ c.loop-at.invariant _ _ _ _ c.next_word-s.ensures (omega arith)
+
+pub shape_of-out_words : goal.shape_of-out_words
+shape_of-out_words c = c.loop-at.invariant.words_same
+
+pub shape_of-out_masks : goal.shape_of-out_masks
+shape_of-out_masks c = c.loop-at.invariant.masks_same
+
+pub returns : goal.returns
+returns c = let m = merging_in _ _ _ _ _ _ _ _ _ c.loop-at.invariant.merge in
+    record { numbers = written_words _ _ _ _ _ _ _ _ _ _ _ _ _ _ c.loop-at.invariant (omega arith) (omega arith); bits = written_masks _ _ _ _ _ _ _ _ _ _ _ _ _ _ c.loop-at.invariant (omega arith) (omega arith) }

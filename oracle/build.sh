@@ -20,7 +20,7 @@ take_options() {
 archive=target/staticlib/libdenimrasp.a
 
 archive_is_old() {
-    [[ ! -e $archive ]] || [[ -n $(find crates -type f -newer "$archive" -print -quit) ]]
+    [[ ! -e $archive ]] || [[ -n $(find crates -name out -prune -o -type f -newer "$archive" -print -quit) ]]
 }
 
 # Goes to the project's root, and makes the archive where it is missing or older than the crates.
@@ -36,7 +36,9 @@ make_archive() {
     fi
     cd "$(dirname "${BASH_SOURCE[0]}")/.."
     if [[ -z ${DENIMRASP_LIB:-} ]] && archive_is_old && command -v rt >/dev/null; then
-        rt staticlib denimrasp >&2
+        (cd crates/denimrasp_c && rt lib) >&2
+        mkdir -p "${archive%/*}"
+        cp crates/denimrasp_c/out/libdenimrasp_c.a "$archive"
     fi
 }
 

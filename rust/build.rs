@@ -14,7 +14,7 @@ fn main() {
     println!("cargo::rerun-if-changed={}", archive.display());
     if !archive.is_file() {
         eprintln!(
-            "{} is missing: run `rt staticlib denimrasp` in the repository, or set DENIMRASP_LIB to its folder",
+            "{} is missing: run `oracle/archive` in the repository, or set DENIMRASP_LIB to its folder",
             archive.display()
         );
         process::exit(1);

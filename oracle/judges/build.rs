@@ -1,4 +1,4 @@
-//! Links the library: the archive in DENIMRASP_LIB, or the one that `rt staticlib denimrasp` leaves in the project's target
+//! Links the library: the archive in DENIMRASP_LIB, or the one that `oracle/archive` leaves in the project's target
 //! folder.
 
 use std::env;

@@ -1,4 +1,4 @@
-/* From the repository, after `rt staticlib denimrasp`:
+/* From the repository, after `oracle/archive`:
  * cc -O2 -Icrates/denimrasp rust/examples/dry_plots.c target/staticlib/libdenimrasp.a -o target/dry_plots && target/dry_plots
  *
  * Each barley line's total yield over its dry plots: a row is a line, a column a plot, the mask the plots dry enough, the

@@ -18,7 +18,6 @@ use Rattle.lent.proofs.LentLaws.{appended_join, appended_cleared}
 use Rattle.word.specs.Bits.{has, below, count, within, word_of, members, mask_of, ceil64}
 use Rattle.word.proofs.BelowLaws.{below-zero, below_block, length-below_mono, length-below-le, length_block}
 use Rattle.word.proofs.BitLaws.{has-none, has-mask_of, count_cong, within_cong}
-use Rattle.word.proofs.LowestLaws.{none}
 use Rattle.word.proofs.OpLaws.{word_is_lem, word_cong, has_word}
 use Rattle.mask.specs.Mask.{as_mask, bit_at, active, mask_words, mask_answer}
 use Rattle.mask.specs.Calls.{changed, indices_answer, joined_word}

@@ -1,33 +1,31 @@
 -- Laws of masks: a valid one is the words of its own membership, and the words of a membership are a valid mask. Assumes nothing.
-use mathlib.Core.Bool.{Bool, true, false, not, ◌&&◌, true≢false, and-true, and-false}
-use mathlib.Core.List.{List, []}
+use mathlib.Core.Bool.{Bool, true, false, ◌&&◌, true≢false, and-false}
+use mathlib.Core.List.{List}
 use mathlib.Core.Path.{◌≡◌, refl, sym, ap, ap₂, ◌∙◌}
 use Prim.Native.Nat.{ℕ, ◌+◌, ◌-◌, ◌*◌, ◌/◌, ◌%◌, ◌^◌, ◌≤◌, ◌<◌}
 use native.Mathlib.Decide.{dec_lt}
 use native.Mathlib.Omega.{arith}
-use borrow.Author.Tests.{eq-eqb, ne_eqb, eqb-true, lt-ltb, le-ltb, ltb-true, leb-true}
+use borrow.Author.Tests.{eq-eqb, ne_eqb, eqb-true, lt-ltb, le-ltb, leb-true}
 use lib.Count.{count_trailing_zeros}
-use lib.Dec.{eqb, ltb, leb}
+use lib.Dec.{eqb, ltb}
 use lib.ListN.{length, get_or, get_or-eq_default}
-use lib.Pow.{pow_pos, pow_mono}
 use native.Mathlib.Nat.{div-le_self}
-use Rattle.hybit_core.specs.Answer.{Answer, accepted, demand, ◌and_then◌}
+use Rattle.hybit_core.specs.Answer.{accepted, demand}
 use Rattle.hybit_core.specs.Domain.{few}
 use Rattle.hybit_core.specs.Table.{told}
 use Rattle.hybit_core.specs.declared.Verdict.{Verdict}
 use Rattle.hybit_core.specs.declared.Verdict.TheVariants.{Accepted}
 use Rattle.hybit_core.proofs.AnswerLaws.{demand_accepted, then_first, then_second, accepted_by}
-use Rattle.hybit_core.proofs.BoolLaws.{and_left, and_right, and_both, same_test}
-use Rattle.lent.specs.Lists.{each}
+use Rattle.hybit_core.proofs.BoolLaws.{and_left, and_right, same_test}
 use Rattle.lent.proofs.ListLaws.{length-each, get_or-each, each_is}
-use Rattle.word.specs.Bits.{has, from, below, between, count, within, word_of, mask_of, ceil64}
+use Rattle.word.specs.Bits.{has, from, below, between, within, mask_of, ceil64}
 use Rattle.word.proofs.BelowLaws.{below_trim, below_cong, between_none}
 use Rattle.word.proofs.HasLaws.{has-past, has-shr, shr_zero}
-use Rattle.word.proofs.BitLaws.{has-none, has-mask_of, within_in, has-mask-at}
+use Rattle.word.proofs.BitLaws.{has-none, within_in, has-mask-at}
 use Rattle.word.proofs.LowestLaws.{lowest_has}
 use Rattle.word.proofs.OpLaws.{word_is_lem}
 use Rattle.word.proofs.WordLaws.{empty-at}
-use Rattle.mask.specs.Mask.{Mask, as_mask, bit_at, active, mask_words, all_active, mask_rules, mask_answer}
+use Rattle.mask.specs.Mask.{as_mask, bit_at, active, mask_words, all_active, mask_rules, mask_answer}
 
 -- ---- bits of a list of words
 

@@ -1,5 +1,5 @@
 -- A mask: a length and its words (document 01, "Mask"). Its membership, the words of a membership, and its rules.
-use Rattle.std.specs.Prelude.{ℕ, ◌+◌, ◌*◌, ◌/◌, ◌%◌, Bool, true, ◌&&◌, List, eqb, ltb, length, get_or}
+use Rattle.std.specs.Prelude.{ℕ, ◌*◌, ◌/◌, ◌%◌, Bool, true, ◌&&◌, List, eqb, ltb, length, get_or}
 use Rattle.hybit_core.specs.Answer.{Answer, demand, ◌and_then◌}
 use Rattle.hybit_core.specs.Domain.{few}
 use Rattle.lent.specs.Lists.{each}

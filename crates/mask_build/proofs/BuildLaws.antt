@@ -1,5 +1,5 @@
 -- The bits of a list of indices set one after another, and what an accepted new, from_indices or set says. Assumes nothing.
-use mathlib.Core.Bool.{Bool, true, false, not, cond}
+use mathlib.Core.Bool.{Bool, true, false, cond}
 use mathlib.Core.List.{List, []}
 use mathlib.Core.Path.{◌≡◌, refl, sym, ap, ◌∙◌}
 use Prim.Native.Nat.{ℕ, ◌+◌, ◌/◌, ◌%◌, ◌≤◌, ◌<◌}
@@ -12,7 +12,7 @@ use lib.Seq.{take-suc, take_all}
 use Rattle.hybit_core.specs.Answer.{accepted, demand, ◌and_then◌}
 use Rattle.hybit_core.specs.Domain.{few}
 use Rattle.hybit_core.proofs.AnswerLaws.{demand_accepted, then_first, then_second}
-use Rattle.lent.specs.Lists.{each, every, some}
+use Rattle.lent.specs.Lists.{every, some}
 use Rattle.lent.specs.Lent.{padded, built}
 use Rattle.lent.proofs.ListLaws.{every-get_or, some_snoc, some-none}
 use Rattle.lent.proofs.LentLaws.{padded_zeros, padded-set, get_or-padded, length-padded}

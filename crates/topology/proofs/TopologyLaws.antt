@@ -1,6 +1,6 @@
 -- Laws of the record of a membership: `check` accepts it, it has that membership, and a record that `check` accepts is the one
 -- record of its own membership. Assumes nothing but masks of 64 bits.
-use Rattle.std.proofs.Common.{◌≡◌, ℕ, zero, suc, ◌+◌, ◌*◌, ◌/◌, ◌%◌, ◌^◌, ◌<◌, ◌≤◌, Bool, true, false, cond, ◌&&◌, eqb, ltb, List, [], map, length, sym, refl, ap, ◌∙◌, ap₂, le_refl, arith, length-append, ext_get_or, eq-eqb, eqb-true, le-leb, leb-true}
+use Rattle.std.proofs.Common.{◌≡◌, ℕ, zero, suc, ◌+◌, ◌*◌, ◌/◌, ◌%◌, ◌^◌, ◌<◌, ◌≤◌, Bool, true, false, cond, ◌&&◌, eqb, ltb, List, map, length, sym, refl, ap, ◌∙◌, ap₂, le_refl, arith, length-append, ext_get_or, eq-eqb, eqb-true, le-leb, leb-true}
 use mathlib.Core.Bool.{false≢true}
 use mathlib.Core.List.{zip}
 use lib.ListN.{length-map}

@@ -1,19 +1,19 @@
 -- Laws of words as numbers of a test, and of tests over `below`. Assumes nothing.
-use mathlib.Core.Bool.{Bool, true, false, not, cond, ◌&&◌, ◌||◌, true≢false, false≢true}
+use mathlib.Core.Bool.{Bool, true, false, not, cond, ◌&&◌, true≢false}
 use mathlib.Core.List.{List, [], ◌∷◌, ◌++◌, map}
-use mathlib.Core.Path.{◌≡◌, refl, sym, ap, ap₂, ◌∙◌, subst}
-use Prim.Native.Nat.{ℕ, zero, suc, ◌+◌, ◌-◌, ◌*◌, ◌/◌, ◌%◌, ◌^◌, ◌≤◌, ◌<◌}
-use native.Mathlib.Nat.{add-zero, add-suc, suc-add, zero-add, le_refl, pow-suc, not-suc-le-zero}
+use mathlib.Core.Path.{◌≡◌, refl, sym, ap, ap₂, ◌∙◌}
+use Prim.Native.Nat.{ℕ, zero, suc, ◌+◌, ◌*◌, ◌/◌, ◌%◌, ◌^◌, ◌≤◌, ◌<◌}
+use native.Mathlib.Nat.{le_refl, pow-suc}
 use native.Mathlib.Decide.{dec_lt}
 use native.Mathlib.Omega.{arith}
-use lib.Dec.{leb, eqb, ltb, lit<, eqb-zero-suc, eqb-suc-zero, eqb-suc-suc, leb-suc-suc}
-use lib.ListN.{length, get_or}
+use lib.Dec.{leb, eqb, ltb, lit<, leb-suc-suc}
+use lib.ListN.{length}
 use lib.Pow.{pow_pos}
 use mir.Val.{bool_byte}
-use borrow.Author.Tests.{lt-ltb, le-ltb, eq-eqb, ne_eqb, ltb-true, ltb-false, le-leb, leb-true, eqb-true, eqb-false}
-use Rattle.word.specs.Bits.{has, from, below, between, both, within, number, members, mask_of, ceil64, words_of}
+use borrow.Author.Tests.{lt-ltb, le-ltb, eq-eqb, ne_eqb, ltb-true, le-leb, leb-true}
+use Rattle.word.specs.Bits.{has, from, below, within, number, members, mask_of, ceil64, words_of}
 use Rattle.lent.specs.Lists.{cons_if, first, every, some, climbs}
-use Rattle.word.proofs.BelowLaws.{byte_le, below_cong, below_same, below-zero, below_snoc, below-at-rank, below_trim, rank_lt, length-below-suc, length_block}
+use Rattle.word.proofs.BelowLaws.{byte_le, below_cong, below-zero, below_snoc, below-at-rank, below_trim, rank_lt, length-below-suc, length_block}
 use Rattle.word.proofs.HasLaws.{has-zero, has-suc, has-past, has_ext}
 use Rattle.hybit_core.proofs.BoolLaws.{and_left, and_right, and_both, same_test}
 use Rattle.lent.proofs.ListLaws.{every_append, every-get_or, some-get_or}

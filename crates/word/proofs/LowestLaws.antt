@@ -1,18 +1,14 @@
 -- The lowest set bit, and the word without it: `trailing_zeros(w)` and `w & (w - 1)` take the first member off the list. Assumes nothing.
-use mathlib.Core.Bool.{Bool, true, false, ◌&&◌}
+use mathlib.Core.Bool.{Bool, true}
 use mathlib.Core.List.{List, [], ◌∷◌, map}
-use mathlib.Core.Path.{◌≡◌, refl, sym, ap, ap₂, ◌∙◌, subst}
+use mathlib.Core.Path.{◌≡◌, refl, sym, ap, ap₂, ◌∙◌}
 use mathlib.Core.Logic.{◌⊎◌, inl, inr}
-use Prim.Native.Nat.{ℕ, zero, suc, ◌+◌, ◌-◌, ◌*◌, ◌/◌, ◌%◌, ◌^◌, ◌≤◌, ◌<◌, min}
+use Prim.Native.Nat.{ℕ, zero, suc, ◌+◌, ◌-◌, ◌*◌, ◌/◌, ◌%◌, ◌^◌, ◌<◌, min}
 use native.Mathlib.Nat.{add-zero, pow-suc, eq-zero-or-pos}
-use native.Mathlib.Decide.{dec_lt}
-use borrow.Author.Tests.{lt-ltb, le-ltb, le-leb}
-use lib.Pow.{pow_pos}
-use lib.Arith.{lt-one}
 use native.Mathlib.Omega.{arith}
-use lib.Dec.{eqb, ltb, leb, leb-suc-zero, leb-suc-suc}
+use lib.Dec.{eqb}
 use lib.ListN.{length}
-use lib.Bits.{bit_and, and_step, and_self, and_le_r, and_le_l}
+use lib.Bits.{bit_and, and_step, and_self, and_le_r}
 use lib.Count.{count_trailing_zeros, under}
 use Rattle.lent.specs.Lists.{cons_if}
 use Rattle.word.specs.Bits.{has, below, members}

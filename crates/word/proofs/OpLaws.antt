@@ -1,21 +1,21 @@
 -- What the machine's operations on a word do to its members: each is the word of a test. Assumes nothing.
-use mathlib.Core.Bool.{Bool, true, false, not, ◌&&◌, ◌||◌, and-true, and-false, or-false, beq}
-use mathlib.Core.List.{List, [], ◌∷◌}
+use mathlib.Core.Bool.{Bool, false, not, ◌&&◌, ◌||◌, and-true, or-false, beq}
+use mathlib.Core.List.{List}
 use mathlib.Core.Logic.{◌⊎◌, inl, inr}
-use mathlib.Core.Option.{Option, none, some}
-use mathlib.Core.Path.{◌≡◌, refl, sym, ap, ap₂, ◌∙◌}
+use mathlib.Core.Option.{none, some}
+use mathlib.Core.Path.{◌≡◌, refl, sym, ap, ◌∙◌}
 use Prim.Native.Nat.{ℕ, ◌+◌, ◌-◌, ◌*◌, ◌%◌, ◌^◌, ◌≤◌, ◌<◌}
-use native.Mathlib.Nat.{add-zero, eq-zero-or-pos}
+use native.Mathlib.Nat.{eq-zero-or-pos}
 use native.Mathlib.Decide.{dec_lt}
 use native.Mathlib.Omega.{arith}
-use borrow.Author.Tests.{lt-ltb, le-ltb, ne_eqb}
+use borrow.Author.Tests.{lt-ltb, ne_eqb}
 use lib.Bits.{bit_and, bit_or, bit_xor, and_lt, or_lt, xor_lt, and_le_l}
 use lib.Count.{count_trailing_zeros, trailing_of_zero}
 use lib.Dec.{eqb, ltb}
 use lib.ListN.{length, get_or, drop}
-use lib.Pow.{pow-lt, pow_pos}
+use lib.Pow.{pow-lt}
 use lib.Seq.{get_or-drop, drop-drop}
-use Rattle.word.specs.Bits.{has, below, count, number, word_of, members, selected}
+use Rattle.word.specs.Bits.{has, count, word_of, members, selected}
 use Rattle.word.specs.Word.{combined}
 use Rattle.word.specs.declared.Operation.{Operation}
 use Rattle.word.specs.declared.Operation.TheVariants.{Union, Intersection, AndNot, Xor}

@@ -1,21 +1,21 @@
 -- Columns by words: what a loop over a row's words, and over the bits of a mask, adds up to. Assumes nothing.
-use mathlib.Core.Bool.{Bool, true, false, not, cond, ◌&&◌, ◌||◌, true≢false, false≢true}
-use mathlib.Core.List.{List, [], ◌∷◌, ◌++◌, map, append_assoc, append-nil}
+use mathlib.Core.Bool.{Bool, true, false, not, ◌&&◌, true≢false}
+use mathlib.Core.List.{List, [], ◌++◌, map, append-nil}
 use mathlib.Core.Path.{◌≡◌, refl, sym, ap, ap₂, ◌∙◌}
-use Prim.Native.Nat.{ℕ, zero, suc, ◌+◌, ◌-◌, ◌*◌, ◌/◌, ◌%◌, ◌^◌, ◌≤◌, ◌<◌, zero-le}
+use Prim.Native.Nat.{ℕ, zero, suc, ◌+◌, ◌*◌, ◌/◌, ◌^◌, ◌≤◌, ◌<◌, zero-le}
 use native.Mathlib.Decide.{dec_lt}
 use native.Mathlib.Omega.{arith}
 use lib.Bits.{bit_and, and_le_l, and_zero_l}
 use lib.Count.{count_trailing_zeros}
-use lib.Dec.{leb, eqb, ltb}
-use lib.ListN.{length, get_or, get_or-eq_default}
-use borrow.Author.Tests.{lt-ltb, le-ltb, eq-eqb, eqb-true, eqb-false, ltb-true, ltb-false, not-true}
-use Rattle.word.specs.Bits.{has, from, below, between, both, within, mask_of, number, ceil64, words_of}
+use lib.Dec.{eqb, ltb}
+use lib.ListN.{length}
+use borrow.Author.Tests.{le-ltb, eq-eqb, eqb-true, eqb-false, ltb-true, not-true}
+use Rattle.word.specs.Bits.{has, from, below, both, within, mask_of, ceil64, words_of}
 use Rattle.lent.specs.Lists.{joined, cons_if, only, spread}
 use Rattle.lent.proofs.ListLaws.{joined_cong, spread-append, only-append}
-use Rattle.word.proofs.BelowLaws.{below_cong, below-zero, below_snoc, below-between, below_trim, between_split, between_block, from-none, rank_lt}
+use Rattle.word.proofs.BelowLaws.{below_cong, below-zero, below_snoc, below-between, below_trim, between_split, between_block, from-none}
 use Rattle.word.proofs.HasLaws.{has_ext, has-past, has-and}
-use Rattle.word.proofs.BitLaws.{has-number, number_lt, has-mask_of, has-none, within_in}
+use Rattle.word.proofs.BitLaws.{number_lt, has-mask_of, has-none, within_in}
 use Rattle.word.proofs.LowestLaws.{lowest_lt, lowest_has}
 use Rattle.hybit_core.proofs.BoolLaws.{and_left, and_right}
 

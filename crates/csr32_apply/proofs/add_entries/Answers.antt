@@ -1,6 +1,5 @@
 -- `csr32_apply::add_entries` meets its contract. Assumes nothing.
 use borrow.Author.Rules.{rules}
-use Prim.Native.Nat.{◌-◌}
 use mathlib.Core.Path.{refl}
 use Rattle.csr32.proofs.SumLaws.{adding_none, adding_more, adding_done}
 use Rattle.csr32_apply.proofs.add_entries.Goals as goal

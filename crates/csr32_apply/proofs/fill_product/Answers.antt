@@ -1,7 +1,6 @@
 -- `csr32_apply::fill_product` meets its contract. Assumes nothing.
 use borrow.Author.Rules.{rules}
 use native.Mathlib.Omega.{arith}
-use Prim.Native.Nat.{◌-◌}
 use lib.ListN.{length-set}
 use Rattle.csr32.specs.Csr.{product}
 use Rattle.csr32.proofs.CsrLaws.{valid}

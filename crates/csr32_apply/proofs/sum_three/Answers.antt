@@ -1,6 +1,5 @@
 -- `csr32_apply::sum_three` meets its contract. Assumes nothing.
 use borrow.Author.Rules.{rules}
-use Prim.Native.Nat.{◌-◌}
 use Rattle.csr32.proofs.SumLaws.{adding_none, adding_more, adding_rest}
 use Rattle.csr32_apply.proofs.sum_three.Goals as goal
 

@@ -1,6 +1,5 @@
 -- `mask::ones` meets its contract. Assumes nothing.
 use borrow.Author.Rules.{rules}
-use Prim.Native.Nat.{◌-◌}
 use native.Mathlib.Omega.{arith}
 use Rattle.word.proofs.CountLaws.{ones-few}
 use Rattle.mask.proofs.CallLaws.{counted_none, counted_more, counted_done, counted-le}

@@ -1,6 +1,5 @@
 -- `mask::put_all` meets its contract. Assumes nothing.
 use mathlib.Core.Path.{refl}
-use Prim.Native.Nat.{◌-◌}
 use native.Mathlib.Omega.{arith}
 use Rattle.mask.proofs.CallLaws.{listing_none, listing-room, listing_more, listing_done}
 use Rattle.mask.proofs.put_all.Goals as goal

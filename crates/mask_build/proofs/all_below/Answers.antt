@@ -1,7 +1,6 @@
 -- `mask_build::all_below` meets its contract. Assumes nothing.
 use borrow.Author.Rules.{rules}
 use mathlib.Core.Path.{refl}
-use Prim.Native.Nat.{◌-◌}
 use Rattle.hybit_core.proofs.BoolLaws.{tests}
 use Rattle.lent.proofs.ListLaws.{every_more, every_fails, every_done}
 use Rattle.mask_build.proofs.all_below.Goals as goal

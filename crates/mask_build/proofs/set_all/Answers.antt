@@ -1,6 +1,5 @@
 -- `mask_build::set_all` meets its contract. Assumes nothing.
 use borrow.Author.Rules.{rules}
-use Prim.Native.Nat.{◌-◌}
 use native.Mathlib.Omega.{arith}
 use Rattle.mask_build.proofs.BuildLaws.{setting_none, setting_more, setting_length, setting_done, index_word}
 use Rattle.mask_build.proofs.set_all.Goals as goal

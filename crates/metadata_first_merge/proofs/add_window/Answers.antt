@@ -1,6 +1,5 @@
 -- `metadata_first_merge::add_window` meets its contract. Assumes nothing.
 use mathlib.Core.Path.{refl}
-use Prim.Native.Nat.{◌-◌}
 use native.Mathlib.Omega.{arith}
 use lib.ListN.{length-set}
 use Rattle.metadata_first_merge.proofs.WindowLaws.{summed-none, summed_before, summed-past, summed_more, summed_done}

@@ -1,5 +1,4 @@
 -- `metadata_first_merge::clear_window` meets its contract. Assumes nothing.
-use Prim.Native.Nat.{◌-◌}
 use native.Mathlib.Omega.{arith}
 use lib.ListN.{length-set}
 use Rattle.csr32.proofs.WindowLaws.{outside_before, outside_past, outside_more, outside_done}

@@ -1,6 +1,5 @@
 -- `metadata_first_merge::row_holds` meets its contract. Assumes nothing.
 use mathlib.Core.Path.{refl, sym, ◌∙◌, ap}
-use Prim.Native.Nat.{◌-◌}
 use native.Mathlib.Omega.{arith}
 use lib.ListN.{length}
 use Rattle.hybit_core.proofs.BoolLaws.{flag_on, flag_off}

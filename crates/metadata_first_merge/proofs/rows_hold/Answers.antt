@@ -1,6 +1,5 @@
 -- `metadata_first_merge::rows_hold` meets its contract. Assumes nothing.
 use mathlib.Core.Path.{refl, sym, ◌∙◌, ap}
-use Prim.Native.Nat.{◌-◌}
 use native.Mathlib.Omega.{arith}
 use Rattle.csr32.specs.Csr.{as_csr}
 use Rattle.csr32.proofs.CsrLaws.{valid, row_of, row_of_values, row_lent}

@@ -1,5 +1,4 @@
 -- `metadata_first_merge::sums_hold` meets its contract. Assumes nothing.
-use Prim.Native.Nat.{◌-◌}
 use native.Mathlib.Omega.{arith}
 use Rattle.metadata_first_merge.proofs.WindowLaws.{sums_before, sums_past, sums_more, sums_fails, sums_done}
 use mathlib.Core.Path.{ap}

@@ -1,5 +1,5 @@
 use Rattle.topology.proofs.ScanLaws.{bits_none, bits_more, bits_done}
-use Rattle.std.proofs.Common.{◌-◌, rules}
+use Rattle.std.proofs.Common.{rules}
 use Rattle.topology.proofs.count_bits.Goals as goal
 
 pub loop-i-init : goal.loop-i-init

@@ -1,5 +1,5 @@
 -- `topology::masks_hold` meets its contract. Assumes nothing.
-use Rattle.std.proofs.Common.{◌-◌, refl, rules}
+use Rattle.std.proofs.Common.{refl, rules}
 use Rattle.topology.proofs.LastLaws.{nonzero_more, nonzero_done}
 use Rattle.topology.proofs.masks_hold.Goals as goal
 

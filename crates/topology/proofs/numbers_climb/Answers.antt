@@ -1,5 +1,5 @@
 -- `topology::numbers_climb` meets its contract. Assumes nothing.
-use Rattle.std.proofs.Common.{◌-◌, rules}
+use Rattle.std.proofs.Common.{rules}
 use Rattle.topology.proofs.LastLaws.{climb-none, climb_more, climb_done}
 use Rattle.topology.proofs.numbers_climb.Goals as goal
 

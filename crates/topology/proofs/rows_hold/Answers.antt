@@ -1,5 +1,5 @@
 -- `topology::rows_hold` meets its contract. Assumes nothing.
-use Rattle.std.proofs.Common.{ℕ, ◌-◌, true, List, length, sym, ap, ◌∙◌, ap₂, rules}
+use Rattle.std.proofs.Common.{ℕ, List, length, sym, ap, ◌∙◌, ap₂, rules}
 use Rattle.topology.proofs.ScanLaws.{rows_none, rows_more, rows_fail, rows_done}
 use Rattle.hybit_core.proofs.BoolLaws.{flag_on, flag_off}
 use Rattle.topology.specs.Words.{row_rule, row_rules}

@@ -1,6 +1,5 @@
 -- `word::select` meets its contract. The loop's invariant: the members of `bits` are those of the mask after the first k. Assumes nothing.
 use borrow.Author.Rules.{rules}
-use Prim.Native.Nat.{◌-◌}
 use Rattle.word.proofs.OpLaws.{nothing_left, left-none, left_more, left-selected}
 use Rattle.word.proofs.select.Goals as goal
 

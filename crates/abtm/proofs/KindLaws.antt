@@ -6,7 +6,7 @@ use native.Mathlib.Omega.{arith}
 use lib.Dec.{leb, ltb}
 use lib.ListN.{length}
 use Rattle.hybit_core.specs.Answer.{gives, refuses, refused, accepted, plain, answers}
-use Rattle.hybit_core.proofs.BoolLaws.{and_first, and-next, is_equal, is_unequal, is_below, is_not-below, is_within, is_above}
+use Rattle.hybit_core.proofs.BoolLaws.{and_first, and-next, is_equal, is_unequal, is_below, is_not_below, is_within, is_above}
 use Rattle.hybit_core.proofs.AnswerLaws.{last_fails, last_passes}
 use Rattle.word.specs.Bits.{has, below, count, members}
 use Rattle.word.proofs.BelowLaws.{all-places}
@@ -72,9 +72,9 @@ module _ (h : AbtmConfig) where
   both_in : 1 ≤ h.sparse_max_nnz → h.dense_min_nnz ≤ 64 → true ≡ (leb 1 h.sparse_max_nnz && leb h.dense_min_nnz 64)
   both_in k l = and-next (leb 1 h.sparse_max_nnz) (leb h.dense_min_nnz 64) true (is_within 1 h.sparse_max_nnz k) (is_within h.dense_min_nnz 64 l)
 
-  pub not-below_dense : 1 ≤ h.sparse_max_nnz → h.dense_min_nnz ≤ 64 → h.dense_min_nnz ≤ h.sparse_max_nnz → refused (plain 9) ≡ threshold_answer h
+  pub not_below_dense : 1 ≤ h.sparse_max_nnz → h.dense_min_nnz ≤ 64 → h.dense_min_nnz ≤ h.sparse_max_nnz → refused (plain 9) ≡ threshold_answer h
   unfolding threshold_answer threshold_rules
-  not-below_dense k l m = last_fails (threshold_rules h) 9 (and-next (leb 1 h.sparse_max_nnz && leb h.dense_min_nnz 64) (ltb h.sparse_max_nnz h.dense_min_nnz) false (both_in k l) (is_not-below h.sparse_max_nnz h.dense_min_nnz m))
+  not_below_dense k l m = last_fails (threshold_rules h) 9 (and-next (leb 1 h.sparse_max_nnz && leb h.dense_min_nnz 64) (ltb h.sparse_max_nnz h.dense_min_nnz) false (both_in k l) (is_not_below h.sparse_max_nnz h.dense_min_nnz m))
 
   pub thresholds_good : 1 ≤ h.sparse_max_nnz → h.dense_min_nnz ≤ 64 → h.sparse_max_nnz < h.dense_min_nnz → accepted ≡ threshold_answer h
   unfolding threshold_answer threshold_rules

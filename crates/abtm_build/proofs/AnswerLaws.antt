@@ -244,16 +244,16 @@ module _ (m : Csr) (h : AbtmConfig) (op om oo ok : List ℕ) (ov : List Float) (
           (x ∙ ap (λ (i : ℕ). padded 0 i []) lp) (y ∙ ap (λ (i : ℕ). padded 0 i []) masks_same) (z ∙ ap (λ (i : ℕ). padded 0 i []) offsets_same) (u ∙ ap (λ (i : ℕ). padded 0 i []) metas_same)
           (w ∙ ap (λ (i : ℕ). padded zero64 i []) vals_same)
 
-      pub from-few_tiles : (op2 om2 oo2 ok2 : List ℕ) (ov2 : List Float) → tiles < at.tiles → op2 ≡ padded 0 (length op1) [] → om2 ≡ padded 0 (length (om1 ++ drop tiles om)) []
+      pub from_few_tiles : (op2 om2 oo2 ok2 : List ℕ) (ov2 : List Float) → tiles < at.tiles → op2 ≡ padded 0 (length op1) [] → om2 ≡ padded 0 (length (om1 ++ drop tiles om)) []
           → oo2 ≡ padded 0 (length (oo1 ++ drop tiles oo)) [] → ok2 ≡ padded 0 (length (ok1 ++ drop tiles ok)) [] → ov2 ≡ padded zero64 (length (ov1 ++ drop slots ov)) []
           → Result whole (refuses (paper ShortList)) (tiles_from m h) room op2 om2 oo2 ok2 ov2
-      from-few_tiles op2 om2 oo2 ok2 ov2 l =
+      from_few_tiles op2 om2 oo2 ok2 ov2 l =
           short op2 om2 oo2 ok2 ov2 (no_tiles m h (length op) (length om) (length oo) (length ok) (length ov) (omega (arith, f.tiles_are, tiles_few m h good)))
 
-      pub from-few_slots : (op2 om2 oo2 ok2 : List ℕ) (ov2 : List Float) → slots < at.slots → op2 ≡ padded 0 (length op1) [] → om2 ≡ padded 0 (length (om1 ++ drop tiles om)) []
+      pub from_few_slots : (op2 om2 oo2 ok2 : List ℕ) (ov2 : List Float) → slots < at.slots → op2 ≡ padded 0 (length op1) [] → om2 ≡ padded 0 (length (om1 ++ drop tiles om)) []
           → oo2 ≡ padded 0 (length (oo1 ++ drop tiles oo)) [] → ok2 ≡ padded 0 (length (ok1 ++ drop tiles ok)) [] → ov2 ≡ padded zero64 (length (ov1 ++ drop slots ov)) []
           → Result whole (refuses (paper ShortList)) (tiles_from m h) room op2 om2 oo2 ok2 ov2
-      from-few_slots op2 om2 oo2 ok2 ov2 l =
+      from_few_slots op2 om2 oo2 ok2 ov2 l =
           short op2 om2 oo2 ok2 ov2 (no_slots m h (length op) (length om) (length oo) (length ok) (length ov) (omega (arith, f.slots_are, slots_few_in m h good)))
 
       module _ (l : at.tiles ≤ tiles) (g : at.slots ≤ slots) where

@@ -1,13 +1,12 @@
 -- The values of a Dense tile: what the loop over its absent places finds, and what the count of values that are neither NaN nor zero
 -- says. Assumes nothing.
-use Rattle.std.proofs.Common.{◌≡◌, ℕ, ◌+◌, ◌-◌, ◌^◌, ◌<◌, ◌≤◌, Bool, true, false, cond, not, ◌&&◌, eqb, length, get_or, drop, sym, refl, ap, ◌∙◌, ap₂, zero-le, add-one, arith, eq-eqb, eqb-true}
+use Rattle.std.proofs.Common.{◌≡◌, ℕ, ◌-◌, ◌^◌, ◌<◌, ◌≤◌, Bool, true, false, cond, not, ◌&&◌, length, get_or, drop, sym, refl, ap, ◌∙◌, zero-le, arith}
 use mathlib.Core.Bool.{and_comm, and-false}
 use lib.Bits.{bit_and}
-use mir.Val.{bool_byte}
-use Rattle.hybit_core.proofs.BoolLaws.{same_test, not-both}
+use Rattle.hybit_core.proofs.BoolLaws.{not-both}
 use Rattle.lent.specs.Lists.{every}
 use Rattle.word.specs.Bits.{has, below, count, members, word_of}
-use Rattle.word.proofs.BelowLaws.{byte_le, below-zero, below_cong, length-below-suc, length-below-parts, from-none}
+use Rattle.word.proofs.BelowLaws.{below_cong, length-below-parts, from-none}
 use Rattle.word.proofs.BitLaws.{every-below, every-below-at}
 use Rattle.word.proofs.HasLaws.{has-ones}
 use Rattle.word.proofs.LowestLaws.{members-none}

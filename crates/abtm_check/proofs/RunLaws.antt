@@ -1,6 +1,6 @@
 -- The rules of all tiles' values: the absent places of Dense tiles one after the other, then the count of all values that are neither
 -- NaN nor zero. Assumes nothing.
-use Rattle.std.proofs.Common.{◌≡◌, ℕ, ◌+◌, ◌-◌, ◌<◌, ◌≤◌, Bool, true, false, cond, not, ◌&&◌, eqb, leb, List, [], ◌∷◌, ◌++◌, length, get_or, take, drop, sym, refl, ap, ◌∙◌, subst, ap₂, le_refl, arith, length-drop, drop_of_length-le, length-take-le, take_all, eq-eqb, eqb-true}
+use Rattle.std.proofs.Common.{◌≡◌, ℕ, ◌+◌, ◌-◌, ◌<◌, ◌≤◌, Bool, true, false, cond, not, ◌&&◌, eqb, leb, List, [], ◌∷◌, length, get_or, take, drop, sym, refl, ap, ◌∙◌, subst, ap₂, le_refl, arith, length-drop, drop_of_length-le, length-take-le, take_all, eq-eqb, eqb-true}
 use mathlib.Core.Bool.{and-false}
 use mathlib.Core.List.{zip, zip_with}
 use lib.Seq.{slice, length-slice}
@@ -18,10 +18,10 @@ use Rattle.abtm_values.specs.Values.{solid, plus_zero}
 use Rattle.abtm.specs.Tiles.{Listed, kind_in, is_dense, places, slot_count, stored, value_rule, tile_at, tile_rule, gapless, slot_rules}
 use Rattle.abtm.proofs.KindLaws.{dense_count, compact_places}
 use Rattle.word.proofs.PassLaws.{all_pass, pass_all, count-only, part_apart}
-use Rattle.abtm_values.proofs.ValueLaws.{plus_not-solid}
+use Rattle.abtm_values.proofs.ValueLaws.{plus_not_solid}
 use Rattle.abtm_check.proofs.DenseLaws.{absent_word, absent_tested, of_absent, counts_say, says_counts, counts_le}
 use Rattle.abtm_check.proofs.TilesLaws.{listed, none-listed, gapless-le}
-use Rattle.abtm_check.proofs.SlotLaws.{tile_with, values_keep, dense_sized, dense_rule, compact_rule}
+use Rattle.abtm_check.proofs.SlotLaws.{values_keep, dense_sized, dense_rule, compact_rule}
 
 -- ---- s values that are neither NaN nor zero at b present places, whose rule is t
 
@@ -95,7 +95,7 @@ module _ (mask meta : ℕ) (vs : List Float) (same : length vs ≡ length (place
   by_plus i = plus_zero (get_or vs i nan)
 
   apart : (i : ℕ) → by_plus i ≡ true → by_solid i ≡ false
-  apart i = plus_not-solid (get_or vs i nan)
+  apart i = plus_not_solid (get_or vs i nan)
 
   tile_counts : absent_in mask meta vs ≡ true → Counts (length (only solid vs)) (count (has mask) 64) (values_keep mask meta vs)
   tile_counts = go (is_dense meta) refl

@@ -94,7 +94,7 @@ not_plus v h = go v (sym (eq-zero v) ∙ h)
 
 -- ---- +0.0 is a zero
 
-pub plus_not-solid : (v : Float) → plus_zero v ≡ true → solid v ≡ false
-plus_not-solid nan h = refl
-plus_not-solid (inf s) h = sym h
-plus_not-solid (fin s m e) h = ap not (and_right (not s) (eqb m 0) h)
+pub plus_not_solid : (v : Float) → plus_zero v ≡ true → solid v ≡ false
+plus_not_solid nan h = refl
+plus_not_solid (inf s) h = sym h
+plus_not_solid (fin s m e) h = ap not (and_right (not s) (eqb m 0) h)

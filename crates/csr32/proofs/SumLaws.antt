@@ -96,8 +96,8 @@ module _ (f : ℕ → Float) (y : List Float) (r : ℕ) (v : Float) (e : v ≡ f
       go true q = known_new k (λ l. sym (eqb-true k r q))
       go false q = record { is = λ l. let l' : k < length y = omega (arith, length-set y r v) in get_or-set_other y r k v nan (eqb-false k r q) ∙ h.is l' }
 
-up_to-next : (P : ℕ → Type 0) (n : ℕ) → ((k : ℕ) → k < n → P k) → P n → (k : ℕ) → k < n + 1 → P k
-up_to-next P n before here k h = go (eqb k n) refl
+up_to_next : (P : ℕ → Type 0) (n : ℕ) → ((k : ℕ) → k < n → P k) → P n → (k : ℕ) → k < n + 1 → P k
+up_to_next P n before here k h = go (eqb k n) refl
   where
     go : (t : Bool) → eqb k n ≡ t → P k
     go true e = subst P (sym (eqb-true k n e)) here
@@ -127,9 +127,9 @@ module _ (f : ℕ → Float) (q : ℕ) where
       let late : (k : ℕ) → Known f y1 k → Known f y3 k = λ k h. last k (known_kept f y1 b t et k h) in
       let all : (k : ℕ) → Known f y k → Known f y3 k = λ k h. late k (known_kept f y n s es k h) in
       record {
-        first = up_to-next (λ k. Known f y3 k) n (λ k h. all k (inv.first k h)) (late n (known_new f y n s es n (λ l. refl)));
-        second = up_to-next (λ k. Known f y3 (k + q)) n (λ k h. all (k + q) (inv.second k h)) (last (n + q) (known_new f y1 b t et (n + q) (λ l. hb (omega arith))));
-        third = up_to-next (λ k. Known f y3 (k + 2 * q)) n (λ k h. all (k + 2 * q) (inv.third k h)) (known_new f y2 c u eu (n + 2 * q) (λ l. hc (omega arith)));
+        first = up_to_next (λ k. Known f y3 k) n (λ k h. all k (inv.first k h)) (late n (known_new f y n s es n (λ l. refl)));
+        second = up_to_next (λ k. Known f y3 (k + q)) n (λ k h. all (k + q) (inv.second k h)) (last (n + q) (known_new f y1 b t et (n + q) (λ l. hb (omega arith))));
+        third = up_to_next (λ k. Known f y3 (k + 2 * q)) n (λ k h. all (k + 2 * q) (inv.third k h)) (known_new f y2 c u eu (n + 2 * q) (λ l. hc (omega arith)));
       }
 
   pub thirds_done : (n : ℕ) (y : List Float) → Thirds f q n y → q ≤ n → (rows : ℕ) → length y ≡ rows → rows ≤ 3 * q → y ≡ each f rows

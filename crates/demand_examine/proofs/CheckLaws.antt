@@ -6,13 +6,13 @@ use Prim.Native.Nat.{ℕ, ◌≤◌, ◌<◌}
 use lib.Dec.{ltb}
 use lib.ListN.{length}
 use lib.Ieee.{Float}
-use Rattle.hybit_core.specs.Answer.{Told, Answer, accepted, refused, plain, lengths_differ, demand, length_is, ◌and_then◌}
+use Rattle.hybit_core.specs.Answer.{Answer, accepted, refused, plain, lengths_differ, demand, ◌and_then◌}
 use Rattle.hybit_core.specs.Domain.{few}
 use Rattle.hybit_core.specs.Table.{paper, told}
 use Rattle.hybit_core.specs.declared.Verdict.{Verdict}
 use Rattle.hybit_core.specs.declared.Verdict.TheVariants.{Accepted, Refused}
 use Rattle.hybit_core.specs.declared.HybitError.{HybitError}
-use Rattle.hybit_core.proofs.BoolLaws.{and_first, and_right, is_below, is_not-below}
+use Rattle.hybit_core.proofs.BoolLaws.{and_first, and_right, is_below, is_not_below}
 use Rattle.hybit_core.proofs.AnswerLaws.{demand_accepted, then_first, then_second, test_fails, test_passes, length_wrong, length_right, call_refused, call_accepted, accepted_by, refused_by}
 use Rattle.mask.specs.Mask.{Mask, mask_rules, mask_answer}
 use Rattle.csr32.specs.Made.{CsrRoom}
@@ -72,7 +72,7 @@ module _ (m : Csr) (a : Mask) where
       module _ (lx : length x ≡ m.cols) where
         pub row_outside : m.rows ≤ r → refused (plain 7) ≡ question_answer m a x r
         unfolding question_answer
-        row_outside l = length_right m.cols a.size _ _ la (length_right m.cols (length x) _ _ lx (test_fails (ltb r m.rows) 7 four (is_not-below r m.rows l)))
+        row_outside l = length_right m.cols a.size _ _ la (length_right m.cols (length x) _ _ lx (test_fails (ltb r m.rows) 7 four (is_not_below r m.rows l)))
 
         pub merge_told : r < m.rows → records_answer m a ≡ accepted → (u : Answer) → u ≡ merge_answer m → u ≡ question_answer m a x r
         unfolding question_answer merge_answer

@@ -9,7 +9,6 @@ use Rattle.hybit_core.specs.Answer.{accepted, demand, ◌and_then◌}
 use Rattle.hybit_core.proofs.AnswerLaws.{then_first, then_second}
 use Rattle.mask.specs.Mask.{Mask, active, all_active}
 use Rattle.csr32.specs.Csr.{Csr, entries, at}
-use Rattle.csr32.specs.Made.{csr_of}
 use Rattle.metadata_first.specs.Dot.{three_of}
 use Rattle.metadata_first.proofs.DotLaws.{demanded-three}
 use Rattle.metadata_first_build.specs.Pack.{StoreRoom, store_of, fits_store, wanted}

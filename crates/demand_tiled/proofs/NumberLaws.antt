@@ -2,29 +2,29 @@
 use mathlib.Core.Bool.{Bool, true, ◌&&◌}
 use mathlib.Core.List.{List, [], ◌++◌, map}
 use mathlib.Core.Path.{◌≡◌, refl, sym, ap, ap₂, subst, ◌∙◌}
-use Prim.Native.Nat.{ℕ, suc, ◌+◌, ◌^◌, ◌≤◌, ◌<◌}
+use Prim.Native.Nat.{ℕ, ◌+◌, ◌^◌, ◌≤◌, ◌<◌}
 use native.Mathlib.Numerals.{add-one}
 use native.Mathlib.Omega.{arith}
 use lib.Dec.{leb}
 use lib.ListN.{length, get_or, take, drop, length-map}
 use lib.Ieee.{Float, nan}
 use borrow.Author.Tests.{leb-true}
-use Rattle.hybit_core.specs.Answer.{Told, plain, Answer, accepted, refused, Given, gives, refuses, demand, length_is, answers, ◌and_then◌}
+use Rattle.hybit_core.specs.Answer.{plain, Answer, accepted, refused, Given, gives, refuses, demand, length_is, answers, ◌and_then◌}
 use Rattle.hybit_core.specs.Domain.{few, many, sizes_fit}
 use Rattle.hybit_core.specs.Floats.{zero64, finite}
 use Rattle.hybit_core.specs.Table.{paper, told}
 use Rattle.hybit_core.specs.declared.HybitError.{HybitError}
 use Rattle.hybit_core.specs.declared.Verdict.{Verdict}
 use Rattle.hybit_core.specs.declared.Verdict.TheVariants.{Accepted, Refused}
-use Rattle.hybit_core.proofs.BoolLaws.{and_left, and_right, is_below, is_not-below, is_within, is_above}
+use Rattle.hybit_core.proofs.BoolLaws.{and_left, and_right, is_below, is_not_below, is_within, is_above}
 use Rattle.hybit_core.proofs.AnswerLaws.{accepted_by, refused_by, demand_accepted, then_first, then_second}
-use Rattle.lent.specs.Lists.{joined, each, every}
+use Rattle.lent.specs.Lists.{joined, every}
 use Rattle.lent.specs.Lent.{padded, built, kept}
 use Rattle.lent.proofs.ListLaws.{length-each, length-starts}
 use Rattle.lent.proofs.LentLaws.{get_or-padded, cleared_front}
 use Rattle.mask.specs.Mask.{Mask, mask_rules, active}
 use Rattle.csr32.specs.Csr.{Csr, Entry, as_csr, csr_answer, entries, row_product, apply_answer, product}
-use Rattle.csr32.specs.Made.{entries_in, csr_of, CsrRoom, as_csr_room, fits_csr, csr_left}
+use Rattle.csr32.specs.Made.{entries_in, csr_of, CsrRoom, as_csr_room, fits_csr}
 use Rattle.csr32.proofs.CsrLaws.{valid}
 use Rattle.csr32.proofs.MadeLaws.{made_pointers, made_columns, made_values}
 use Rattle.abtm.specs.declared.AbtmConfig.{AbtmConfig}
@@ -55,7 +55,7 @@ module _ (m : Csr) (x : List Float) (r n : ℕ) where
 
   pub row_past : (y : List Float) → m.rows ≤ r → y ≡ padded zero64 n [] → Multiplied (refuses (plain 7)) y
   unfolding product_answer
-  row_past y h e = by_answer (refused (plain 7)) (refuses (plain 7)) y (ap (λ (b : Bool). demand b 7 and_then demand (leb m.rows n) 13 and_then apply_answer m x m.rows) (sym (is_not-below r m.rows h))) refl e
+  row_past y h e = by_answer (refused (plain 7)) (refuses (plain 7)) y (ap (λ (b : Bool). demand b 7 and_then demand (leb m.rows n) 13 and_then apply_answer m x m.rows) (sym (is_not_below r m.rows h))) refl e
 
   module _ (h : r < m.rows) where
     pub product_short : (y : List Float) → n < m.rows → y ≡ padded zero64 n [] → Multiplied (refuses (plain 13)) y

@@ -6,7 +6,7 @@ use Rattle.hybit_core.specs.Answer.{Answer, Given, gives, refuses, demand, answe
 use Rattle.hybit_core.specs.Floats.{zero64}
 use Rattle.hybit_core.specs.Table.{paper}
 use Rattle.lent.specs.Lent.{built}
-use Rattle.mask.specs.Mask.{Mask, all_active}
+use Rattle.mask.specs.Mask.{Mask}
 use Rattle.csr32.specs.Csr.{Csr, apply_answer, product}
 use Rattle.csr32.specs.Made.{CsrRoom}
 use Rattle.abtm.specs.declared.AbtmConfig.{AbtmConfig}

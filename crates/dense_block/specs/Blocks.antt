@@ -1,11 +1,11 @@
 -- Blocks (document 01, "Blocks"): the record of a plot list, and the rules of a record. One definition over the width w, which is
 -- 3 or 6, serves both.
-use Rattle.std.specs.Prelude.{ℕ, ◌+◌, ◌-◌, ◌*◌, ◌/◌, min, Bool, true, cond, ◌&&◌, leb, ltb, eqb, length, Float}
+use Rattle.std.specs.Prelude.{ℕ, ◌+◌, ◌-◌, ◌*◌, ◌/◌, min, Bool, true, cond, ◌&&◌, ltb, eqb, length, Float}
 use mathlib.Core.List.{List, foldl, map}
 use Rattle.hybit_core.specs.Answer.{Answer, demand, ◌and_then◌}
 use Rattle.hybit_core.specs.Domain.{sizes_fit}
 use Rattle.hybit_core.specs.Floats.{zero64}
-use Rattle.lent.specs.Lists.{joined, each, starts, part, only, every, some, climbs, spread}
+use Rattle.lent.specs.Lists.{joined, each, starts, part, every, some, climbs, spread}
 use Rattle.word.specs.Bits.{below}
 use Rattle.csr32.specs.Csr.{Csr, Entry, framed, entries, present, merged}
 use Rattle.dense_block.specs.declared.DenseBlockSize.{DenseBlockSize}

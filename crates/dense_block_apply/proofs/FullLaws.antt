@@ -14,7 +14,7 @@ use lib.Ieee.{Float}
 use mir.Syntax.{w64}
 use mir.Val.{Fits}
 use borrow.Author.Tests.{leb-true, ltb-true, ltb-false}
-use Rattle.hybit_core.proofs.BoolLaws.{and_left, and_right, is_below, is_not-below}
+use Rattle.hybit_core.proofs.BoolLaws.{and_left, and_right, is_below, is_not_below}
 use Rattle.lent.specs.Lists.{climbs, part}
 use Rattle.word.proofs.BitLaws.{every-below-at}
 use Rattle.csr32.proofs.FrameLaws.{part_length}
@@ -75,7 +75,7 @@ module _ (from to : ℕ) where
   ends s t = cond (s && t) (to - 1) to
 
   pub end_none : (t : Bool) → to ≤ from → to ≡ cond (ltb from to && t) (to - 1) to
-  end_none t l = ap (λ (s : Bool). ends s t) (is_not-below from to l)
+  end_none t l = ap (λ (s : Bool). ends s t) (is_not_below from to l)
 
   -- C is the last block column as the code has it, D as the contract does
   module _ (w n C D : ℕ) (e : C ≡ D) (l : from < to) where
@@ -83,7 +83,7 @@ module _ (from to : ℕ) where
     end_tail h = ap₂ ends (is_below from to l) (is_below n (w * D + w) (rw e at h))
 
     pub end_full : w * C + w ≤ n → to ≡ cond (ltb from to && ltb n (w * D + w)) (to - 1) to
-    end_full h = ap₂ ends (is_below from to l) (is_not-below n (w * D + w) (rw e at h))
+    end_full h = ap₂ ends (is_below from to l) (is_not_below n (w * D + w) (rw e at h))
 
 -- that number is no place before the first
 end_after : (w n : ℕ) (cs : List ℕ) (from to : ℕ) → from ≤ to → from ≤ fast_end w n cs from to

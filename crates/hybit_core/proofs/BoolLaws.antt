@@ -60,8 +60,8 @@ is_unequal m n h = sym (ne_eqb m n h)
 pub is_below : (m n : ℕ) → m < n → true ≡ ltb m n
 is_below m n h = sym (lt-ltb m n h)
 
-pub is_not-below : (m n : ℕ) → n ≤ m → false ≡ ltb m n
-is_not-below m n h = sym (le-ltb m n h)
+pub is_not_below : (m n : ℕ) → n ≤ m → false ≡ ltb m n
+is_not_below m n h = sym (le-ltb m n h)
 
 pub is_within : (m n : ℕ) → m ≤ n → true ≡ leb m n
 is_within m n h = sym (le-leb m n h)
@@ -69,4 +69,4 @@ is_within m n h = sym (le-leb m n h)
 pub is_above : (m n : ℕ) → n < m → false ≡ leb m n
 is_above m n h = sym (lt-leb m n h)
 
-pub ruleset tests = (flag_off, flag_on, and_first, and-next, is_equal, is_unequal, is_below, is_not-below, is_within, is_above)
+pub ruleset tests = (flag_off, flag_on, and_first, and-next, is_equal, is_unequal, is_below, is_not_below, is_within, is_above)

@@ -16,7 +16,7 @@ use Rattle.lent.specs.Lent.{padded, Appended}
 use Rattle.lent.proofs.ListLaws.{each_set, each_cong, each_same}
 use Rattle.lent.proofs.LentLaws.{appended_join, appended_cleared}
 use Rattle.word.specs.Bits.{has, below, count, within, word_of, members, mask_of, ceil64}
-use Rattle.word.proofs.BelowLaws.{below-zero, below_block, length-below_mono, length-below-le, length_block}
+use Rattle.word.proofs.BelowLaws.{below-zero, below_block, length_below_mono, length-below-le, length_block}
 use Rattle.word.proofs.BitLaws.{has-none, has-mask_of, count_cong, within_cong}
 use Rattle.word.proofs.OpLaws.{word_is_lem, word_cong, has_word}
 use Rattle.mask.specs.Mask.{as_mask, bit_at, active, mask_words, mask_answer}
@@ -186,7 +186,7 @@ module _ (ws old : List ℕ) where
 
     pub listing-room : k < length ws → count (bit_at ws) (64 * length ws) ≤ length old → at + length (members (get_or ws k 0)) ≤ length out
     unfolding members
-    listing-room h room = omega (arith, inv.same, inv.done.next, block ws k, length-below_mono (bit_at ws) (64 * (k + 1)) (64 * length ws) (omega arith))
+    listing-room h room = omega (arith, inv.same, inv.done.next, block ws k, length_below_mono (bit_at ws) (64 * (k + 1)) (64 * length ws) (omega arith))
 
     pub listing_more : (to : ℕ) (last : List ℕ) → k < length ws → length last ≡ length out → Appended (map (λ (i : ℕ). k * 64 + i) (members (get_or ws k 0))) at to out last → Listing ws old (k + 1) to last
     listing_more to last h s a = record {

@@ -1,13 +1,11 @@
 -- The dot depends on the present and active columns, and on the values and the vector there. Assumes nothing.
-use mathlib.Core.Bool.{Bool, true, false, not, ◌&&◌}
-use mathlib.Core.List.{List, [], foldl, foldl-append}
-use mathlib.Core.Path.{◌≡◌, refl, sym, ap, ap₂, ◌∙◌}
-use Prim.Native.Nat.{ℕ, zero, suc, ◌+◌, ◌<◌}
-use native.Mathlib.Omega.{arith}
+use mathlib.Core.Bool.{Bool, true, not, ◌&&◌}
+use mathlib.Core.List.{List}
+use mathlib.Core.Path.{◌≡◌, refl, ap, ap₂, ◌∙◌}
+use Prim.Native.Nat.{ℕ, ◌+◌, ◌<◌}
 use lib.ListN.{length}
 use lib.Ieee.{Float, binary64, add, mul}
 use Rattle.hybit_core.specs.Floats.{zero64}
-use Rattle.lent.specs.Lists.{cons_if}
 use Rattle.word.specs.Bits.{below, both, words_of}
 use Rattle.word.proofs.BelowLaws.{below_cong, length-below-parts, fold_below}
 use Rattle.word.proofs.BitLaws.{words_of_cong}

@@ -3,18 +3,16 @@ use mathlib.Core.Bool.{Bool, true}
 use mathlib.Core.List.{List, [], ◌∷◌, map, zip, zip_with}
 use mathlib.Core.Path.{◌≡◌, refl, sym, ap, ap₂, ◌∙◌}
 use Prim.Native.Nat.{ℕ, ◌+◌, ◌/◌, ◌%◌, ◌≤◌, ◌<◌, zero-le}
-use native.Mathlib.Decide.{dec_lt}
 use native.Mathlib.Omega.{arith}
 use lib.Dec.{eqb, ltb}
-use lib.ListN.{length, get_or, take, set, replicate, length-set, length-map, length-replicate}
-use lib.Seq.{ext_get_or, get_or-set_same, get_or-set_other}
+use lib.ListN.{length, get_or, take, set, replicate, length-map, length-replicate}
 use lib.Ieee.{Float, nan, binary64, add}
 use borrow.Author.Tests.{eq-eqb, ne_eqb}
 use Rattle.hybit_core.specs.Floats.{zero64}
 use Rattle.lent.specs.Lists.{every}
-use Rattle.lent.proofs.ListLaws.{get_or-map-lt, some-get_or}
+use Rattle.lent.proofs.ListLaws.{some-get_or}
 use Rattle.word.specs.Bits.{has, below, count}
-use Rattle.word.proofs.BelowLaws.{length-below-le, rank_lt, selects, below-at-rank, at-rank, set-rank}
+use Rattle.word.proofs.BelowLaws.{length-below-le, rank_lt, at-rank, set-rank}
 use Rattle.csr32.specs.Csr.{present, merged}
 use Rattle.csr32.proofs.CsrLaws.{present_columns, column_below}
 use Rattle.metadata_first_merge.specs.Merge.{row_values}

@@ -1,9 +1,8 @@
 -- Laws of the public build: when it is refused and how, and what each of its ends answers and leaves. Assumes nothing.
 use mathlib.Core.Bool.{Bool, true, false, not, ◌&&◌, true≢false, false≢true}
-use mathlib.Core.List.{List, [], ◌∷◌, ◌++◌}
+use mathlib.Core.List.{List, [], ◌++◌}
 use mathlib.Core.Path.{◌≡◌, refl, sym, ap, ap₂, ◌∙◌}
-use Prim.Native.Nat.{ℕ, zero, suc, ◌+◌, ◌-◌, ◌^◌, ◌≤◌, ◌<◌}
-use native.Mathlib.Nat.{sub-zero}
+use Prim.Native.Nat.{ℕ, ◌+◌, ◌-◌, ◌^◌, ◌≤◌, ◌<◌}
 use native.Mathlib.Omega.{arith}
 use lib.Dec.{leb}
 use lib.ListN.{length, take, drop, replicate}
@@ -16,11 +15,11 @@ use Rattle.hybit_core.specs.Table.{paper, told}
 use Rattle.hybit_core.specs.declared.HybitError.{HybitError}
 use Rattle.hybit_core.specs.declared.Verdict.{Verdict}
 use Rattle.hybit_core.specs.declared.Verdict.TheVariants as verdict
-use Rattle.hybit_core.proofs.BoolLaws.{and_left, and_right, and_both, flag_on, flag_off}
+use Rattle.hybit_core.proofs.BoolLaws.{and_left, and_right, and_both}
 use Rattle.hybit_core.proofs.AnswerLaws.{demand_accepted, then_first, then_second, accepted_by, refused_by}
 use Rattle.lent.specs.Lists.{every}
 use Rattle.lent.specs.Lent.{padded, built}
-use Rattle.lent.proofs.LentLaws.{padded-none, handed_used, front_zeros, written_front}
+use Rattle.lent.proofs.LentLaws.{handed_used, front_zeros, written_front}
 use Rattle.csr32.specs.Csr.{Csr, csr_answer, entries, present}
 use Rattle.csr32.proofs.CsrLaws.{valid}
 use Rattle.topology.specs.Calls.{as_room, fits_words, used_of, told_topology}

@@ -1,9 +1,8 @@
 -- A row in the making: where the values of its words start, and what the private functions require and ensure.
-use Rattle.std.specs.Prelude.{ℕ, ◌+◌, ◌/◌, ◌%◌, ◌≤◌, ◌<◌, Bool, true, false, List, ◌≡◌, length, get_or, Float}
+use Rattle.std.specs.Prelude.{ℕ, ◌≤◌, ◌<◌, Bool, true, false, List, ◌≡◌, length, Float}
 use Rattle.hybit_core.specs.Answer.{Answer, Told, accepted, refused, plain}
 use Rattle.hybit_core.specs.Floats.{zero64}
 use Rattle.lent.specs.Lent.{padded}
-use Rattle.word.specs.Bits.{has, count, ceil64}
 use Rattle.csr32.specs.Csr.{Csr, csr_answer, entries, present}
 use Rattle.topology.specs.Words.{topology_of}
 use Rattle.metadata_first_merge.specs.Merge.{merged_finite}

@@ -5,8 +5,7 @@ use mathlib.Core.Path.{◌≡◌, refl, sym, ap, ap₂, ◌∙◌}
 use Prim.Native.Nat.{ℕ, ◌+◌, ◌%◌, ◌^◌, ◌≤◌, ◌<◌}
 use native.Mathlib.Omega.{arith}
 use lib.Dec.{leb, ltb}
-use lib.ListN.{length, get_or, take, drop, set, length-append, length-drop}
-use lib.Seq.{take_at}
+use lib.ListN.{length, get_or, take, drop, set}
 use lib.Ieee.{Float, nan}
 use borrow.Author.Tests.{ltb-true, leb-true}
 use Rattle.hybit_core.specs.Answer.{Answer, accepted, demand, length_is, ◌and_then◌}
@@ -17,9 +16,8 @@ use Rattle.hybit_core.specs.declared.Verdict.{Verdict}
 use Rattle.hybit_core.specs.declared.Verdict.TheVariants.{Accepted}
 use Rattle.hybit_core.proofs.BoolLaws.{and_left, and_right}
 use Rattle.hybit_core.proofs.AnswerLaws.{demand_accepted, then_first, then_second, length_accepted, accepted_by}
-use Rattle.lent.specs.Lists.{part, each}
+use Rattle.lent.specs.Lists.{part}
 use Rattle.lent.specs.Lent.{padded}
-use Rattle.lent.proofs.ListLaws.{length-each}
 use Rattle.lent.proofs.LentLaws.{Filled, filled_none, filled_more, filled_length, filled_done, cleared_front}
 use Rattle.word.specs.Bits.{count, both}
 use Rattle.word.proofs.BelowLaws.{rank_lt, length-below-le}

@@ -1,8 +1,8 @@
 -- A loop over the words of a row that adds its dot: after the words below word f, the sum and the counts of the columns below 64 · f. Assumes nothing.
 use mathlib.Core.Bool.{Bool, true, false, not, ◌&&◌}
-use mathlib.Core.List.{List, [], ◌++◌, map, foldl, foldl-append}
+use mathlib.Core.List.{List, ◌++◌, map, foldl, foldl-append}
 use mathlib.Core.Path.{◌≡◌, refl, sym, ap, ap₂, subst, ◌∙◌}
-use Prim.Native.Nat.{ℕ, zero, suc, ◌+◌, ◌-◌, ◌*◌, ◌/◌, ◌%◌, ◌^◌, ◌≤◌, ◌<◌}
+use Prim.Native.Nat.{ℕ, ◌+◌, ◌-◌, ◌*◌, ◌/◌, ◌%◌, ◌^◌, ◌≤◌, ◌<◌}
 use native.Mathlib.Numerals.{add-one}
 use native.Mathlib.Omega.{arith}
 use lib.Bits.{bit_and, and_zero_l}
@@ -13,10 +13,9 @@ use mir.Val.{bool_byte}
 use borrow.Author.Tests.{ltb-true, lt-ltb, le-ltb, eq-eqb}
 use Rattle.hybit_core.specs.Floats.{zero64}
 use Rattle.hybit_core.proofs.BoolLaws.{and_left, and_right, and_both}
-use Rattle.lent.specs.Lists.{cons_if}
 use Rattle.lent.proofs.ListLaws.{foldl-map}
 use Rattle.word.specs.Bits.{has, below, count, both, within, members, word_of, mask_of, hit, ceil64, words_of}
-use Rattle.word.proofs.BelowLaws.{below-zero, below_snoc, below_cong, below_trim, below_block, length-below-suc, length-below-le, length-below-parts, rank_lt, fold_below}
+use Rattle.word.proofs.BelowLaws.{below-zero, below_cong, below_trim, below_block, length-below-suc, length-below-le, length-below-parts, rank_lt, fold_below}
 use Rattle.word.proofs.BitLaws.{has-mask_of, has-mask-at, has-none, within_in, every-below}
 use Rattle.word.proofs.OpLaws.{intersection_is}
 use Rattle.word.proofs.WordLaws.{mask-both, mask-none}

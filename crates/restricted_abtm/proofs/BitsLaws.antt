@@ -84,8 +84,8 @@ module _ (vals : List Float) (bits mask offset meta from room : ℕ) (old_c : Li
     pub keeping_column_room : at < room → room ≤ length old_c → at < length out_c
     keeping_column_room h l = omega (arith, inv.columns.same)
 
-    pub keeping_value-room : at < room → room ≤ length old_v → at < length out_v
-    keeping_value-room h l = omega (arith, inv.values.same)
+    pub keeping_value_room : at < room → room ≤ length old_v → at < length out_v
+    keeping_value_room h l = omega (arith, inv.values.same)
 
     module _ (some : rest ≡ 0 → ⊥) (low : ℕ) (l : low ≡ get_or (members rest) 0 64) where
       pub keeping_low : low < 64

@@ -5,7 +5,7 @@ use native.Mathlib.Decide.{dec_lt, le_ind}
 use mir.Val.{bool_byte}
 use Rattle.hybit_core.proofs.BoolLaws.{and_left, and_right}
 use Rattle.word.specs.Bits.{has, below, count, selected, within, mask_of, hit, ceil64, words_of}
-use Rattle.word.proofs.BelowLaws.{below-zero, below_cong, length-below-suc, length-below_mono, length-below-le, rank_lt, Selects, selects, length_block, below_trim, selected_finds, selected_nothing, selected_of_rank, some_is}
+use Rattle.word.proofs.BelowLaws.{below-zero, below_cong, length-below-suc, length_below_mono, length-below-le, rank_lt, Selects, selects, length_block, below_trim, selected_finds, selected_nothing, selected_of_rank, some_is}
 use Rattle.word.proofs.LowestLaws.{none as none_in}
 use Rattle.word.proofs.BitLaws.{within_in, has-mask_of}
 use Rattle.word.proofs.WordLaws.{mask-none}
@@ -53,7 +53,7 @@ module _ (p : ℕ → Bool) (n : ℕ) where
         after = go (dec_lt w f) s;
         bound = s.bound;
         holds = s.member;
-        skipped = λ v a b. empty_if v (λ e. omega (arith, rank_lt (hit p n) v w b e, length-below_mono (hit p n) f v a, s.ranked, h.ranked));
+        skipped = λ v a b. empty_if v (λ e. omega (arith, rank_lt (hit p n) v w b e, length_below_mono (hit p n) f v a, s.ranked, h.ranked));
         front = record {
           ranked = sym (ap (count (hit p n)) (add-one w) ∙ length-below-suc (hit p n) w ∙ ap₂ (λ (a : ℕ) (t : Bool). a + bool_byte t) s.ranked s.member);
           inside = omega (arith, s.bound);
@@ -67,7 +67,7 @@ module _ (p : ℕ → Bool) (n : ℕ) where
   -- at the end of the row: the words from f on are empty
   pub ended : (i f : ℕ) → Front i f → length (words_of p n) ≤ i → (v : ℕ) → f ≤ v → v < ceil64 n → hit p n v ≡ false
   unfolding words_of
-  ended i f h l v a b = empty_if v (λ e. omega (arith, rank_lt (hit p n) v (ceil64 n) b e, length-below_mono (hit p n) f v a, h.ranked))
+  ended i f h l v a b = empty_if v (λ e. omega (arith, rank_lt (hit p n) v (ceil64 n) b e, length_below_mono (hit p n) f v a, h.ranked))
 
   -- ---- columns
 
@@ -219,7 +219,7 @@ module _ (p : ℕ → Bool) (n : ℕ) where
       selecting_done l =
           let q : n ≤ 64 * ceil64 n = omega arith in
           let c : count (within n p) (64 * ceil64 n) ≡ count (within n p) (64 * s.at) = count_skip s.at (ceil64 n) s.front.inside (ended i s.at s.front l) in
-          sym (selected_nothing p n k (omega (arith, s.is, c, count_frame n (omega arith), length-below_mono (within n p) n (64 * ceil64 n) q)))
+          sym (selected_nothing p n k (omega (arith, s.is, c, count_frame n (omega arith), length_below_mono (within n p) n (64 * ceil64 n) q)))
 
 -- ---- as the code holds it: two lists that are a row, read at place i
 

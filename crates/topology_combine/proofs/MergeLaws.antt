@@ -14,8 +14,7 @@ use borrow.Author.Tests.{eq-eqb, ne_eqb, lt-ltb, le-ltb}
 use Rattle.word.specs.Bits.{has, below, count, within, word_of, mask_of, hit, ceil64, words_of}
 use Rattle.word.specs.Word.{combined}
 use Rattle.word.specs.declared.Operation.{Operation}
-use Rattle.word.specs.declared.Operation.TheVariants.{Union, Intersection, AndNot, Xor}
-use Rattle.word.proofs.BelowLaws.{below_trim, below-at-rank, length-below-suc, length-below_mono, length-below-le, rank_lt}
+use Rattle.word.proofs.BelowLaws.{below_trim, below-at-rank, length-below-suc, length_below_mono, length-below-le, rank_lt}
 use Rattle.word.proofs.BitLaws.{has-mask_of, has-none}
 use Rattle.word.proofs.OpLaws.{word_is_lem, word_cong, combined-none}
 use Rattle.word.proofs.WordLaws.{mask-none}
@@ -69,7 +68,7 @@ module _ (p : ℕ → Bool) (n : ℕ) where
   -- no place is past the words
   pub front-le : (i f : ℕ) → Front p n i f → i ≤ length (words_of p n)
   unfolding words_of
-  front-le i f h = omega (arith, h.ranked, length-below_mono (hit p n) f (ceil64 n) h.inside)
+  front-le i f h = omega (arith, h.ranked, length_below_mono (hit p n) f (ceil64 n) h.inside)
 
   record Sided (f index m next : ℕ) : Type 0 where
     pub mask : m ≡ mask_of p n index

@@ -83,11 +83,11 @@ length-below-le p (suc n) = omega (arith, length-below-suc p n, length-below-le 
 
 -- ---- ranks: the count below i grows with i, and a member's rank is below the count
 
-pub length-below_mono : (p : ℕ → Bool) (m n : ℕ) → m ≤ n → length (below p m) ≤ length (below p n)
-length-below_mono p m n h = le_ind (λ (k : ℕ). length (below p m) ≤ length (below p k)) (le_refl (length (below p m))) (λ k l e. omega (arith, length-below-suc p k)) n h
+pub length_below_mono : (p : ℕ → Bool) (m n : ℕ) → m ≤ n → length (below p m) ≤ length (below p n)
+length_below_mono p m n h = le_ind (λ (k : ℕ). length (below p m) ≤ length (below p k)) (le_refl (length (below p m))) (λ k l e. omega (arith, length-below-suc p k)) n h
 
 pub rank_lt : (p : ℕ → Bool) (i n : ℕ) → i < n → p i ≡ true → length (below p i) < length (below p n)
-rank_lt p i n h e = omega (arith, length-below-suc p i, ap bool_byte e, length-below_mono p (suc i) n h)
+rank_lt p i n h e = omega (arith, length-below-suc p i, ap bool_byte e, length_below_mono p (suc i) n h)
 
 -- ---- a run of positions in parts
 
@@ -228,7 +228,7 @@ below_rising p n j k l h = go (dec_lt (get_or (below p n) j 0) (get_or (below p 
     go : Dec (get_or (below p n) j 0 < get_or (below p n) k 0) → get_or (below p n) j 0 < get_or (below p n) k 0
     go (yes a) = a
     go (no f) =
-        absurd (omega (arith, (selects p n j (omega arith)).ranked, (selects p n k h).ranked, length-below_mono p (get_or (below p n) k 0) (get_or (below p n) j 0) (omega arith)))
+        absurd (omega (arith, (selects p n j (omega arith)).ranked, (selects p n k h).ranked, length_below_mono p (get_or (below p n) k 0) (get_or (below p n) j 0) (omega arith)))
 
 -- a member stands at its rank
 pub below-at-rank : (p : ℕ → Bool) (n i : ℕ) → i < n → p i ≡ true → get_or (below p n) (length (below p i)) 0 ≡ i

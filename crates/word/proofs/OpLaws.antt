@@ -46,8 +46,8 @@ module _ (a b : ℕ) (ha : a < 2 ^ 64) (hb : b < 2 ^ 64) where
   pub intersection_is : bit_and a b ≡ word_of (λ i. has a i && has b i)
   intersection_is = word_is_lem (bit_and a b) (λ i. has a i && has b i) (and_lt 64 a b ha hb) (λ i l. has-and a b i)
 
-  pub and-not_is : bit_and a ((2 ^ 64 - 1) - b) ≡ word_of (λ i. has a i && not (has b i))
-  and-not_is =
+  pub and_not_is : bit_and a ((2 ^ 64 - 1) - b) ≡ word_of (λ i. has a i && not (has b i))
+  and_not_is =
       word_is_lem (bit_and a ((2 ^ 64 - 1) - b)) (λ i. has a i && not (has b i)) (omega (arith, and_le_l a ((2 ^ 64 - 1) - b))) (λ i l. has-and-not 64 a b i ha hb)
 
   pub xor_is : bit_xor a b ≡ word_of (λ i. not (beq (has a i) (has b i)))

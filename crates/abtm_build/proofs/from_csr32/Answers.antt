@@ -3,7 +3,7 @@ use mathlib.Core.Path.{ap₂, ◌∙◌}
 use Prim.Native.Nat.{min}
 use native.Mathlib.Omega.{arith}
 use lib.ListN.{length-take, length-set}
-use Rattle.abtm_build.proofs.AnswerLaws.{from_refused, list_accepted, pointers_fit, good, from-few_tiles, from-few_slots, from-built}
+use Rattle.abtm_build.proofs.AnswerLaws.{from_refused, list_accepted, pointers_fit, good, from_few_tiles, from_few_slots, from-built}
 use borrow.Author.Rules.{rules}
 use Rattle.abtm_build.proofs.from_csr32.Goals as goal
 
@@ -31,12 +31,12 @@ build-at-requires c = let k = c.examine-v.ensures in
 pub returns-then-room-at : goal.returns-then-room-at
 returns-then-room-at c = let k = c.examine-v.ensures in
     let t = c.in_default.is in
-    let n = c.smaller-room.ensures ∙ ap₂ min c.smaller.ensures c.smaller-2.ensures in let rest = from-few_tiles _ _ c.args.row_tile_ptr.now c.args.masks.now c.args.value_offsets.now c.args.metas.now c.args.values.now _ k t _ _ n c.smaller-places.ensures _ _ _ _ _ _ c.build-at.ensures c.build-at.auto.row_tile_ptr c.build-at.auto.masks c.build-at.auto.value_offsets c.build-at.auto.metas c.build-at.auto.values _ _ _ _ _ c.if-room-at.true c.clear_past-then-room-at.ensures.pointers c.clear_past-then-room-at.ensures.bits c.clear_past-then-room-at.ensures.offsets c.clear_past-then-room-at.ensures.metas c.clear_past-then-room-at.ensures.values in record { answer = rest.0; pointers = rest.1.0; bits = rest.1.1.0; offsets = rest.1.1.1.0; metas = rest.1.1.1.1.0; values = rest.1.1.1.1.1 }
+    let n = c.smaller-room.ensures ∙ ap₂ min c.smaller.ensures c.smaller-2.ensures in let rest = from_few_tiles _ _ c.args.row_tile_ptr.now c.args.masks.now c.args.value_offsets.now c.args.metas.now c.args.values.now _ k t _ _ n c.smaller-places.ensures _ _ _ _ _ _ c.build-at.ensures c.build-at.auto.row_tile_ptr c.build-at.auto.masks c.build-at.auto.value_offsets c.build-at.auto.metas c.build-at.auto.values _ _ _ _ _ c.if-room-at.true c.clear_past-then-room-at.ensures.pointers c.clear_past-then-room-at.ensures.bits c.clear_past-then-room-at.ensures.offsets c.clear_past-then-room-at.ensures.metas c.clear_past-then-room-at.ensures.values in record { answer = rest.0; pointers = rest.1.0; bits = rest.1.1.0; offsets = rest.1.1.1.0; metas = rest.1.1.1.1.0; values = rest.1.1.1.1.1 }
 
 pub returns-then-places-at : goal.returns-then-places-at
 returns-then-places-at c = let k = c.examine-v.ensures in
     let t = c.in_default.is in
-    let n = c.smaller-room.ensures ∙ ap₂ min c.smaller.ensures c.smaller-2.ensures in let rest = from-few_slots _ _ c.args.row_tile_ptr.now c.args.masks.now c.args.value_offsets.now c.args.metas.now c.args.values.now _ k t _ _ n c.smaller-places.ensures _ _ _ _ _ _ c.build-at.ensures c.build-at.auto.row_tile_ptr c.build-at.auto.masks c.build-at.auto.value_offsets c.build-at.auto.metas c.build-at.auto.values _ _ _ _ _ c.if-places-at.true c.clear_past-then-places-at.ensures.pointers c.clear_past-then-places-at.ensures.bits c.clear_past-then-places-at.ensures.offsets c.clear_past-then-places-at.ensures.metas c.clear_past-then-places-at.ensures.values in record { answer = rest.0; pointers = rest.1.0; bits = rest.1.1.0; offsets = rest.1.1.1.0; metas = rest.1.1.1.1.0; values = rest.1.1.1.1.1 }
+    let n = c.smaller-room.ensures ∙ ap₂ min c.smaller.ensures c.smaller-2.ensures in let rest = from_few_slots _ _ c.args.row_tile_ptr.now c.args.masks.now c.args.value_offsets.now c.args.metas.now c.args.values.now _ k t _ _ n c.smaller-places.ensures _ _ _ _ _ _ c.build-at.ensures c.build-at.auto.row_tile_ptr c.build-at.auto.masks c.build-at.auto.value_offsets c.build-at.auto.metas c.build-at.auto.values _ _ _ _ _ c.if-places-at.true c.clear_past-then-places-at.ensures.pointers c.clear_past-then-places-at.ensures.bits c.clear_past-then-places-at.ensures.offsets c.clear_past-then-places-at.ensures.metas c.clear_past-then-places-at.ensures.values in record { answer = rest.0; pointers = rest.1.0; bits = rest.1.1.0; offsets = rest.1.1.1.0; metas = rest.1.1.1.1.0; values = rest.1.1.1.1.1 }
 
 pub offset_bounds-row_tile_ptr-nrows : goal.offset_bounds-row_tile_ptr-nrows
 offset_bounds-row_tile_ptr-nrows c = let h = pointers_fit _ _ c.args.row_tile_ptr.now c.args.masks.now c.args.value_offsets.now c.args.metas.now c.args.values.now _ c.examine-v.ensures c.in_default.is in

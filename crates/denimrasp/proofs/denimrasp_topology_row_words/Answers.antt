@@ -1,7 +1,7 @@
 -- `denimrasp::denimrasp_topology_row_words` meets its contract. Assumes nothing.
 use mathlib.Core.Path.{◌∙◌, ap}
 use Rattle.hybit_core.proofs.AnswerLaws.{call_refused, call_accepted, last_fails, last_passes}
-use Rattle.hybit_core.proofs.BoolLaws.{is_below, is_not-below}
+use Rattle.hybit_core.proofs.BoolLaws.{is_below, is_not_below}
 use Rattle.topology.specs.Calls.{row_answer}
 use Rattle.denimrasp_answers.specs.Answers.{part_of}
 use Rattle.denimrasp.proofs.CallLaws.{refuses_by, gives_by}
@@ -13,7 +13,7 @@ returns-in-Refused c = c.part_refused.ensures ∙ ap part_of (refuses_by _ _ _ (
 
 pub returns-then-row-nrows : goal.returns-then-row-nrows
 unfolding row_answer
-returns-then-row-nrows c = c.part_refused-then-row-nrows.ensures ∙ ap part_of (refuses_by _ _ _ (call_accepted _ _ _ _ c.check-v.ensures c.in_default.is (last_fails _ _ (is_not-below _ _ c.if-row-nrows.true))))
+returns-then-row-nrows c = c.part_refused-then-row-nrows.ensures ∙ ap part_of (refuses_by _ _ _ (call_accepted _ _ _ _ c.check-v.ensures c.in_default.is (last_fails _ _ (is_not_below _ _ c.if-row-nrows.true))))
 
 pub returns : goal.returns
 unfolding row_answer

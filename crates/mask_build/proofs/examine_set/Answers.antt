@@ -2,7 +2,7 @@
 use borrow.Author.Rules.{rules}
 use native.Mathlib.Omega.{arith}
 use Rattle.hybit_core.proofs.AnswerLaws.{checks, call_accepted, last_fails, last_passes}
-use Rattle.hybit_core.proofs.BoolLaws.{tests, is_below, is_not-below}
+use Rattle.hybit_core.proofs.BoolLaws.{tests, is_below, is_not_below}
 use Rattle.mask.specs.Calls.{set_answer}
 use Rattle.mask_build.proofs.examine_set.Goals as goal
 
@@ -12,7 +12,7 @@ returns-in-Refused c = search (checks, tests, rules)
 
 pub returns-then-len-index : goal.returns-then-len-index
 unfolding set_answer
-returns-then-len-index c = call_accepted _ _ _ _ c.check-v.ensures c.in_default.is (last_fails _ _ (is_not-below c.args.index c.args.len (omega arith)))
+returns-then-len-index c = call_accepted _ _ _ _ c.check-v.ensures c.in_default.is (last_fails _ _ (is_not_below c.args.index c.args.len (omega arith)))
 
 pub returns : goal.returns
 unfolding set_answer

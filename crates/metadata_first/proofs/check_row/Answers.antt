@@ -1,6 +1,6 @@
 -- `metadata_first::check_row` meets its contract. Assumes nothing.
 use Rattle.hybit_core.proofs.AnswerLaws.{checks, call_accepted, last_fails, last_passes}
-use Rattle.hybit_core.proofs.BoolLaws.{is_below, is_not-below}
+use Rattle.hybit_core.proofs.BoolLaws.{is_below, is_not_below}
 use Rattle.metadata_first.specs.Store.{store_row_answer}
 use borrow.Author.Rules.{rules}
 use Rattle.metadata_first.proofs.check_row.Goals as goal
@@ -11,7 +11,7 @@ returns-in-Refused c = search (checks, rules)
 
 pub returns-then-row-nrows : goal.returns-then-row-nrows
 unfolding store_row_answer
-returns-then-row-nrows c = call_accepted _ _ _ _ c.check-v.ensures c.in_default.is (last_fails _ _ (is_not-below _ _ c.if-row-nrows.true))
+returns-then-row-nrows c = call_accepted _ _ _ _ c.check-v.ensures c.in_default.is (last_fails _ _ (is_not_below _ _ c.if-row-nrows.true))
 
 pub returns : goal.returns
 unfolding store_row_answer

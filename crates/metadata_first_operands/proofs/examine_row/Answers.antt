@@ -1,6 +1,6 @@
 -- `metadata_first_operands::examine_row` meets its contract. Assumes nothing.
 use native.Mathlib.Omega.{arith}
-use Rattle.hybit_core.proofs.BoolLaws.{is_below, is_not-below}
+use Rattle.hybit_core.proofs.BoolLaws.{is_below, is_not_below}
 use Rattle.hybit_core.proofs.AnswerLaws.{call_refused, call_accepted, last_fails, last_passes}
 use Rattle.metadata_first.specs.Dot.{dot_answer}
 use Prim.Native.Nat.{◌<◌}
@@ -12,7 +12,7 @@ returns-in-Refused c = call_refused _ _ _ _ c.examine_operands-v.ensures c.in-Re
 
 pub returns-then-row-nrows : goal.returns-then-row-nrows
 unfolding dot_answer
-returns-then-row-nrows c = call_accepted _ _ _ _ c.examine_operands-v.ensures c.in_default.is (last_fails _ _ (is_not-below _ _ c.if-row-nrows.true))
+returns-then-row-nrows c = call_accepted _ _ _ _ c.examine_operands-v.ensures c.in_default.is (last_fails _ _ (is_not_below _ _ c.if-row-nrows.true))
 
 pub returns : goal.returns
 unfolding dot_answer

@@ -2,7 +2,7 @@
 use mathlib.Core.Path.{◌∙◌}
 use native.Mathlib.Omega.{arith}
 use Rattle.word.proofs.WalkLaws.{walk_less}
-use Rattle.restricted_abtm.proofs.BitsLaws.{keeping_none, keeping_few, keeping_column_room, keeping_value-room, keeping_low, keeping_place, keeping_more, keeping_past, kept_next, kept_columns, kept_values}
+use Rattle.restricted_abtm.proofs.BitsLaws.{keeping_none, keeping_few, keeping_column_room, keeping_value_room, keeping_low, keeping_place, keeping_more, keeping_past, kept_next, kept_columns, kept_values}
 use Rattle.restricted_abtm.proofs.keep_tile.Goals as goal
 
 pub loop-rest-init : goal.loop-rest-init
@@ -27,7 +27,7 @@ pub bounds-values-place : goal.bounds-values-place
 bounds-values-place c = keeping_place _ _ _ _ _ _ _ _ _ _ _ _ _ c.loop-rest.invariant c.loop-rest-test.true _ c.lowest-bit.ensures _ c.place_in.ensures
 
 pub bounds-out_values-at : goal.bounds-out_values-at
-bounds-out_values-at c = keeping_value-room _ _ _ _ _ _ _ _ _ _ _ _ _ c.loop-rest.invariant c.if-at-room.true c.requires.fact_3.1
+bounds-out_values-at c = keeping_value_room _ _ _ _ _ _ _ _ _ _ _ _ _ c.loop-rest.invariant c.if-at-room.true c.requires.fact_3.1
 
 pub loop-rest-smaller-then-at-room : goal.loop-rest-smaller-then-at-room
 loop-rest-smaller-then-at-room c = walk_less _ c.loop-rest.invariant.fits c.loop-rest-test.true _ c.without_lowest-rest.ensures

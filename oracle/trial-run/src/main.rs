@@ -10,7 +10,7 @@ use std::io::Write;
 use std::process::{Command, Stdio, exit};
 use trials::Trial;
 
-const PROGRAM: &str = "target/bin/trial";
+const PROGRAM: &str = "crates/trial/out/trial";
 
 fn main() {
     let words: Vec<String> = env::args().skip(1).collect();

@@ -1,6 +1,6 @@
 // The C interface: every public call of mask, csr32, topology, metadata_first, abtm, restricted and dense_block under a name of
-// its own, for programs in C and Rust to link (denimrasp.h). A list crosses as a pointer and a length, an answer as one struct of
-// denimrasp_answers.
+// its own, which denimrasp_c exports for programs in C and Rust to link (denimrasp.h). A list crosses as a pointer and a length, an
+// answer as one struct of denimrasp_answers.
 #![tactic(auto)]
 
 ghost use Rattle.std.specs.Prelude.{◌≡◌, false, not, ◌&&◌, ◌||◌, min, ◌+◌, ◌-◌, ◌*◌, ◌^◌, eqb, length};

@@ -1,5 +1,5 @@
-// metadata_first.rs: `AbtmProductPruningStats::accumulate` over the reports of many rows. The list is a slice of structs, so `totals`
-// is walked by hand; all that is added is added by `accumulate`, by value.
+// metadata_first.rs: `AbtmProductPruningStats::accumulate` over the reports of many rows. All that is added is added by
+// `accumulate`, by value.
 #![tactic(auto)]
 
 ghost use Rattle.std.specs.Prelude.{List, [], ◌∷◌, ◌++◌, ◌≡◌};

@@ -36,7 +36,7 @@ make_archive() {
     fi
     cd "$(dirname "${BASH_SOURCE[0]}")/.."
     if [[ -z ${DENIMRASP_LIB:-} ]] && archive_is_old && command -v rt >/dev/null; then
-        (cd crates/denimrasp_c && rt lib) >&2
+        (cd crates/denimrasp_c && rt lib --cpu x86-64) >&2
         mkdir -p "${archive%/*}"
         cp crates/denimrasp_c/out/libdenimrasp_c.a "$archive"
     fi

@@ -1,12 +1,11 @@
 -- What a tile by value and thresholds answer.
-use Rattle.std.specs.Prelude.{ℕ, leb}
+use Rattle.std.specs.Prelude.{ℕ, leb, Result, Ok, Err}
 use Rattle.hybit_core.specs.Answer.{Answer, Given, gives, refuses, demand, answers}
 use Rattle.hybit_core.specs.Table.{paper}
+use Rattle.hybit_core.specs.declared.HybitError.{HybitError}
 use Rattle.abtm.specs.declared.AbtmConfig.{AbtmConfig}
 use Rattle.abtm.specs.declared.TileKind.{TileKind}
 use Rattle.abtm.specs.declared.TileKind.TheVariants as kind
-use Rattle.abtm.specs.declared.KindAnswer.{KindAnswer}
-use Rattle.abtm.specs.declared.KindAnswer.TheVariants as named
 use Rattle.abtm.specs.Tiles.{kind_in, threshold_rules}
 
 -- thresholds: 9
@@ -19,9 +18,9 @@ kind_number kind.Sparse = 0
 kind_number kind.Bitmap = 1
 kind_number kind.Dense = 2
 
-abbrev pub told_kind : KindAnswer → Given ℕ
-told_kind (named.Kind k) = gives (kind_number k)
-told_kind (named.Refused e) = refuses (paper e)
+abbrev pub told_kind : Result TileKind HybitError → Given ℕ
+told_kind (Ok k) = gives (kind_number k)
+told_kind (Err e) = refuses (paper e)
 
 -- the kind of a tile: 12 for kind 3
 unfoldable pub kind_answer : ℕ → Given ℕ

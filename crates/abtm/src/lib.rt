@@ -8,20 +8,13 @@ ghost use Rattle.hybit_core.specs.Table.{told};
 ghost use Rattle.abtm.specs.Tiles.{word_in, kind_in, places, kind_of};
 ghost use Rattle.abtm.specs.Calls.{threshold_answer, told_kind, kind_answer};
 
-use hybit_core::{HybitError, Verdict};
+use hybit_core::HybitError;
 
 #[derive(Clone, Copy)]
 pub enum TileKind {
     Sparse,
     Bitmap,
     Dense,
-}
-
-// `TileKind`, or 12 for kind 3, which the Rust's `meta` can't hold.
-#[derive(Clone, Copy)]
-pub enum KindAnswer {
-    Kind(TileKind),
-    Refused(HybitError),
 }
 
 // A tile by value.
@@ -63,27 +56,27 @@ pub fn slot_count(mask: u64, meta: u32) -> usize
 }
 
 impl TileDesc {
-    pub fn kind(self) -> KindAnswer
+    pub fn kind(self) -> Result<TileKind, HybitError>
         ensures { told_kind result ≡ kind_answer self.meta }
     {
         let kind = kind_in(self.meta);
         if kind == 0 {
-            return KindAnswer::Kind(TileKind::Sparse);
+            return Ok(TileKind::Sparse);
         }
         if kind == 1 {
-            return KindAnswer::Kind(TileKind::Bitmap);
+            return Ok(TileKind::Bitmap);
         }
         if kind == 2 {
-            return KindAnswer::Kind(TileKind::Dense);
+            return Ok(TileKind::Dense);
         }
-        KindAnswer::Refused(HybitError::BadStore)
+        Err(HybitError::BadStore)
     }
 
     // The first column of the tile's word.
     pub fn base_col(self) -> usize
         ensures { result ≡ 64 * word_in self.meta }
     {
-        64 * hybit_core::wide(word_in(self.meta))
+        64 * word_in(self.meta) as usize
     }
 }
 
@@ -98,19 +91,19 @@ pub fn default_config() -> AbtmConfig
 }
 
 impl AbtmConfig {
-    pub fn validate(self) -> Verdict
+    pub fn validate(self) -> Result<(), HybitError>
         ensures { told result ≡ threshold_answer self }
     {
         if self.sparse_max_nnz < 1 {
-            return Verdict::Refused(HybitError::BadThresholds);
+            return Err(HybitError::BadThresholds);
         }
         if self.dense_min_nnz > 64 {
-            return Verdict::Refused(HybitError::BadThresholds);
+            return Err(HybitError::BadThresholds);
         }
         if self.sparse_max_nnz >= self.dense_min_nnz {
-            return Verdict::Refused(HybitError::BadThresholds);
+            return Err(HybitError::BadThresholds);
         }
-        Verdict::Accepted
+        Ok(())
     }
 
     // The kind of a tile with so many values, as `meta` has it.

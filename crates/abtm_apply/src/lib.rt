@@ -15,7 +15,7 @@ ghost use Rattle.abtm.specs.Tiles.{as_tiles, tile_at};
 ghost use Rattle.abtm_apply.specs.Product.{add_tile, sum_tiles, tiles_product, apply_tiles_answer};
 ghost use Rattle.abtm_apply.specs.Ready.{columns_inside, tile_inside};
 
-use hybit_core::{HybitError, Verdict};
+use hybit_core::HybitError;
 
 // The products of a Sparse or Bitmap tile, from 0.0: its values stand in the order of its columns.
 fn compact_sum(mask: u64, base: usize, values: &[f64], x: &[f64]) -> f64
@@ -41,7 +41,7 @@ fn add_dense(start: f64, base: usize, values: &[f64], x: &[f64]) -> f64
     requires { (base ≤ length x.now) × (length values.now ≡ 64) }
     ensures { result ≡ added_to start (only (λ (e : Entry). ltb e.0 (length x.now)) (zip (map (λ i. base + i) (below (λ i. true) 64)) values.now)) x.now }
 {
-    let limit = hybit_core::smaller(64, x.len() - base);
+    let limit = 64usize.min(x.len() - base);
     let mut sum = start;
     let mut j: usize = 0;
     while j < limit {
@@ -56,7 +56,7 @@ fn add_tile(sum: f64, mask: u64, offset: usize, meta: u32, values: &[f64], x: &[
     requires { tile_inside (length values.now) (length x.now) (mask, (offset, meta)) ≡ true }
     ensures { result ≡ add_tile (length x.now) x.now sum (tile_at values.now (mask, (offset, meta))) }
 {
-    let base = 64 * hybit_core::wide(abtm::word_in(meta));
+    let base = 64 * abtm::word_in(meta) as usize;
     let end = offset + abtm::slot_count(mask, meta);
     if abtm::kind_in(meta) == 2 {
         return add_dense(sum, base, &values[offset..end], x);
@@ -76,7 +76,7 @@ fn row_sum(masks: &[u64], value_offsets: &[u32], metas: &[u32], values: &[f64], 
         sum = add_tile(
             sum,
             masks[i],
-            hybit_core::wide(value_offsets[i]),
+            value_offsets[i] as usize,
             metas[i],
             values,
             x,
@@ -104,8 +104,8 @@ fn fill_product(
 {
     let mut row: usize = 0;
     while row < nrows {
-        let start = hybit_core::wide(row_tile_ptr[row]);
-        let end = hybit_core::wide(row_tile_ptr[row + 1]);
+        let start = row_tile_ptr[row] as usize;
+        let end = row_tile_ptr[row + 1] as usize;
         y[row] = row_sum(
             &masks[start..end],
             &value_offsets[start..end],
@@ -128,10 +128,10 @@ fn examine_apply(
     matrix_nnz: usize,
     x: &[f64],
     places: usize,
-) -> Verdict
+) -> Result<(), HybitError>
     ensures { told result ≡ apply_tiles_answer (as_tiles nrows ncols row_tile_ptr.now masks.now value_offsets.now metas.now values.now matrix_nnz) x.now places }
 {
-    let v = abtm_check::check(
+    abtm_check::check(
         nrows,
         ncols,
         row_tile_ptr,
@@ -140,23 +140,20 @@ fn examine_apply(
         metas,
         values,
         matrix_nnz,
-    );
-    if let Verdict::Refused(e) = v {
-        return Verdict::Refused(e);
-    }
+    )?;
     if x.len() != ncols {
-        return Verdict::Refused(HybitError::DimensionMismatch {
+        return Err(HybitError::DimensionMismatch {
             expected: ncols,
             actual: x.len(),
         });
     }
     if places != nrows {
-        return Verdict::Refused(HybitError::DimensionMismatch {
+        return Err(HybitError::DimensionMismatch {
             expected: nrows,
             actual: places,
         });
     }
-    Verdict::Accepted
+    Ok(())
 }
 
 // The row products in y, which stays as it was where the call is refused.
@@ -171,11 +168,11 @@ pub fn apply(
     matrix_nnz: usize,
     x: &[f64],
     y: &mut [f64],
-) -> Verdict
+) -> Result<(), HybitError>
     ensures answer { told result ≡ apply_tiles_answer (as_tiles nrows ncols row_tile_ptr.now masks.now value_offsets.now metas.now values.now matrix_nnz) x.now (length y.old) }
     ensures product { y.new ≡ kept (apply_tiles_answer (as_tiles nrows ncols row_tile_ptr.now masks.now value_offsets.now metas.now values.now matrix_nnz) x.now (length y.old)) (tiles_product (as_tiles nrows ncols row_tile_ptr.now masks.now value_offsets.now metas.now values.now matrix_nnz) x.now) y.old }
 {
-    let v = examine_apply(
+    examine_apply(
         nrows,
         ncols,
         row_tile_ptr,
@@ -186,10 +183,7 @@ pub fn apply(
         matrix_nnz,
         x,
         y.len(),
-    );
-    if let Verdict::Refused(e) = v {
-        return Verdict::Refused(e);
-    }
+    )?;
     fill_product(
         nrows,
         ncols,
@@ -202,5 +196,5 @@ pub fn apply(
         x,
         y,
     );
-    Verdict::Accepted
+    Ok(())
 }

@@ -1,4 +1,5 @@
 -- Laws of the public build: which lists are too short, and what each of its ends answers and leaves. Assumes nothing.
+use Rattle.std.specs.Prelude.{Result, Ok, Err}
 use mathlib.Core.Bool.{Bool, true, false, not, ◌&&◌}
 use mathlib.Core.List.{List, [], ◌∷◌, ◌++◌, map, map-map}
 use mathlib.Core.Path.{◌≡◌, refl, sym, ap, ap₂, ◌∙◌}
@@ -15,8 +16,6 @@ use lib.Seq.{take-append-le, take-suc-set}
 use Rattle.hybit_core.specs.Answer.{Answer, accepted, refused, Told, demand, ◌and_then◌, Given, gives, refuses, answers}
 use Rattle.hybit_core.specs.Floats.{zero64}
 use Rattle.hybit_core.specs.Table.{paper, told}
-use Rattle.hybit_core.specs.declared.Verdict.{Verdict}
-use Rattle.hybit_core.specs.declared.Verdict.TheVariants.{Accepted, Refused}
 use Rattle.hybit_core.specs.declared.HybitError.{HybitError}
 use Rattle.hybit_core.specs.declared.HybitError.TheVariants.{ShortList}
 use Rattle.hybit_core.proofs.BoolLaws.{and_both, not-both, and_first, and_second, is_above}
@@ -35,25 +34,26 @@ use Rattle.abtm.specs.Tiles.{Tile, Tiles, tile_of, row_tiles_of, masks_of, slots
 use Rattle.abtm.specs.Calls.{threshold_answer}
 use Rattle.abtm.proofs.PlaceLaws.{laid_long}
 use Rattle.abtm_build.specs.declared.Cursor.{Cursor}
-use Rattle.abtm_build.specs.Build.{tiles_from, TileRoom, as_tile_room, fits_tiles, before_answer, tile_answer, used_tiles}
+use Rattle.abtm_build.specs.declared.TilesSize.{TilesSize}
+use Rattle.abtm_build.specs.Build.{tiles_from, TileRoom, as_tile_room, fits_tiles, before_answer, tile_answer, as_tiles_size, used_tiles}
 use Rattle.abtm_build.specs.Written.{row_of, Held, Rows}
 use Rattle.abtm_build.proofs.WroteLaws.{masks_append}
 use Rattle.abtm_build.proofs.FewLaws.{tiles_few, slots_few_in}
 
 -- what the call answers, and what its five lists hold
-abbrev Result : Answer → Given (ℕ × (ℕ × ℕ)) → Tiles → TileRoom → List ℕ → List ℕ → List ℕ → List ℕ → List Float → Type 0
-Result a r t n op om oo ok ov =
+abbrev Outcome : Answer → Given TilesSize → Tiles → TileRoom → List ℕ → List ℕ → List ℕ → List ℕ → List Float → Type 0
+Outcome a r t n op om oo ok ov =
     (r ≡ answers a (used_tiles t)) × ((op ≡ built 0 n.ptr a t.ptr) × ((om ≡ built 0 n.mask a t.mask) × ((oo ≡ built 0 n.offset a t.offset) × ((ok ≡ built 0 n.meta a t.meta) × (ov ≡ built zero64 n.vals a t.vals)))))
 
 refusal : (a : Answer) (e : HybitError) (t : Tiles) (n : TileRoom) (op om oo ok : List ℕ) (ov : List Float) → a ≡ refused (paper e)
     → op ≡ padded 0 n.ptr [] → om ≡ padded 0 n.mask [] → oo ≡ padded 0 n.offset [] → ok ≡ padded 0 n.meta [] → ov ≡ padded zero64 n.vals []
-    → Result a (refuses (paper e)) t n op om oo ok ov
+    → Outcome a (refuses (paper e)) t n op om oo ok ov
 refusal a e t n op om oo ok ov q x y z u w = rw q (refl, (x, (y, (z, (u, w)))))
 
 success : (a : Answer) (t : Tiles) (i j k : ℕ) (n : TileRoom) (op om oo ok : List ℕ) (ov : List Float) → a ≡ accepted → i ≡ length t.mask → j ≡ length t.vals → k ≡ t.nnz
     → op ≡ padded 0 n.ptr t.ptr → om ≡ padded 0 n.mask t.mask → oo ≡ padded 0 n.offset t.offset → ok ≡ padded 0 n.meta t.meta → ov ≡ padded zero64 n.vals t.vals
-    → Result a (gives (i, (j, k))) t n op om oo ok ov
-success a t i j k n op om oo ok ov q ei ej ek x y z u w = rw q (λ s. gives (ei s, (ej s, ek s)), (x, (y, (z, (u, w)))))
+    → Outcome a (gives (as_tiles_size i j k)) t n op om oo ok ov
+success a t i j k n op om oo ok ov q ei ej ek x y z u w = rw q (λ s. gives (as_tiles_size (ei s) (ej s) (ek s)), (x, (y, (z, (u, w)))))
 
 -- ---- the chain of checks
 
@@ -168,16 +168,16 @@ module _ (m : Csr) (h : AbtmConfig) where
 
 -- ---- after the checks that need no build, which gave the verdict v
 
-module _ (m : Csr) (h : AbtmConfig) (op om oo ok : List ℕ) (ov : List Float) (v : Verdict) (t : told v ≡ before_answer m h (length op)) where
+module _ (m : Csr) (h : AbtmConfig) (op om oo ok : List ℕ) (ov : List Float) (v : Result Unit HybitError) (t : told v ≡ before_answer m h (length op)) where
   abbrev room : TileRoom
   room = as_tile_room (length op) (length om) (length oo) (length ok) (length ov)
 
   abbrev whole : Answer
   whole = tile_answer m h room
 
-  pub from_refused : (op2 om2 oo2 ok2 : List ℕ) (ov2 : List Float) (e : HybitError) → v ≡ Refused e
+  pub from_refused : (op2 om2 oo2 ok2 : List ℕ) (ov2 : List Float) (e : HybitError) → v ≡ Err e
       → op2 ≡ padded 0 (length op) [] → om2 ≡ padded 0 (length om) [] → oo2 ≡ padded 0 (length oo) [] → ok2 ≡ padded 0 (length ok) [] → ov2 ≡ padded zero64 (length ov) []
-      → Result whole (refuses (paper e)) (tiles_from m h) room op2 om2 oo2 ok2 ov2
+      → Outcome whole (refuses (paper e)) (tiles_from m h) room op2 om2 oo2 ok2 ov2
   unfolding tile_answer before_answer
   from_refused op2 om2 oo2 ok2 ov2 e k =
       refusal whole e (tiles_from m h) room op2 om2 oo2 ok2 ov2
@@ -185,7 +185,7 @@ module _ (m : Csr) (h : AbtmConfig) (op om oo ok : List ℕ) (ov : List Float) (
       (last_refusal_lem (ltb m.rows (length op)) (fits_tiles (tiles_from m h) room) 13 (paper e) (λ f. no_pointers m h (length op) (length om) (length oo) (length ok) (length ov) (ltb-false m.rows (length op) f)))
       (refused_by (before_answer m h (length op)) v e t k))
 
-  module _ (k : v ≡ Accepted) where
+  module _ (k : v ≡ Ok tt) where
     before : before_answer m h (length op) ≡ accepted
     before = accepted_by (before_answer m h (length op)) v t k
 
@@ -238,7 +238,7 @@ module _ (m : Csr) (h : AbtmConfig) (op om oo ok : List ℕ) (ov : List Float) (
 
       short : (op2 om2 oo2 ok2 : List ℕ) (ov2 : List Float) → fits_tiles (tiles_from m h) room ≡ false → op2 ≡ padded 0 (length op1) [] → om2 ≡ padded 0 (length (om1 ++ drop tiles om)) []
           → oo2 ≡ padded 0 (length (oo1 ++ drop tiles oo)) [] → ok2 ≡ padded 0 (length (ok1 ++ drop tiles ok)) [] → ov2 ≡ padded zero64 (length (ov1 ++ drop slots ov)) []
-          → Result whole (refuses (paper ShortList)) (tiles_from m h) room op2 om2 oo2 ok2 ov2
+          → Outcome whole (refuses (paper ShortList)) (tiles_from m h) room op2 om2 oo2 ok2 ov2
       short op2 om2 oo2 ok2 ov2 b x y z u w =
           refusal whole ShortList (tiles_from m h) room op2 om2 oo2 ok2 ov2 (decides false b)
           (x ∙ ap (λ (i : ℕ). padded 0 i []) lp) (y ∙ ap (λ (i : ℕ). padded 0 i []) masks_same) (z ∙ ap (λ (i : ℕ). padded 0 i []) offsets_same) (u ∙ ap (λ (i : ℕ). padded 0 i []) metas_same)
@@ -246,13 +246,13 @@ module _ (m : Csr) (h : AbtmConfig) (op om oo ok : List ℕ) (ov : List Float) (
 
       pub from_few_tiles : (op2 om2 oo2 ok2 : List ℕ) (ov2 : List Float) → tiles < at.tiles → op2 ≡ padded 0 (length op1) [] → om2 ≡ padded 0 (length (om1 ++ drop tiles om)) []
           → oo2 ≡ padded 0 (length (oo1 ++ drop tiles oo)) [] → ok2 ≡ padded 0 (length (ok1 ++ drop tiles ok)) [] → ov2 ≡ padded zero64 (length (ov1 ++ drop slots ov)) []
-          → Result whole (refuses (paper ShortList)) (tiles_from m h) room op2 om2 oo2 ok2 ov2
+          → Outcome whole (refuses (paper ShortList)) (tiles_from m h) room op2 om2 oo2 ok2 ov2
       from_few_tiles op2 om2 oo2 ok2 ov2 l =
           short op2 om2 oo2 ok2 ov2 (no_tiles m h (length op) (length om) (length oo) (length ok) (length ov) (omega (arith, f.tiles_are, tiles_few m h good)))
 
       pub from_few_slots : (op2 om2 oo2 ok2 : List ℕ) (ov2 : List Float) → slots < at.slots → op2 ≡ padded 0 (length op1) [] → om2 ≡ padded 0 (length (om1 ++ drop tiles om)) []
           → oo2 ≡ padded 0 (length (oo1 ++ drop tiles oo)) [] → ok2 ≡ padded 0 (length (ok1 ++ drop tiles ok)) [] → ov2 ≡ padded zero64 (length (ov1 ++ drop slots ov)) []
-          → Result whole (refuses (paper ShortList)) (tiles_from m h) room op2 om2 oo2 ok2 ov2
+          → Outcome whole (refuses (paper ShortList)) (tiles_from m h) room op2 om2 oo2 ok2 ov2
       from_few_slots op2 om2 oo2 ok2 ov2 l =
           short op2 om2 oo2 ok2 ov2 (no_slots m h (length op) (length om) (length oo) (length ok) (length ov) (omega (arith, f.slots_are, slots_few_in m h good)))
 
@@ -286,7 +286,7 @@ module _ (m : Csr) (h : AbtmConfig) (op om oo ok : List ℕ) (ov : List Float) (
             → op2 ≡ padded 0 (length (set op1 m.rows w)) (take (m.rows + 1) (set op1 m.rows w)) → om2 ≡ padded 0 (length (om1 ++ drop tiles om)) (take at.tiles (om1 ++ drop tiles om))
             → oo2 ≡ padded 0 (length (oo1 ++ drop tiles oo)) (take at.tiles (oo1 ++ drop tiles oo)) → ok2 ≡ padded 0 (length (ok1 ++ drop tiles ok)) (take at.tiles (ok1 ++ drop tiles ok))
             → ov2 ≡ padded zero64 (length (ov1 ++ drop slots ov)) (take at.slots (ov1 ++ drop slots ov))
-            → Result whole (gives (at.tiles, (at.slots, at.nnz))) (tiles_from m h) room op2 om2 oo2 ok2 ov2
+            → Outcome whole (gives (as_tiles_size at.tiles at.slots at.nnz)) (tiles_from m h) room op2 om2 oo2 ok2 ov2
         from-built op2 om2 oo2 ok2 ov2 w ew x y z u q =
             success whole (tiles_from m h) at.tiles at.slots at.nnz room op2 om2 oo2 ok2 ov2
             (decides true (has_room m h (length op) (length om) (length oo) (length ok) (length ov) pointers_fit (omega (arith, f.tiles_are)) (omega (arith, f.tiles_are)) (omega (arith, f.tiles_are)) (omega (arith, f.slots_are))))

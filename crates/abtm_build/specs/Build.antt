@@ -1,16 +1,14 @@
 -- The tiles of a plot list (document 01, "Tiles").
 use Rattle.std.specs.Prelude.{ℕ, suc, Bool, not, ◌&&◌, leb, ltb, length}
-use Rattle.hybit_core.specs.Answer.{Answer, Given, gives, refuses, demand, ◌and_then◌}
+use Rattle.hybit_core.specs.Answer.{Answer, demand, ◌and_then◌}
 use Rattle.hybit_core.specs.Floats.{zero64}
-use Rattle.hybit_core.specs.Table.{paper}
 use Rattle.lent.specs.Lent.{handed}
 use Rattle.csr32.specs.Csr.{Csr, csr_answer, entries}
 use Rattle.abtm.specs.declared.AbtmConfig.{AbtmConfig}
 use Rattle.abtm_values.specs.Values.{is_zero, merged_nonzero}
+use Rattle.abtm_build.specs.declared.TilesSize.{TilesSize}
 use Rattle.abtm.specs.Tiles.{Tiles, tiles_of}
 use Rattle.abtm.specs.Calls.{threshold_answer}
-use Rattle.abtm_build.specs.declared.TilesAnswer.{TilesAnswer}
-use Rattle.abtm_build.specs.declared.TilesAnswer.TheVariants as build
 
 -- stored zeros are skipped, the rest merged, merged zeros dropped; an infinite merged value is kept
 unfoldable pub tiles_from : Csr → AbtmConfig → Tiles
@@ -41,13 +39,12 @@ tile_answer m h room = csr_answer m and_then threshold_answer h and_then demand 
 unfoldable pub before_answer : Csr → AbtmConfig → ℕ → Answer
 before_answer m h pointers = csr_answer m and_then threshold_answer h and_then demand (ltb m.rows pointers) 13
 
--- how long the used parts of the tile lists and of the values are, and matrix_nnz: the pointers take rows + 1 places
-abbrev pub used_tiles : Tiles → ℕ × (ℕ × ℕ)
-used_tiles t = (length t.mask, (length t.vals, t.nnz))
+abbrev pub as_tiles_size : ℕ → ℕ → ℕ → TilesSize
+as_tiles_size n s k = record { tiles = n; value_slots = s; matrix_nnz = k }
 
-abbrev pub told_tiles : TilesAnswer → Given (ℕ × (ℕ × ℕ))
-told_tiles (build.Built n s k) = gives (n, (s, k))
-told_tiles (build.Refused e) = refuses (paper e)
+-- how long the used parts of the tile lists and of the values are, and matrix_nnz: the pointers take rows + 1 places
+abbrev pub used_tiles : Tiles → TilesSize
+used_tiles t = as_tiles_size (length t.mask) (length t.vals) t.nnz
 
 -- the tiles that the build leaves in the five lent lists, each handed on by its used part
 unfoldable pub tiled : Csr → AbtmConfig → TileRoom → Tiles

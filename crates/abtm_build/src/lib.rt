@@ -5,12 +5,12 @@
 #![tactic(auto)]
 
 ghost use Rattle.std.specs.Prelude.{◌≡◌, true, not, cond, ◌||◌, ◌+◌, ◌*◌, ◌≤◌, ◌<◌, ◌^◌, ltb, eqb, length, take, replicate, set, get_or};
-ghost use mathlib.Core.List.{[], map, zip};
+ghost use mathlib.Core.List.{map, zip};
 ghost use Rattle.std.specs.Float.{nan, binary64};
 ghost use Rattle.std.specs.Float.Ieee.{add};
 ghost use Rattle.hybit_core.specs.Answer.{accepted, answers};
 ghost use Rattle.hybit_core.specs.Floats.{zero64};
-ghost use Rattle.hybit_core.specs.Table.{told};
+ghost use Rattle.hybit_core.specs.Table.{told, given};
 ghost use Rattle.lent.specs.Lists.{each, every};
 ghost use Rattle.lent.specs.Lent.{Appended, padded, built};
 ghost use Rattle.word.specs.Bits.{has, below, members, word_of};
@@ -18,22 +18,19 @@ ghost use Rattle.csr32.specs.Csr.{as_csr, csr_answer};
 ghost use Rattle.csr32.specs.Window.{Outside};
 ghost use Rattle.abtm_values.specs.Values.{is_zero, merged_nonzero};
 ghost use Rattle.abtm.specs.Tiles.{places_of, row_tiles_of};
-ghost use Rattle.abtm_build.specs.Build.{tiles_from, as_tile_room, before_answer, tile_answer, used_tiles, told_tiles};
+ghost use Rattle.abtm_build.specs.Build.{tiles_from, as_tile_room, before_answer, tile_answer, used_tiles};
 ghost use Rattle.abtm_build.specs.Window.{tiles_between, window_value, Marked, Sized, Next};
 ghost use Rattle.abtm_build.specs.Written.{Wrote, Bounded, Lists, row_of, Rows};
 
 use abtm::AbtmConfig;
-use hybit_core::{HybitError, Verdict};
+use hybit_core::HybitError;
 
-// What a build of tiles answers: how many tiles and value slots it wrote and how many values there are.
+// How many tiles a build wrote, the places that they take in the values, and the values that are not zero.
 #[derive(Clone, Copy)]
-pub enum TilesAnswer {
-    Built {
-        tiles: usize,
-        value_slots: usize,
-        matrix_nnz: usize,
-    },
-    Refused(HybitError),
+pub struct TilesSize {
+    pub tiles: usize,
+    pub value_slots: usize,
+    pub matrix_nnz: usize,
 }
 
 // The next places of the tile lists and of the values, and the values so far.
@@ -82,7 +79,7 @@ fn gather(
     let mut next = past;
     let mut k: usize = 0;
     while k < cols.len() {
-        let c = hybit_core::wide(cols[k]);
+        let c = cols[k] as usize;
         let v = vals[k];
         k += 1;
         if !abtm_values::is_zero(v) {
@@ -91,7 +88,7 @@ fn gather(
                 if i < width {
                     add_at(i, v, sums, words, blocks);
                 } else {
-                    next = hybit_core::smaller(next, c);
+                    next = next.min(c);
                 }
             }
         }
@@ -108,7 +105,7 @@ fn clear_window(cols: &[u32], base: usize, sums: &mut [f64], words: &mut [u64], 
     let width = sums.len();
     let mut k: usize = 0;
     while k < cols.len() {
-        let c = hybit_core::wide(cols[k]);
+        let c = cols[k] as usize;
         k += 1;
         if base <= c {
             let i = c - base;
@@ -399,8 +396,8 @@ fn fill_rows(
         let row = next;
         next += 1;
         row_tile_ptr[row] = hybit_core::narrow(at.tiles);
-        let start = hybit_core::wide(row_ptr[row]);
-        let end = hybit_core::wide(row_ptr[row + 1]);
+        let start = row_ptr[row] as usize;
+        let end = row_ptr[row + 1] as usize;
         at = fill_row(
             ncols,
             &col_idx[start..end],
@@ -476,11 +473,11 @@ fn clear_past(
     ensures metas { metas.new ≡ padded 0 (length metas.old) (take tiles metas.old) }
     ensures values { values.new ≡ padded zero64 (length values.old) (take slots values.old) }
 {
-    lent::clear_from_u32(row_tile_ptr, rows);
-    lent::clear_from_u64(masks, tiles);
-    lent::clear_from_u32(value_offsets, tiles);
-    lent::clear_from_u32(metas, tiles);
-    lent::clear_from_f64(values, slots);
+    lent::clear_from(row_tile_ptr, rows);
+    lent::clear_from(masks, tiles);
+    lent::clear_from(value_offsets, tiles);
+    lent::clear_from(metas, tiles);
+    lent::clear_from(values, slots);
 }
 
 // The checks before the build: the plot list, the thresholds, and the room for the pointers, which needs no build.
@@ -492,21 +489,15 @@ fn examine(
     entries: &[f64],
     config: AbtmConfig,
     pointers: usize,
-) -> Verdict
+) -> Result<(), HybitError>
     ensures { told result ≡ before_answer (as_csr nrows ncols row_ptr.now col_idx.now entries.now) config pointers }
 {
-    let v = csr32::check(nrows, ncols, row_ptr, col_idx, entries);
-    if let Verdict::Refused(e) = v {
-        return Verdict::Refused(e);
-    }
-    let t = config.validate();
-    if let Verdict::Refused(e) = t {
-        return Verdict::Refused(e);
-    }
+    csr32::check(nrows, ncols, row_ptr, col_idx, entries)?;
+    config.validate()?;
     if pointers <= nrows {
-        return Verdict::Refused(HybitError::ShortList);
+        return Err(HybitError::ShortList);
     }
-    Verdict::Accepted
+    Ok(())
 }
 
 // The tiles of a plot list with the values `entries`: the used parts are nrows + 1 pointers, as many masks, offsets and metas as
@@ -523,8 +514,8 @@ pub fn from_csr32(
     value_offsets: &mut [u32],
     metas: &mut [u32],
     values: &mut [f64],
-) -> TilesAnswer
-    ensures answer { told_tiles result ≡ answers (tile_answer (as_csr nrows ncols row_ptr.now col_idx.now entries.now) config (as_tile_room (length row_tile_ptr.old) (length masks.old) (length value_offsets.old) (length metas.old) (length values.old))) (used_tiles (tiles_from (as_csr nrows ncols row_ptr.now col_idx.now entries.now) config)) }
+) -> Result<TilesSize, HybitError>
+    ensures answer { given result ≡ answers (tile_answer (as_csr nrows ncols row_ptr.now col_idx.now entries.now) config (as_tile_room (length row_tile_ptr.old) (length masks.old) (length value_offsets.old) (length metas.old) (length values.old))) (used_tiles (tiles_from (as_csr nrows ncols row_ptr.now col_idx.now entries.now) config)) }
     ensures pointers { row_tile_ptr.new ≡ built 0 (length row_tile_ptr.old) (tile_answer (as_csr nrows ncols row_ptr.now col_idx.now entries.now) config (as_tile_room (length row_tile_ptr.old) (length masks.old) (length value_offsets.old) (length metas.old) (length values.old))) (tiles_from (as_csr nrows ncols row_ptr.now col_idx.now entries.now) config).ptr }
     ensures bits { masks.new ≡ built 0 (length masks.old) (tile_answer (as_csr nrows ncols row_ptr.now col_idx.now entries.now) config (as_tile_room (length row_tile_ptr.old) (length masks.old) (length value_offsets.old) (length metas.old) (length values.old))) (tiles_from (as_csr nrows ncols row_ptr.now col_idx.now entries.now) config).mask }
     ensures offsets { value_offsets.new ≡ built 0 (length value_offsets.old) (tile_answer (as_csr nrows ncols row_ptr.now col_idx.now entries.now) config (as_tile_room (length row_tile_ptr.old) (length masks.old) (length value_offsets.old) (length metas.old) (length values.old))) (tiles_from (as_csr nrows ncols row_ptr.now col_idx.now entries.now) config).offset }
@@ -540,15 +531,15 @@ pub fn from_csr32(
         config,
         row_tile_ptr.len(),
     );
-    if let Verdict::Refused(e) = v {
+    if let Err(e) = v {
         clear_past(0, 0, 0, row_tile_ptr, masks, value_offsets, metas, values);
-        return TilesAnswer::Refused(e);
+        return Err(e);
     }
-    let room = hybit_core::smaller(
-        hybit_core::smaller(masks.len(), value_offsets.len()),
-        hybit_core::smaller(metas.len(), 16777216),
-    );
-    let places = hybit_core::smaller(values.len(), 1073741824);
+    let room = masks
+        .len()
+        .min(value_offsets.len())
+        .min(metas.len().min(16777216));
+    let places = values.len().min(1073741824);
     let at = build(
         nrows,
         ncols,
@@ -564,11 +555,11 @@ pub fn from_csr32(
     );
     if room < at.tiles {
         clear_past(0, 0, 0, row_tile_ptr, masks, value_offsets, metas, values);
-        return TilesAnswer::Refused(HybitError::ShortList);
+        return Err(HybitError::ShortList);
     }
     if places < at.slots {
         clear_past(0, 0, 0, row_tile_ptr, masks, value_offsets, metas, values);
-        return TilesAnswer::Refused(HybitError::ShortList);
+        return Err(HybitError::ShortList);
     }
     row_tile_ptr[nrows] = hybit_core::narrow(at.tiles);
     clear_past(
@@ -581,9 +572,9 @@ pub fn from_csr32(
         metas,
         values,
     );
-    TilesAnswer::Built {
+    Ok(TilesSize {
         tiles: at.tiles,
         value_slots: at.slots,
         matrix_nnz: at.nnz,
-    }
+    })
 }

@@ -8,12 +8,11 @@ ghost use Rattle.hybit_core.specs.Table.{told};
 ghost use Rattle.lent.specs.Lists.{part, every, only, climbs};
 ghost use Rattle.word.specs.Bits.{has, members, word_of};
 ghost use Rattle.csr32.specs.Csr.{framed_lists};
-ghost use Rattle.csr32.proofs.FrameLaws.{RowIn};
 ghost use Rattle.topology.specs.Words.{as_words, word_rule, row_rule, row_rules, set_bits};
 ghost use Rattle.abtm_values.specs.Values.{solid, plus_zero};
 ghost use Rattle.abtm.specs.Tiles.{Listed, word_in, kind_in, is_dense, places, stored, tile_at, as_tiles, value_rule, gapless, tiles_rules, tiles_answer};
 
-use hybit_core::{HybitError, Verdict};
+use hybit_core::HybitError;
 
 // The absent places of a Dense tile; none of another.
 fn absent_in(mask: u64, meta: u32) -> u64
@@ -44,7 +43,7 @@ fn also_at(holds: bool, offset: u32, slots: usize, next: usize) -> bool
     requires { slots ≤ 64 }
     ensures { result ≡ (holds && offset + slots == next) }
 {
-    if hybit_core::wide(offset) + slots == next {
+    if offset as usize + slots == next {
         return holds;
     }
     false
@@ -76,7 +75,7 @@ fn count_ahead(values: &[f64], done: Counted, end: usize) -> Counted
     if end <= from {
         return done;
     }
-    let to = hybit_core::smaller(end + 32704, values.len());
+    let to = (end + 32704).min(values.len());
     Counted {
         upto: to,
         solid: done.solid + abtm_values::count_solid(&values[from..to]),
@@ -105,7 +104,7 @@ fn values_hold(
         next += 1;
         let absent = absent_in(masks[i], metas[i]);
         if absent != 0 {
-            let at = hybit_core::wide(value_offsets[i]);
+            let at = value_offsets[i] as usize;
             let c = count_ahead(values, Counted { upto, solid }, at + 64);
             upto = c.upto;
             solid = c.solid;
@@ -176,30 +175,11 @@ fn row_holds(ncols: usize, masks: &[u64], metas: &[u32]) -> bool
         return false;
     }
     let last = metas.len() - 1;
-    let index = hybit_core::wide(abtm::word_in(metas[last]));
+    let index = abtm::word_in(metas[last]) as usize;
     if 64 * index + 64 <= ncols {
         return true;
     }
     word_holds(ncols, index, masks[last])
-}
-
-// A row's part of a list of numbers, and of the masks.
-fn numbers_of<'a>(row_tile_ptr: &[u32], numbers: &'a [u32], row: usize) -> &'a [u32]
-    requires { RowIn row_tile_ptr.now (length numbers.now) row }
-    ensures { result.now ≡ part row_tile_ptr.now numbers.now row }
-{
-    let start = hybit_core::wide(row_tile_ptr[row]);
-    let end = hybit_core::wide(row_tile_ptr[row + 1]);
-    &numbers[start..end]
-}
-
-fn masks_of<'a>(row_tile_ptr: &[u32], masks: &'a [u64], row: usize) -> &'a [u64]
-    requires { RowIn row_tile_ptr.now (length masks.now) row }
-    ensures { result.now ≡ part row_tile_ptr.now masks.now row }
-{
-    let start = hybit_core::wide(row_tile_ptr[row]);
-    let end = hybit_core::wide(row_tile_ptr[row + 1]);
-    &masks[start..end]
 }
 
 fn rows_hold(nrows: usize, ncols: usize, row_tile_ptr: &[u32], masks: &[u64], metas: &[u32]) -> bool
@@ -209,8 +189,8 @@ fn rows_hold(nrows: usize, ncols: usize, row_tile_ptr: &[u32], masks: &[u64], me
 {
     let mut row: usize = 0;
     while row < nrows {
-        let numbers = numbers_of(row_tile_ptr, metas, row);
-        if !row_holds(ncols, masks_of(row_tile_ptr, masks, row), numbers) {
+        let numbers = lent::part(row_tile_ptr, metas, row);
+        if !row_holds(ncols, lent::part(row_tile_ptr, masks, row), numbers) {
             return false;
         }
         row += 1;
@@ -252,7 +232,7 @@ fn compact_follow(masks: &[u64], value_offsets: &[u32], metas: &[u32], end: usiz
             masks[i - 1],
             value_offsets[i - 1],
             metas[i - 1],
-            hybit_core::wide(value_offsets[i]),
+            value_offsets[i] as usize,
         );
         i += 1;
     }
@@ -312,7 +292,7 @@ fn mixed_follow(masks: &[u64], value_offsets: &[u32], metas: &[u32], end: usize)
             masks[i - 1],
             value_offsets[i - 1],
             metas[i - 1],
-            hybit_core::wide(value_offsets[i]),
+            value_offsets[i] as usize,
         );
         i += 1;
     }
@@ -400,14 +380,14 @@ pub fn check(
     metas: &[u32],
     values: &[f64],
     matrix_nnz: usize,
-) -> Verdict
+) -> Result<(), HybitError>
     ensures { told result ≡ tiles_answer (as_tiles nrows ncols row_tile_ptr.now masks.now value_offsets.now metas.now values.now matrix_nnz) }
 {
     if !hybit_core::sizes_fit(nrows, ncols, masks.len(), metas.len()) {
-        return Verdict::Refused(HybitError::SizeOverflow);
+        return Err(HybitError::SizeOverflow);
     }
     if !hybit_core::entries_fit(value_offsets.len()) {
-        return Verdict::Refused(HybitError::SizeOverflow);
+        return Err(HybitError::SizeOverflow);
     }
     if !rules_hold(
         nrows,
@@ -419,7 +399,7 @@ pub fn check(
         values,
         matrix_nnz,
     ) {
-        return Verdict::Refused(HybitError::BadStore);
+        return Err(HybitError::BadStore);
     }
-    Verdict::Accepted
+    Ok(())
 }

@@ -1,4 +1,5 @@
 -- The checks of an expansion at each return of the code, and the mask that it leaves. Assumes nothing.
+use Rattle.std.specs.Prelude.{Result, Ok, Err}
 use mathlib.Core.Bool.{Bool, true, false, ◌&&◌}
 use mathlib.Core.List.{List, ◌++◌}
 use mathlib.Core.Path.{◌≡◌, sym, ap, ◌∙◌}
@@ -10,8 +11,6 @@ use lib.Seq.{length-take-le}
 use Rattle.hybit_core.specs.Answer.{Answer, accepted, refused, plain, lengths_differ, demand, length_is, ◌and_then◌}
 use Rattle.hybit_core.specs.Domain.{few}
 use Rattle.hybit_core.specs.Table.{paper, told}
-use Rattle.hybit_core.specs.declared.Verdict.{Verdict}
-use Rattle.hybit_core.specs.declared.Verdict.TheVariants.{Accepted, Refused}
 use Rattle.hybit_core.specs.declared.HybitError.{HybitError}
 use Rattle.hybit_core.proofs.BoolLaws.{is_equal, is_unequal, is_within, is_above, and_first}
 use Rattle.hybit_core.proofs.AnswerLaws.{test_fails, test_passes, last_fails, last_passes, length_wrong, length_right, call_refused, call_accepted, by_records}
@@ -39,16 +38,16 @@ module _ (t : Tiles) (n : ℕ) (ws : List ℕ) (room : ℕ) where
     unfolding expand_answer tiles_answer mask_answer
     expand_is = by_records (few n) (tile_sizes t) (mask_rules (as_mask n ws)) (demand (tiles_rules t) 12) (own_checks t n room) small
 
-    pub tiles_refused : (v : Verdict) (e : HybitError) → told v ≡ tiles_answer t → v ≡ Refused e → refused (paper e) ≡ expand_answer t (as_mask n ws) room
+    pub tiles_refused : (v : Result Unit HybitError) (e : HybitError) → told v ≡ tiles_answer t → v ≡ Err e → refused (paper e) ≡ expand_answer t (as_mask n ws) room
     tiles_refused v e h k = call_refused (tiles_answer t) (mask_answer (as_mask n ws) and_then own_checks t n room) v e h k ∙ sym expand_is
 
-    module _ (v : Verdict) (h : told v ≡ tiles_answer t) (k : v ≡ Accepted) where
-      pub mask_refused : (m : Verdict) (e : HybitError) → told m ≡ mask_answer (as_mask n ws) → m ≡ Refused e → refused (paper e) ≡ expand_answer t (as_mask n ws) room
+    module _ (v : Result Unit HybitError) (h : told v ≡ tiles_answer t) (k : v ≡ Ok tt) where
+      pub mask_refused : (m : Result Unit HybitError) (e : HybitError) → told m ≡ mask_answer (as_mask n ws) → m ≡ Err e → refused (paper e) ≡ expand_answer t (as_mask n ws) room
       mask_refused m e hm km =
           call_accepted (tiles_answer t) (mask_answer (as_mask n ws) and_then own_checks t n room) (refused (paper e)) v h k
           (call_refused (mask_answer (as_mask n ws)) (own_checks t n room) m e hm km) ∙ sym expand_is
 
-      module _ (m : Verdict) (hm : told m ≡ mask_answer (as_mask n ws)) (km : m ≡ Accepted) where
+      module _ (m : Result Unit HybitError) (hm : told m ≡ mask_answer (as_mask n ws)) (km : m ≡ Ok tt) where
         by_own : (a : Answer) → a ≡ own_checks t n room → a ≡ expand_answer t (as_mask n ws) room
         by_own a e =
             call_accepted (tiles_answer t) (mask_answer (as_mask n ws) and_then own_checks t n room) a v h k

@@ -12,7 +12,7 @@ ghost use Rattle.mask.specs.Mask.{as_mask, mask_words};
 ghost use Rattle.abtm.specs.Tiles.{word_in, as_tiles};
 ghost use Rattle.abtm_expand.specs.Expand.{expanded, expand_answer};
 
-use hybit_core::{HybitError, Verdict};
+use hybit_core::HybitError;
 
 // Joins a row's tile masks into the words.
 fn join_tiles(masks: &[u64], metas: &[u32], words: &mut [u64])
@@ -22,7 +22,7 @@ fn join_tiles(masks: &[u64], metas: &[u32], words: &mut [u64])
 {
     let mut k: usize = 0;
     while k < masks.len() {
-        let index = hybit_core::wide(abtm::word_in(metas[k]));
+        let index = abtm::word_in(metas[k]) as usize;
         words[index] = word::union(words[index], masks[k]);
         k += 1;
     }
@@ -63,8 +63,8 @@ fn fill_mask(
         let row = next;
         next += 1;
         if mask::is_member(mask_len, mask, row) {
-            let start = hybit_core::wide(row_tile_ptr[row]);
-            let end = hybit_core::wide(row_tile_ptr[row + 1]);
+            let start = row_tile_ptr[row] as usize;
+            let end = row_tile_ptr[row + 1] as usize;
             join_tiles(&masks[start..end], &metas[start..end], out);
         }
     }
@@ -82,13 +82,13 @@ fn examine_expand(
     mask_len: usize,
     mask: &[u64],
     room: usize,
-) -> Verdict
+) -> Result<(), HybitError>
     ensures { told result ≡ expand_answer (as_tiles nrows ncols row_tile_ptr.now masks.now value_offsets.now metas.now values.now matrix_nnz) (as_mask mask_len mask.now) room }
 {
     if !hybit_core::dimension_fits(mask_len) {
-        return Verdict::Refused(HybitError::SizeOverflow);
+        return Err(HybitError::SizeOverflow);
     }
-    let v = abtm_check::check(
+    abtm_check::check(
         nrows,
         ncols,
         row_tile_ptr,
@@ -97,27 +97,21 @@ fn examine_expand(
         metas,
         values,
         matrix_nnz,
-    );
-    if let Verdict::Refused(e) = v {
-        return Verdict::Refused(e);
-    }
-    let m = mask::check(mask_len, mask);
-    if let Verdict::Refused(e) = m {
-        return Verdict::Refused(e);
-    }
+    )?;
+    mask::check(mask_len, mask)?;
     if nrows != ncols {
-        return Verdict::Refused(HybitError::NotSquare);
+        return Err(HybitError::NotSquare);
     }
     if mask_len != nrows {
-        return Verdict::Refused(HybitError::DimensionMismatch {
+        return Err(HybitError::DimensionMismatch {
             expected: nrows,
             actual: mask_len,
         });
     }
     if room < mask.len() {
-        return Verdict::Refused(HybitError::ShortList);
+        return Err(HybitError::ShortList);
     }
-    Verdict::Accepted
+    Ok(())
 }
 
 // The mask joined with the columns of its rows, in `out`: the used part is as many words as the mask has.
@@ -133,7 +127,7 @@ pub fn expand_mask_one_hop(
     mask_len: usize,
     mask: &[u64],
     out: &mut [u64],
-) -> Verdict
+) -> Result<(), HybitError>
     ensures answer { told result ≡ expand_answer (as_tiles nrows ncols row_tile_ptr.now masks.now value_offsets.now metas.now values.now matrix_nnz) (as_mask mask_len mask.now) (length out.old) }
     ensures mask { out.new ≡ built 0 (length out.old) (expand_answer (as_tiles nrows ncols row_tile_ptr.now masks.now value_offsets.now metas.now values.now matrix_nnz) (as_mask mask_len mask.now) (length out.old)) (mask_words (expanded (as_tiles nrows ncols row_tile_ptr.now masks.now value_offsets.now metas.now values.now matrix_nnz) (as_mask mask_len mask.now)) mask_len) }
 {
@@ -150,9 +144,9 @@ pub fn expand_mask_one_hop(
         mask,
         out.len(),
     );
-    if let Verdict::Refused(e) = v {
-        lent::clear_from_u64(out, 0);
-        return Verdict::Refused(e);
+    if let Err(e) = v {
+        lent::clear_from(out, 0);
+        return Err(e);
     }
     let used = mask.len();
     fill_mask(
@@ -168,6 +162,6 @@ pub fn expand_mask_one_hop(
         mask,
         &mut out[..used],
     );
-    lent::clear_from_u64(out, used);
-    Verdict::Accepted
+    lent::clear_from(out, used);
+    Ok(())
 }

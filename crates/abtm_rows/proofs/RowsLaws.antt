@@ -1,4 +1,6 @@
 -- What the calls on a row of tiles know once their checks have accepted, and the tiles of a kind, counted one by one. Assumes nothing.
+use Rattle.std.specs.Prelude.{Result, Ok}
+use Rattle.hybit_core.specs.declared.HybitError.{HybitError}
 use mathlib.Core.Bool.{Bool, true, false}
 use mathlib.Core.List.{List, [], ◌∷◌}
 use mathlib.Core.Path.{◌≡◌, refl, sym, ap, ◌∙◌}
@@ -11,8 +13,6 @@ use lib.Seq.{take-suc, take_all}
 use borrow.Author.Tests.{ltb-true, eq-eqb, ne_eqb}
 use Rattle.hybit_core.specs.Answer.{demand}
 use Rattle.hybit_core.specs.Table.{told}
-use Rattle.hybit_core.specs.declared.Verdict.{Verdict}
-use Rattle.hybit_core.specs.declared.Verdict.TheVariants as verdict
 use Rattle.hybit_core.proofs.AnswerLaws.{demand_accepted, then_first, then_second, accepted_by}
 use Rattle.lent.specs.Lists.{only, cons_if}
 use Rattle.lent.proofs.ListLaws.{only-append}
@@ -24,10 +24,10 @@ use Rattle.abtm_rows.specs.Rows.{tile_row_answer, of_kind, tile_stats}
 
 -- ---- a record, or a row, that the checks accepted
 
-pub tiles_checked : (t : Tiles) (v : Verdict) → told v ≡ tiles_answer t → v ≡ verdict.Accepted → AcceptedTiles t
+pub tiles_checked : (t : Tiles) (v : Result Unit HybitError) → told v ≡ tiles_answer t → v ≡ Ok tt → AcceptedTiles t
 tiles_checked t v e a = tiles_facts t (accepted_by (tiles_answer t) v e a)
 
-module _ (t : Tiles) (r : ℕ) (v : Verdict) (e : told v ≡ tile_row_answer t r) (a : v ≡ verdict.Accepted) where
+module _ (t : Tiles) (r : ℕ) (v : Result Unit HybitError) (e : told v ≡ tile_row_answer t r) (a : v ≡ Ok tt) where
   facts : AcceptedTiles t
   unfolding tile_row_answer
   facts = tiles_facts t (then_first (tiles_answer t) (demand (ltb r t.rows) 7) (accepted_by (tile_row_answer t r) v e a))

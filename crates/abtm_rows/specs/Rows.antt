@@ -1,13 +1,10 @@
 -- What the calls on a row of tiles and on the figures of tiles ask of their input and answer.
 use Rattle.std.specs.Prelude.{ℕ, ◌+◌, ◌*◌, ◌-◌, ◌^◌, min, List, ltb, eqb, length, Float}
-use Rattle.hybit_core.specs.Answer.{Answer, Given, gives, refuses, demand, ◌and_then◌}
+use Rattle.hybit_core.specs.Answer.{Answer, demand, ◌and_then◌}
 use Rattle.hybit_core.specs.Floats.{ratio_of}
-use Rattle.hybit_core.specs.Table.{paper}
 use Rattle.lent.specs.Lists.{only}
 use Rattle.abtm.specs.Tiles.{Tiles, kind_in, tiles_answer}
 use Rattle.abtm_rows.specs.declared.AbtmStats.{AbtmStats}
-use Rattle.abtm_rows.specs.declared.AbtmStatsAnswer.{AbtmStatsAnswer}
-use Rattle.abtm_rows.specs.declared.AbtmStatsAnswer.TheVariants as statistics
 
 -- a question to row r: 1; 12; 7
 unfoldable pub tile_row_answer : Tiles → ℕ → Answer
@@ -31,10 +28,6 @@ tile_stats t = record {
   value_slots = length t.vals;
   metadata_bytes = 4 * (t.rows + 1) + 16 * length t.meta;
 }
-
-abbrev pub told_tile_stats : AbtmStatsAnswer → Given AbtmStats
-told_tile_stats (statistics.Stats s) = gives s
-told_tile_stats (statistics.Refused e) = refuses (paper e)
 
 -- bytes ÷ values in f64, 0.0 where there is none
 abbrev pub bytes_per_value : AbtmStats → Float

@@ -1,16 +1,14 @@
 // abtm.rs: `AbtmMatrix::row_tiles` and `AbtmMatrix::stats`.
 #![tactic(auto)]
 
-ghost use Rattle.std.specs.Prelude.{◌≡◌, length};
-ghost use Rattle.hybit_core.specs.Answer.{number_in, answers};
-ghost use Rattle.hybit_core.specs.Table.{told};
+ghost use Rattle.std.specs.Prelude.{◌≡◌};
+ghost use Rattle.hybit_core.specs.Answer.{on_given, answers};
+ghost use Rattle.hybit_core.specs.Table.{told, given};
 ghost use Rattle.lent.specs.Lists.{part};
-ghost use Rattle.csr32.proofs.FrameLaws.{RowIn};
-ghost use Rattle.topology.specs.Calls.{part_given};
 ghost use Rattle.abtm.specs.Tiles.{as_tiles, tiles_answer};
-ghost use Rattle.abtm_rows.specs.Rows.{tile_row_answer, of_kind, tile_stats, told_tile_stats, bytes_per_value, tile_bytes};
+ghost use Rattle.abtm_rows.specs.Rows.{tile_row_answer, of_kind, tile_stats, bytes_per_value, tile_bytes};
 
-use hybit_core::{HybitError, Verdict};
+use hybit_core::HybitError;
 
 #[derive(Clone, Copy)]
 pub struct AbtmStats {
@@ -23,12 +21,6 @@ pub struct AbtmStats {
     pub dense_tiles: usize,
     pub value_slots: usize,
     pub metadata_bytes: usize,
-}
-
-#[derive(Clone, Copy)]
-pub enum AbtmStatsAnswer {
-    Stats(AbtmStats),
-    Refused(HybitError),
 }
 
 // The figures are of any record, whatever numbers it holds.
@@ -64,10 +56,10 @@ fn check_row(
     values: &[f64],
     matrix_nnz: usize,
     row: usize,
-) -> Verdict
+) -> Result<(), HybitError>
     ensures { told result ≡ tile_row_answer (as_tiles nrows ncols row_tile_ptr.now masks.now value_offsets.now metas.now values.now matrix_nnz) row }
 {
-    let v = abtm_check::check(
+    abtm_check::check(
         nrows,
         ncols,
         row_tile_ptr,
@@ -76,36 +68,14 @@ fn check_row(
         metas,
         values,
         matrix_nnz,
-    );
-    if let Verdict::Refused(e) = v {
-        return Verdict::Refused(e);
-    }
+    )?;
     if row >= nrows {
-        return Verdict::Refused(HybitError::NoSuchPlace);
+        return Err(HybitError::NoSuchPlace);
     }
-    Verdict::Accepted
+    Ok(())
 }
 
-// A row's part of a list of numbers, and of the masks.
-fn numbers_of<'a>(row_tile_ptr: &[u32], numbers: &'a [u32], row: usize) -> &'a [u32]
-    requires { RowIn row_tile_ptr.now (length numbers.now) row }
-    ensures { result.now ≡ part row_tile_ptr.now numbers.now row }
-{
-    let start = hybit_core::wide(row_tile_ptr[row]);
-    let end = hybit_core::wide(row_tile_ptr[row + 1]);
-    &numbers[start..end]
-}
-
-fn masks_of<'a>(row_tile_ptr: &[u32], masks: &'a [u64], row: usize) -> &'a [u64]
-    requires { RowIn row_tile_ptr.now (length masks.now) row }
-    ensures { result.now ≡ part row_tile_ptr.now masks.now row }
-{
-    let start = hybit_core::wide(row_tile_ptr[row]);
-    let end = hybit_core::wide(row_tile_ptr[row + 1]);
-    &masks[start..end]
-}
-
-// The masks of the row's tiles, as that part of the lent list; the refusal's number goes to `refusal`, 0 when accepted.
+// The masks of the row's tiles, as that part of the lent list.
 pub fn row_tile_masks<'a>(
     nrows: usize,
     ncols: usize,
@@ -116,12 +86,10 @@ pub fn row_tile_masks<'a>(
     values: &[f64],
     matrix_nnz: usize,
     row: usize,
-    refusal: &mut u32,
-) -> &'a [u64]
-    ensures part { result.now ≡ part_given (tile_row_answer (as_tiles nrows ncols row_tile_ptr.now masks.now value_offsets.now metas.now values.now matrix_nnz) row) (part row_tile_ptr.now masks.now row) }
-    ensures number { refusal.new ≡ number_in (tile_row_answer (as_tiles nrows ncols row_tile_ptr.now masks.now value_offsets.now metas.now values.now matrix_nnz) row) }
+) -> Result<&'a [u64], HybitError>
+    ensures { on_given (λ s. s.now) (given result) ≡ answers (tile_row_answer (as_tiles nrows ncols row_tile_ptr.now masks.now value_offsets.now metas.now values.now matrix_nnz) row) (part row_tile_ptr.now masks.now row) }
 {
-    let v = check_row(
+    check_row(
         nrows,
         ncols,
         row_tile_ptr,
@@ -131,12 +99,8 @@ pub fn row_tile_masks<'a>(
         values,
         matrix_nnz,
         row,
-    );
-    *refusal = hybit_core::verdict_number(v);
-    if let Verdict::Refused(e) = v {
-        return &masks[..0];
-    }
-    masks_of(row_tile_ptr, masks, row)
+    )?;
+    Ok(lent::part(row_tile_ptr, masks, row))
 }
 
 // Their offsets into the values, in the same way.
@@ -150,12 +114,10 @@ pub fn row_tile_value_offsets<'a>(
     values: &[f64],
     matrix_nnz: usize,
     row: usize,
-    refusal: &mut u32,
-) -> &'a [u32]
-    ensures part { result.now ≡ part_given (tile_row_answer (as_tiles nrows ncols row_tile_ptr.now masks.now value_offsets.now metas.now values.now matrix_nnz) row) (part row_tile_ptr.now value_offsets.now row) }
-    ensures number { refusal.new ≡ number_in (tile_row_answer (as_tiles nrows ncols row_tile_ptr.now masks.now value_offsets.now metas.now values.now matrix_nnz) row) }
+) -> Result<&'a [u32], HybitError>
+    ensures { on_given (λ s. s.now) (given result) ≡ answers (tile_row_answer (as_tiles nrows ncols row_tile_ptr.now masks.now value_offsets.now metas.now values.now matrix_nnz) row) (part row_tile_ptr.now value_offsets.now row) }
 {
-    let v = check_row(
+    check_row(
         nrows,
         ncols,
         row_tile_ptr,
@@ -165,12 +127,8 @@ pub fn row_tile_value_offsets<'a>(
         values,
         matrix_nnz,
         row,
-    );
-    *refusal = hybit_core::verdict_number(v);
-    if let Verdict::Refused(e) = v {
-        return &value_offsets[..0];
-    }
-    numbers_of(row_tile_ptr, value_offsets, row)
+    )?;
+    Ok(lent::part(row_tile_ptr, value_offsets, row))
 }
 
 // Their word numbers and kinds, in the same way.
@@ -184,12 +142,10 @@ pub fn row_tile_metas<'a>(
     values: &[f64],
     matrix_nnz: usize,
     row: usize,
-    refusal: &mut u32,
-) -> &'a [u32]
-    ensures part { result.now ≡ part_given (tile_row_answer (as_tiles nrows ncols row_tile_ptr.now masks.now value_offsets.now metas.now values.now matrix_nnz) row) (part row_tile_ptr.now metas.now row) }
-    ensures number { refusal.new ≡ number_in (tile_row_answer (as_tiles nrows ncols row_tile_ptr.now masks.now value_offsets.now metas.now values.now matrix_nnz) row) }
+) -> Result<&'a [u32], HybitError>
+    ensures { on_given (λ s. s.now) (given result) ≡ answers (tile_row_answer (as_tiles nrows ncols row_tile_ptr.now masks.now value_offsets.now metas.now values.now matrix_nnz) row) (part row_tile_ptr.now metas.now row) }
 {
-    let v = check_row(
+    check_row(
         nrows,
         ncols,
         row_tile_ptr,
@@ -199,12 +155,8 @@ pub fn row_tile_metas<'a>(
         values,
         matrix_nnz,
         row,
-    );
-    *refusal = hybit_core::verdict_number(v);
-    if let Verdict::Refused(e) = v {
-        return &metas[..0];
-    }
-    numbers_of(row_tile_ptr, metas, row)
+    )?;
+    Ok(lent::part(row_tile_ptr, metas, row))
 }
 
 // How many tiles are of the kind.
@@ -232,10 +184,10 @@ pub fn stats(
     metas: &[u32],
     values: &[f64],
     matrix_nnz: usize,
-) -> AbtmStatsAnswer
-    ensures { told_tile_stats result ≡ answers (tiles_answer (as_tiles nrows ncols row_tile_ptr.now masks.now value_offsets.now metas.now values.now matrix_nnz)) (tile_stats (as_tiles nrows ncols row_tile_ptr.now masks.now value_offsets.now metas.now values.now matrix_nnz)) }
+) -> Result<AbtmStats, HybitError>
+    ensures { given result ≡ answers (tiles_answer (as_tiles nrows ncols row_tile_ptr.now masks.now value_offsets.now metas.now values.now matrix_nnz)) (tile_stats (as_tiles nrows ncols row_tile_ptr.now masks.now value_offsets.now metas.now values.now matrix_nnz)) }
 {
-    let v = abtm_check::check(
+    abtm_check::check(
         nrows,
         ncols,
         row_tile_ptr,
@@ -244,11 +196,8 @@ pub fn stats(
         metas,
         values,
         matrix_nnz,
-    );
-    if let Verdict::Refused(e) = v {
-        return AbtmStatsAnswer::Refused(e);
-    }
-    AbtmStatsAnswer::Stats(AbtmStats {
+    )?;
+    Ok(AbtmStats {
         nrows: nrows,
         ncols: ncols,
         matrix_nnz: matrix_nnz,

@@ -1,4 +1,6 @@
 -- Laws of plot lists: what an accepted one is, as its callers read it, and its rows. Assumes nothing.
+use Rattle.std.specs.Prelude.{Result, Ok}
+use Rattle.hybit_core.specs.declared.HybitError.{HybitError}
 use mathlib.Core.Bool.{Bool, true, false, ◌&&◌}
 use mathlib.Core.List.{List, zip}
 use mathlib.Core.Path.{◌≡◌, refl, sym, ap₂, ◌∙◌}
@@ -12,8 +14,6 @@ use Rattle.hybit_core.specs.Answer.{Answer, accepted, demand, length_is, ◌and_
 use Rattle.hybit_core.specs.Domain.{few, many, sizes_fit}
 use Rattle.hybit_core.specs.Floats.{finite}
 use Rattle.hybit_core.specs.Table.{told}
-use Rattle.hybit_core.specs.declared.Verdict.{Verdict}
-use Rattle.hybit_core.specs.declared.Verdict.TheVariants.{Accepted}
 use Rattle.hybit_core.proofs.BoolLaws.{and_left, and_right}
 use Rattle.hybit_core.proofs.AnswerLaws.{demand_accepted, then_first, then_second, length_accepted, accepted_by}
 use Rattle.lent.specs.Lists.{every, some, rises, part}
@@ -79,7 +79,7 @@ valid m e =
     }
 
 -- as a caller of `check` has it
-pub checked : (m : Csr) (v : Verdict) → told v ≡ csr_answer m → v ≡ Accepted → Valid m
+pub checked : (m : Csr) (v : Result Unit HybitError) → told v ≡ csr_answer m → v ≡ Ok tt → Valid m
 checked m v h k = valid m (accepted_by (csr_answer m) v h k)
 
 -- an accepted call of `apply`

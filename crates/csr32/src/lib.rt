@@ -5,11 +5,11 @@ ghost use Rattle.std.specs.Prelude.{◌≡◌, true, ◌&&◌, ltb, length};
 ghost use Rattle.hybit_core.specs.Answer.{answers};
 ghost use Rattle.hybit_core.specs.Domain.{few};
 ghost use Rattle.hybit_core.specs.Floats.{finite};
-ghost use Rattle.hybit_core.specs.Table.{told, told_count};
+ghost use Rattle.hybit_core.specs.Table.{told, given};
 ghost use Rattle.lent.specs.Lists.{every, rises};
 ghost use Rattle.csr32.specs.Csr.{as_csr, framed, framed_lists, csr_answer, csr_metadata_bytes, csr_storage_bytes};
 
-use hybit_core::{CountAnswer, HybitError, Verdict};
+use hybit_core::HybitError;
 
 // The scans below keep a flag and never leave early: so they compile to vector code, and a good list is read whole anyway.
 fn both(a: bool, b: bool) -> bool
@@ -47,7 +47,7 @@ pub fn pointers_hold(nrows: usize, row_ptr: &[u32], places: usize) -> bool
     if row_ptr[0] != 0 {
         return false;
     }
-    if hybit_core::wide(row_ptr[nrows]) != places {
+    if row_ptr[nrows] as usize != places {
         return false;
     }
     no_fall(row_ptr)
@@ -137,22 +137,22 @@ pub fn check(
     row_ptr: &[u32],
     col_idx: &[u32],
     values: &[f64],
-) -> Verdict
+) -> Result<(), HybitError>
     ensures { told result ≡ csr_answer (as_csr nrows ncols row_ptr.now col_idx.now values.now) }
 {
     if !hybit_core::sizes_fit(nrows, ncols, col_idx.len(), values.len()) {
-        return Verdict::Refused(HybitError::SizeOverflow);
+        return Err(HybitError::SizeOverflow);
     }
     if !lists_hold(nrows, row_ptr, col_idx.len(), values.len()) {
-        return Verdict::Refused(HybitError::BadFrame);
+        return Err(HybitError::BadFrame);
     }
     if !columns_inside(col_idx, ncols) {
-        return Verdict::Refused(HybitError::OutsideColumn);
+        return Err(HybitError::OutsideColumn);
     }
     if !all_finite(values) {
-        return Verdict::Refused(HybitError::NotFinite);
+        return Err(HybitError::NotFinite);
     }
-    Verdict::Accepted
+    Ok(())
 }
 
 pub fn metadata_bytes(
@@ -161,14 +161,11 @@ pub fn metadata_bytes(
     row_ptr: &[u32],
     col_idx: &[u32],
     values: &[f64],
-) -> CountAnswer
-    ensures { told_count result ≡ answers (csr_answer (as_csr nrows ncols row_ptr.now col_idx.now values.now)) (csr_metadata_bytes (as_csr nrows ncols row_ptr.now col_idx.now values.now)) }
+) -> Result<usize, HybitError>
+    ensures { given result ≡ answers (csr_answer (as_csr nrows ncols row_ptr.now col_idx.now values.now)) (csr_metadata_bytes (as_csr nrows ncols row_ptr.now col_idx.now values.now)) }
 {
-    let v = check(nrows, ncols, row_ptr, col_idx, values);
-    if let Verdict::Refused(e) = v {
-        return CountAnswer::Refused(e);
-    }
-    CountAnswer::Count(4 * row_ptr.len() + 4 * col_idx.len())
+    check(nrows, ncols, row_ptr, col_idx, values)?;
+    Ok(4 * row_ptr.len() + 4 * col_idx.len())
 }
 
 pub fn storage_bytes(
@@ -177,12 +174,9 @@ pub fn storage_bytes(
     row_ptr: &[u32],
     col_idx: &[u32],
     values: &[f64],
-) -> CountAnswer
-    ensures { told_count result ≡ answers (csr_answer (as_csr nrows ncols row_ptr.now col_idx.now values.now)) (csr_storage_bytes (as_csr nrows ncols row_ptr.now col_idx.now values.now)) }
+) -> Result<usize, HybitError>
+    ensures { given result ≡ answers (csr_answer (as_csr nrows ncols row_ptr.now col_idx.now values.now)) (csr_storage_bytes (as_csr nrows ncols row_ptr.now col_idx.now values.now)) }
 {
-    let v = check(nrows, ncols, row_ptr, col_idx, values);
-    if let Verdict::Refused(e) = v {
-        return CountAnswer::Refused(e);
-    }
-    CountAnswer::Count(4 * row_ptr.len() + 4 * col_idx.len() + 8 * values.len())
+    check(nrows, ncols, row_ptr, col_idx, values)?;
+    Ok(4 * row_ptr.len() + 4 * col_idx.len() + 8 * values.len())
 }

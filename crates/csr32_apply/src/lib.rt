@@ -9,7 +9,7 @@ ghost use Rattle.lent.specs.Lent.{kept};
 ghost use Rattle.csr32.specs.Csr.{as_csr, csr_answer, entries, row_product, apply_answer, product};
 ghost use Rattle.csr32.specs.Sums.{between, added_to, product_at, Sides, Places};
 
-use hybit_core::{HybitError, Verdict};
+use hybit_core::HybitError;
 
 // Three sums made side by side.
 #[derive(Clone, Copy)]
@@ -25,7 +25,7 @@ fn term(col_idx: &[u32], values: &[f64], x: &[f64], p: usize) -> f64
     requires fact_2 { p < length col_idx.now }
     ensures { result ≡ product_at col_idx.now values.now x.now p }
 {
-    let c = hybit_core::wide(col_idx[p]);
+    let c = col_idx[p] as usize;
     values[p] * x[c]
 }
 
@@ -98,7 +98,7 @@ fn pointer(row_ptr: &[u32], row: usize) -> usize
     requires { row < length row_ptr.now }
     ensures { result ≡ get_or row_ptr.now row 0 }
 {
-    hybit_core::wide(row_ptr[row])
+    row_ptr[row] as usize
 }
 
 // The Rust's `dot_row_unchecked` of three rows.
@@ -179,26 +179,23 @@ fn examine_apply(
     values: &[f64],
     x: &[f64],
     ny: usize,
-) -> Verdict
+) -> Result<(), HybitError>
     ensures { told result ≡ apply_answer (as_csr nrows ncols row_ptr.now col_idx.now values.now) x.now ny }
 {
-    let v = csr32::check(nrows, ncols, row_ptr, col_idx, values);
-    if let Verdict::Refused(e) = v {
-        return Verdict::Refused(e);
-    }
+    csr32::check(nrows, ncols, row_ptr, col_idx, values)?;
     if x.len() != ncols {
-        return Verdict::Refused(HybitError::DimensionMismatch {
+        return Err(HybitError::DimensionMismatch {
             expected: ncols,
             actual: x.len(),
         });
     }
     if ny != nrows {
-        return Verdict::Refused(HybitError::DimensionMismatch {
+        return Err(HybitError::DimensionMismatch {
             expected: nrows,
             actual: ny,
         });
     }
-    Verdict::Accepted
+    Ok(())
 }
 
 // The row products; a refused call leaves y as it was.
@@ -210,14 +207,11 @@ pub fn apply(
     values: &[f64],
     x: &[f64],
     y: &mut [f64],
-) -> Verdict
+) -> Result<(), HybitError>
     ensures answer { told result ≡ apply_answer (as_csr nrows ncols row_ptr.now col_idx.now values.now) x.now (length y.old) }
     ensures target { y.new ≡ kept (apply_answer (as_csr nrows ncols row_ptr.now col_idx.now values.now) x.now (length y.old)) (product (as_csr nrows ncols row_ptr.now col_idx.now values.now) x.now) y.old }
 {
-    let v = examine_apply(nrows, ncols, row_ptr, col_idx, values, x, y.len());
-    if let Verdict::Refused(e) = v {
-        return Verdict::Refused(e);
-    }
+    examine_apply(nrows, ncols, row_ptr, col_idx, values, x, y.len())?;
     fill_product(nrows, ncols, row_ptr, col_idx, values, x, y);
-    Verdict::Accepted
+    Ok(())
 }

@@ -1,4 +1,5 @@
 -- What every route asks first, at each return of the code that asks it, and what the answer of a route is then. Assumes nothing.
+use Rattle.std.specs.Prelude.{Result, Ok, Err}
 use mathlib.Core.Bool.{Bool, true, false, ◌&&◌, true≢false}
 use mathlib.Core.List.{List}
 use mathlib.Core.Path.{◌≡◌, refl, sym, ap, ◌∙◌}
@@ -9,8 +10,6 @@ use lib.Ieee.{Float}
 use Rattle.hybit_core.specs.Answer.{Answer, accepted, refused, plain, lengths_differ, demand, ◌and_then◌}
 use Rattle.hybit_core.specs.Domain.{few}
 use Rattle.hybit_core.specs.Table.{paper, told}
-use Rattle.hybit_core.specs.declared.Verdict.{Verdict}
-use Rattle.hybit_core.specs.declared.Verdict.TheVariants.{Accepted, Refused}
 use Rattle.hybit_core.specs.declared.HybitError.{HybitError}
 use Rattle.hybit_core.proofs.BoolLaws.{and_first, and_right, is_below, is_not_below}
 use Rattle.hybit_core.proofs.AnswerLaws.{demand_accepted, then_first, then_second, test_fails, test_passes, length_wrong, length_right, call_refused, call_accepted, accepted_by, refused_by}
@@ -40,10 +39,10 @@ module _ (m : Csr) (a : Mask) where
     unfolding records_answer csr_answer mask_answer
     records_are = by_records (few a.size) (csr_sizes m) (mask_rules a) (csr_rules m) small
 
-    pub list_refused : (v : Verdict) (e : HybitError) → told v ≡ csr_answer m → v ≡ Refused e → refused (paper e) ≡ records_answer m a
+    pub list_refused : (v : Result Unit HybitError) (e : HybitError) → told v ≡ csr_answer m → v ≡ Err e → refused (paper e) ≡ records_answer m a
     list_refused v e h k = call_refused (csr_answer m) (mask_answer a) v e h k ∙ sym records_are
 
-    pub mask-told : (v : Verdict) → told v ≡ csr_answer m → v ≡ Accepted → (u : Answer) → u ≡ mask_answer a → u ≡ records_answer m a
+    pub mask-told : (v : Result Unit HybitError) → told v ≡ csr_answer m → v ≡ Ok tt → (u : Answer) → u ≡ mask_answer a → u ≡ records_answer m a
     mask-told v h k u e = call_accepted (csr_answer m) (mask_answer a) u v h k e ∙ sym records_are
 
   pub records_list : records_answer m a ≡ accepted → csr_answer m ≡ accepted
@@ -81,32 +80,32 @@ module _ (m : Csr) (a : Mask) where
 
 -- ---- a chain whose first checks gave the verdict v
 
-pub checks_refused : (a b c : Answer) (v : Verdict) (e : HybitError) → told v ≡ a and_then b → v ≡ Refused e → a and_then b and_then c ≡ refused (paper e)
+pub checks_refused : (a b c : Answer) (v : Result Unit HybitError) (e : HybitError) → told v ≡ a and_then b → v ≡ Err e → a and_then b and_then c ≡ refused (paper e)
 checks_refused a b c v e h k = go a (refused_by (a and_then b) v e h k)
   where
     go : (a : Answer) → a and_then b ≡ refused (paper e) → a and_then b and_then c ≡ refused (paper e)
     go accepted q = ap (λ (t : Answer). t and_then c) q
     go (refused t) q = q
 
-pub checks_accepted : (a b c : Answer) (v : Verdict) → told v ≡ a and_then b → v ≡ Accepted → a and_then b and_then c ≡ c
+pub checks_accepted : (a b c : Answer) (v : Result Unit HybitError) → told v ≡ a and_then b → v ≡ Ok tt → a and_then b and_then c ≡ c
 checks_accepted a b c v h k =
     let q : a and_then b ≡ accepted = accepted_by (a and_then b) v h k in
     ap (λ (t : Answer). t and_then b and_then c) (then_first a b q) ∙ ap (λ (t : Answer). t and_then c) (then_second a b q)
 
 -- ---- the answer of a route where the checks refuse
 
-pub pruned_refused : (m : Csr) (a : Mask) (x : List Float) (r : ℕ) (room : StoreRoom) (v : Verdict) (e : HybitError) → told v ≡ records_answer m a and_then question_answer m a x r → v ≡ Refused e
+pub pruned_refused : (m : Csr) (a : Mask) (x : List Float) (r : ℕ) (room : StoreRoom) (v : Result Unit HybitError) (e : HybitError) → told v ≡ records_answer m a and_then question_answer m a x r → v ≡ Err e
     → pruned_answer m a x r room ≡ refused (paper e)
 unfolding pruned_answer
 pruned_refused m a x r room v e h k = checks_refused (records_answer m a) (question_answer m a x r) (demand (fits_store (store_of m) room) 13) v e h k
 
-pub restricted_refused : (m : Csr) (a : Mask) (x : List Float) (r : ℕ) (rc : CsrRoom) (n : ℕ) (rp : StoreRoom) (v : Verdict) (e : HybitError)
-    → told v ≡ records_answer m a and_then question_answer m a x r → v ≡ Refused e → restricted_answer m a x r rc n rp ≡ refused (paper e)
+pub restricted_refused : (m : Csr) (a : Mask) (x : List Float) (r : ℕ) (rc : CsrRoom) (n : ℕ) (rp : StoreRoom) (v : Result Unit HybitError) (e : HybitError)
+    → told v ≡ records_answer m a and_then question_answer m a x r → v ≡ Err e → restricted_answer m a x r rc n rp ≡ refused (paper e)
 unfolding restricted_answer
 restricted_refused m a x r rc n rp v e h k = checks_refused (records_answer m a) (question_answer m a x r) (restricted_fits m a rc n rp) v e h k
 
-pub tiled_refused : (m : Csr) (a : Mask) (h : AbtmConfig) (x : List Float) (r : ℕ) (rt : TileRoom) (rc : CsrRoom) (n : ℕ) (v : Verdict) (e : HybitError)
-    → told v ≡ records_answer m a and_then threshold_answer h and_then question_answer m a x r → v ≡ Refused e → tiled_answer m a h x r rt rc n ≡ refused (paper e)
+pub tiled_refused : (m : Csr) (a : Mask) (h : AbtmConfig) (x : List Float) (r : ℕ) (rt : TileRoom) (rc : CsrRoom) (n : ℕ) (v : Result Unit HybitError) (e : HybitError)
+    → told v ≡ records_answer m a and_then threshold_answer h and_then question_answer m a x r → v ≡ Err e → tiled_answer m a h x r rt rc n ≡ refused (paper e)
 unfolding tiled_answer
 tiled_refused m a h x r rt rc n v e q k = go (records_answer m a) (threshold_answer h) (refused_by (records_answer m a and_then threshold_answer h and_then question_answer m a x r) v e q k)
   where

@@ -11,7 +11,7 @@ ghost use Rattle.abtm.specs.Calls.{threshold_answer};
 ghost use Rattle.demand_examine.specs.Calls.{records_answer, question_answer};
 
 use abtm::AbtmConfig;
-use hybit_core::{HybitError, Verdict};
+use hybit_core::HybitError;
 
 fn examine_records(
     nrows: usize,
@@ -21,16 +21,13 @@ fn examine_records(
     values: &[f64],
     mask_len: usize,
     mask: &[u64],
-) -> Verdict
+) -> Result<(), HybitError>
     ensures { told result ≡ records_answer (as_csr nrows ncols row_ptr.now col_idx.now values.now) (as_mask mask_len mask.now) }
 {
     if !hybit_core::dimension_fits(mask_len) {
-        return Verdict::Refused(HybitError::SizeOverflow);
+        return Err(HybitError::SizeOverflow);
     }
-    let c = csr32::check(nrows, ncols, row_ptr, col_idx, values);
-    if let Verdict::Refused(e) = c {
-        return Verdict::Refused(e);
-    }
+    csr32::check(nrows, ncols, row_ptr, col_idx, values)?;
     mask::check(mask_len, mask)
 }
 
@@ -44,24 +41,24 @@ fn examine_question(
     mask: &[u64],
     x: &[f64],
     row: usize,
-) -> Verdict
+) -> Result<(), HybitError>
     requires { records_answer (as_csr nrows ncols row_ptr.now col_idx.now values.now) (as_mask mask_len mask.now) ≡ accepted }
     ensures { told result ≡ question_answer (as_csr nrows ncols row_ptr.now col_idx.now values.now) (as_mask mask_len mask.now) x.now row }
 {
     if mask_len != ncols {
-        return Verdict::Refused(HybitError::DimensionMismatch {
+        return Err(HybitError::DimensionMismatch {
             expected: ncols,
             actual: mask_len,
         });
     }
     if x.len() != ncols {
-        return Verdict::Refused(HybitError::DimensionMismatch {
+        return Err(HybitError::DimensionMismatch {
             expected: ncols,
             actual: x.len(),
         });
     }
     if row >= nrows {
-        return Verdict::Refused(HybitError::NoSuchPlace);
+        return Err(HybitError::NoSuchPlace);
     }
     metadata_first_merge::check(nrows, ncols, row_ptr, col_idx, values)
 }
@@ -76,13 +73,10 @@ pub fn examine(
     mask: &[u64],
     x: &[f64],
     row: usize,
-) -> Verdict
+) -> Result<(), HybitError>
     ensures { told result ≡ (records_answer (as_csr nrows ncols row_ptr.now col_idx.now values.now) (as_mask mask_len mask.now) and_then question_answer (as_csr nrows ncols row_ptr.now col_idx.now values.now) (as_mask mask_len mask.now) x.now row) }
 {
-    let v = examine_records(nrows, ncols, row_ptr, col_idx, values, mask_len, mask);
-    if let Verdict::Refused(e) = v {
-        return Verdict::Refused(e);
-    }
+    examine_records(nrows, ncols, row_ptr, col_idx, values, mask_len, mask)?;
     examine_question(
         nrows, ncols, row_ptr, col_idx, values, mask_len, mask, x, row,
     )
@@ -99,17 +93,11 @@ pub fn examine_tiled(
     config: AbtmConfig,
     x: &[f64],
     row: usize,
-) -> Verdict
+) -> Result<(), HybitError>
     ensures { told result ≡ (records_answer (as_csr nrows ncols row_ptr.now col_idx.now values.now) (as_mask mask_len mask.now) and_then threshold_answer config and_then question_answer (as_csr nrows ncols row_ptr.now col_idx.now values.now) (as_mask mask_len mask.now) x.now row) }
 {
-    let v = examine_records(nrows, ncols, row_ptr, col_idx, values, mask_len, mask);
-    if let Verdict::Refused(e) = v {
-        return Verdict::Refused(e);
-    }
-    let t = config.validate();
-    if let Verdict::Refused(e) = t {
-        return Verdict::Refused(e);
-    }
+    examine_records(nrows, ncols, row_ptr, col_idx, values, mask_len, mask)?;
+    config.validate()?;
     examine_question(
         nrows, ncols, row_ptr, col_idx, values, mask_len, mask, x, row,
     )

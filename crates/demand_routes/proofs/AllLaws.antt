@@ -1,4 +1,5 @@
 -- The mask with every column active, the dot with it, and a restriction before them. Assumes nothing.
+use Rattle.std.specs.Prelude.{Result, Ok, Err}
 use mathlib.Core.Bool.{Bool, true, ◌&&◌}
 use mathlib.Core.List.{List, [], ◌++◌}
 use mathlib.Core.Path.{◌≡◌, refl, sym, ap, subst, ◌∙◌}
@@ -10,7 +11,7 @@ use lib.Ieee.{Float}
 use borrow.Author.Tests.{ltb-true, lt-ltb}
 use Rattle.hybit_core.specs.Answer.{plain, Answer, accepted, refused, Given, refuses, demand, answers, ◌and_then◌}
 use Rattle.hybit_core.specs.Floats.{zero64}
-use Rattle.hybit_core.specs.Table.{paper}
+use Rattle.hybit_core.specs.Table.{given, paper}
 use Rattle.hybit_core.specs.declared.HybitError.{HybitError}
 use Rattle.hybit_core.proofs.BoolLaws.{and_left, same_test, is_within, is_above}
 use Rattle.lent.specs.Lists.{each}
@@ -26,9 +27,7 @@ use Rattle.csr32.specs.Made.{csr_of, as_csr_room}
 use Rattle.metadata_first.specs.declared.AbtmRowDot.{AbtmRowDot}
 use Rattle.metadata_first_build.specs.Pack.{StoreRoom, store_of, pack_answer}
 use Rattle.restricted.specs.declared.ColumnRestriction.{ColumnRestriction}
-use Rattle.restricted.specs.declared.RestrictAnswer.{RestrictAnswer}
-use Rattle.restricted.specs.declared.RestrictAnswer.TheVariants as restriction
-use Rattle.restricted.specs.Restricted.{restricted, restrict_answer, restricted_left, restriction_of, told_restriction}
+use Rattle.restricted.specs.Restricted.{restricted, restrict_answer, restricted_left, restriction_of}
 use Rattle.restricted_csr32.proofs.FillLaws.{Restrictable, restrict_facts, kept_values}
 use Rattle.demand_examine.specs.Steps.{after, PlotLists}
 use Rattle.demand_routes.specs.Routes.{packed_dot, StoreLists, all_answer, all_dot, restricted_dot}
@@ -63,18 +62,18 @@ module _ (m : Csr) (n : ℕ) where
   all_fits h = ap (λ (b : Bool). demand b 13) (sym (is_within (ceil64 m.cols) n h))
 
   module _ (x : List Float) (r : ℕ) (rp : StoreRoom) (oa op ow om ov : List ℕ) (ox : List Float) where
-    abbrev Result : Given AbtmRowDot → Type 0
-    Result g = (g ≡ all_dot m x r n rp) × ((oa ≡ built 0 n (all_answer m n) (mask_words (λ c. true) m.cols)) × StoreLists (all_answer m n and_then pack_answer m rp) (store_of m) rp op ow om ov ox)
+    abbrev Outcome : Given AbtmRowDot → Type 0
+    Outcome g = (g ≡ all_dot m x r n rp) × ((oa ≡ built 0 n (all_answer m n) (mask_words (λ c. true) m.cols)) × StoreLists (all_answer m n and_then pack_answer m rp) (store_of m) rp op ow om ov ox)
 
     pub all_none : n < ceil64 m.cols → oa ≡ padded 0 n [] → op ≡ padded 0 rp.words.ptr [] → ow ≡ padded 0 rp.words.word [] → om ≡ padded 0 rp.words.mask [] → ov ≡ padded 0 rp.vptr [] → ox ≡ padded zero64 rp.vals []
-        → Result (refuses (plain 13))
+        → Outcome (refuses (plain 13))
     unfolding all_dot
     all_none h ea ep ew em ev ex =
         subst (λ (t : Answer). (refuses (plain 13) ≡ after t (packed_dot m rp (all_active m.cols) x r)) × ((oa ≡ built 0 n t (mask_words (λ c. true) m.cols)) × StoreLists (t and_then pack_answer m rp) (store_of m) rp op ow om ov ox))
         (sym (all_short h)) (refl, (ea, record { pointers = ep; numbers = ew; bits = em; starts = ev; values = ex }))
 
     pub all-some : (g : Given AbtmRowDot) (w : ℕ) → ceil64 m.cols ≤ n → w ≡ ceil64 m.cols → oa ≡ padded 0 n (mask_words (λ c. true) m.cols) → g ≡ packed_dot m rp (as_mask m.cols (take w oa)) x r
-        → StoreLists (pack_answer m rp) (store_of m) rp op ow om ov ox → Result g
+        → StoreLists (pack_answer m rp) (store_of m) rp op ow om ov ox → Outcome g
     unfolding all_dot
     all-some g w h ew ea eg es =
         let words : take w oa ≡ mask_words (λ c. true) m.cols = ap (take w) ea ∙ handed_used 0 n accepted w (mask_words (λ c. true) m.cols) refl (length-words (λ c. true) m.cols ∙ sym ew) in
@@ -83,7 +82,7 @@ module _ (m : Csr) (n : ℕ) where
 
 -- ---- a restriction, which answered t, in lists of np, nc and nv places
 
-module _ (m : Csr) (a : Mask) (np nc nv : ℕ) (t : RestrictAnswer) (e : told_restriction t ≡ answers (restrict_answer m a (as_csr_room np nc nv)) (restriction_of m a)) where
+module _ (m : Csr) (a : Mask) (np nc nv : ℕ) (t : Result ColumnRestriction HybitError) (e : given t ≡ answers (restrict_answer m a (as_csr_room np nc nv)) (restriction_of m a)) where
   module _ (x : List Float) (r n : ℕ) (rp : StoreRoom) (oa op ow om ov : List ℕ) (ox : List Float) (lp lc : List ℕ) (lv : List Float) (ls : PlotLists (restrict_answer m a (as_csr_room np nc nv)) (restricted m a) (as_csr_room np nc nv) lp lc lv) where
     abbrev left : Csr
     left = restricted_left m a (as_csr_room np nc nv)
@@ -95,18 +94,18 @@ module _ (m : Csr) (a : Mask) (np nc nv : ℕ) (t : RestrictAnswer) (e : told_re
         × ((oa ≡ built 0 n (restrict_answer m a (as_csr_room np nc nv) and_then all_answer left n) (mask_words (λ c. true) m.cols))
         × StoreLists (restrict_answer m a (as_csr_room np nc nv) and_then all_answer left n and_then pack_answer left rp) (store_of left) rp op ow om ov ox))
 
-    pub restrict_none : (q : HybitError) → t ≡ restriction.Refused q → oa ≡ padded 0 n [] → op ≡ padded 0 rp.words.ptr [] → ow ≡ padded 0 rp.words.word [] → om ≡ padded 0 rp.words.mask [] → ov ≡ padded 0 rp.vptr []
+    pub restrict_none : (q : HybitError) → t ≡ Err q → oa ≡ padded 0 n [] → op ≡ padded 0 rp.words.ptr [] → ow ≡ padded 0 rp.words.word [] → om ≡ padded 0 rp.words.mask [] → ov ≡ padded 0 rp.vptr []
         → ox ≡ padded zero64 rp.vals [] → Restricts (refuses (paper q))
     unfolding restricted_dot
     restrict_none q k ea ep ew em ev ex =
-        let z : restrict_answer m a (as_csr_room np nc nv) ≡ refused (paper q) = refused_as (restrict_answer m a (as_csr_room np nc nv)) (restriction_of m a) (paper q) (sym (ap told_restriction k) ∙ e) in
+        let z : restrict_answer m a (as_csr_room np nc nv) ≡ refused (paper q) = refused_as (restrict_answer m a (as_csr_room np nc nv)) (restriction_of m a) (paper q) (sym (ap given k) ∙ e) in
         let y = subst (λ (s : Answer). (refuses (paper q) ≡ after s (all_dot left x r n rp)) × ((oa ≡ built 0 n (s and_then all_answer left n) (mask_words (λ c. true) m.cols)) × StoreLists (s and_then all_answer left n and_then pack_answer left rp) (store_of left) rp op ow om ov ox))
         (sym z) (refl, (ea, record { pointers = ep; numbers = ew; bits = em; starts = ev; values = ex })) in
         (y.0, (ls, (y.1.0, y.1.1)))
 
-    module _ (s : ColumnRestriction) (k : t ≡ restriction.Built s) where
+    module _ (s : ColumnRestriction) (k : t ≡ Ok s) where
       made : (restrict_answer m a (as_csr_room np nc nv) ≡ accepted) × (s ≡ restriction_of m a)
-      made = gave (restrict_answer m a (as_csr_room np nc nv)) (restriction_of m a) s (sym (ap told_restriction k) ∙ e)
+      made = gave (restrict_answer m a (as_csr_room np nc nv)) (restriction_of m a) s (sym (ap given k) ∙ e)
 
       kept_is : s.retained_nnz ≡ length (restricted m a).val
       unfolding restriction_of
@@ -125,7 +124,7 @@ module _ (m : Csr) (a : Mask) (np nc nv : ℕ) (t : RestrictAnswer) (e : told_re
           (w.0, (ls, (w.1.0, w.1.1)))
 
   -- the used parts lie in their lists
-  module _ (s : ColumnRestriction) (k : t ≡ restriction.Built s) where
+  module _ (s : ColumnRestriction) (k : t ≡ Ok s) where
     pub record RestrictUsed : Type 0 where
       pub rows_in : m.rows ≤ 2 ^ 20
       pub cols_in : m.cols ≤ 2 ^ 20
@@ -136,7 +135,7 @@ module _ (m : Csr) (a : Mask) (np nc nv : ℕ) (t : RestrictAnswer) (e : told_re
     pub restrict_used : RestrictUsed
     unfolding restriction_of
     restrict_used =
-        let b = gave (restrict_answer m a (as_csr_room np nc nv)) (restriction_of m a) s (sym (ap told_restriction k) ∙ e) in
+        let b = gave (restrict_answer m a (as_csr_room np nc nv)) (restriction_of m a) s (sym (ap given k) ∙ e) in
         let f : Restrictable m a (as_csr_room np nc nv) = restrict_facts m a (as_csr_room np nc nv) b.0 in
         let q : s.retained_nnz ≡ length (restricted m a).val = ap (λ (i : ColumnRestriction). i.retained_nnz) b.1 in
         record { rows_in = f.list.rows_in; cols_in = f.list.cols_in; ptr_in = omega (arith, f.pointers); col_in = omega (arith, f.columns, kept_values m a); val_in = omega (arith, f.values, kept_values m a) }

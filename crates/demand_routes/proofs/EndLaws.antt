@@ -1,5 +1,7 @@
 -- What each end of a route's call leaves: zeros where it is refused, at whatever step, and the results where it is accepted.
 -- Assumes nothing.
+use Rattle.std.specs.Prelude.{Result, Ok}
+use Rattle.hybit_core.specs.declared.HybitError.{HybitError}
 use mathlib.Core.Bool.{Bool, true, ◌&&◌}
 use mathlib.Core.List.{List, []}
 use mathlib.Core.Path.{◌≡◌, sym, ap, ◌∙◌, subst}
@@ -9,8 +11,6 @@ use lib.Ieee.{Float}
 use Rattle.hybit_core.specs.Answer.{Told, Answer, accepted, refused, Given, gives, refuses, demand, answers, ◌and_then◌}
 use Rattle.hybit_core.specs.Floats.{zero64}
 use Rattle.hybit_core.specs.Table.{told}
-use Rattle.hybit_core.specs.declared.Verdict.{Verdict}
-use Rattle.hybit_core.specs.declared.Verdict.TheVariants.{Accepted}
 use Rattle.hybit_core.proofs.BoolLaws.{and_left, and_right}
 use Rattle.hybit_core.proofs.AnswerLaws.{demand_accepted, then_first, then_second, accepted_by}
 use Rattle.lent.specs.Lent.{padded, built}
@@ -40,7 +40,7 @@ store_zeros t e s room p w b vp vs k ep ew eb ev ex =
 
 -- ---- packing and the dot
 
-module _ (m : Csr) (a : Mask) (x : List Float) (r : ℕ) (room : StoreRoom) (v : Verdict) (h : told v ≡ records_answer m a and_then question_answer m a x r) (k : v ≡ Accepted) where
+module _ (m : Csr) (a : Mask) (x : List Float) (r : ℕ) (room : StoreRoom) (v : Result Unit HybitError) (h : told v ≡ records_answer m a and_then question_answer m a x r) (k : v ≡ Ok tt) where
   ready : Asked m a x r
   ready =
       let q : records_answer m a and_then question_answer m a x r ≡ accepted = accepted_by (records_answer m a and_then question_answer m a x r) v h k in
@@ -58,7 +58,7 @@ module _ (m : Csr) (a : Mask) (x : List Float) (r : ℕ) (room : StoreRoom) (v :
 
 -- ---- restricting, packing, and the dot with every plot active
 
-module _ (m : Csr) (a : Mask) (x : List Float) (r : ℕ) (rc : CsrRoom) (n : ℕ) (rp : StoreRoom) (v : Verdict) (h : told v ≡ records_answer m a and_then question_answer m a x r) (k : v ≡ Accepted) where
+module _ (m : Csr) (a : Mask) (x : List Float) (r : ℕ) (rc : CsrRoom) (n : ℕ) (rp : StoreRoom) (v : Result Unit HybitError) (h : told v ≡ records_answer m a and_then question_answer m a x r) (k : v ≡ Ok tt) where
   ask : Asked m a x r
   ask = ready m a x r rp v h k
 

@@ -1,4 +1,5 @@
 -- Laws of the routes: what a call's answer says of its record and used parts, and what the next call is handed. Assumes nothing.
+use Rattle.std.specs.Prelude.{Result, Ok, Err}
 use mathlib.Core.Bool.{Bool, true, ◌&&◌}
 use mathlib.Core.List.{List}
 use mathlib.Core.Path.{◌≡◌, sym, ap, ap₂, ◌∙◌}
@@ -11,16 +12,15 @@ use lib.Ieee.{Float}
 use borrow.Author.Tests.{leb-true}
 use Rattle.hybit_core.specs.Answer.{accepted, Given, refuses, answers}
 use Rattle.hybit_core.specs.Floats.{zero64}
-use Rattle.hybit_core.specs.Table.{paper}
+use Rattle.hybit_core.specs.Table.{paper, given}
 use Rattle.hybit_core.specs.declared.HybitError.{HybitError}
 use Rattle.hybit_core.proofs.BoolLaws.{and_left, and_right}
 use Rattle.lent.specs.Lent.{built}
 use Rattle.mask.specs.Mask.{Mask}
 use Rattle.csr32.specs.Csr.{Csr, entries, present}
 use Rattle.csr32.proofs.CsrLaws.{valid}
-use Rattle.topology.specs.Calls.{fits_words, used_of, told_topology}
-use Rattle.topology.specs.declared.TopologyAnswer.{TopologyAnswer}
-use Rattle.topology.specs.declared.TopologyAnswer.TheVariants as build
+use Rattle.topology.specs.declared.TopologySize.{TopologySize}
+use Rattle.topology.specs.Calls.{fits_words, as_size, used_of}
 use Rattle.topology.proofs.TopologyLaws.{topology_pointers, topology_sides}
 use Rattle.topology_build.specs.Build.{topology_from}
 use Rattle.metadata_first.specs.declared.AbtmRowDot.{AbtmRowDot}
@@ -33,22 +33,22 @@ use Rattle.demand_examine.proofs.StepLaws.{gave, refused_as, after_refused, afte
 
 -- ---- packing, which answered t, in lists of np, nw, nm, nv and nx places
 
-module _ (m : Csr) (np nw nm nv nx : ℕ) (t : TopologyAnswer) (e : told_topology t ≡ answers (pack_answer m (as_store_room np nw nm nv nx)) (used_of (store_of m).words)) where
-  pub pack_refused : (x : HybitError) → t ≡ build.Refused x → (a : Mask) (y : List Float) (r : ℕ) → refuses (paper x) ≡ packed_dot m (as_store_room np nw nm nv nx) a y r
+module _ (m : Csr) (np nw nm nv nx : ℕ) (t : Result TopologySize HybitError) (e : given t ≡ answers (pack_answer m (as_store_room np nw nm nv nx)) (used_of (store_of m).words)) where
+  pub pack_refused : (x : HybitError) → t ≡ Err x → (a : Mask) (y : List Float) (r : ℕ) → refuses (paper x) ≡ packed_dot m (as_store_room np nw nm nv nx) a y r
   unfolding packed_dot
   pack_refused x k a y r =
       after_refused (pack_answer m (as_store_room np nw nm nv nx)) (sparse_dot_row (packed m (as_store_room np nw nm nv nx)) a y r) (paper x)
-      (refused_as (pack_answer m (as_store_room np nw nm nv nx)) (used_of (store_of m).words) (paper x) (sym (ap told_topology k) ∙ e))
+      (refused_as (pack_answer m (as_store_room np nw nm nv nx)) (used_of (store_of m).words) (paper x) (sym (ap given k) ∙ e))
 
-  module _ (w n : ℕ) (k : t ≡ build.Built w n) where
-    made : (pack_answer m (as_store_room np nw nm nv nx) ≡ accepted) × ((w, n) ≡ used_of (store_of m).words)
-    made = gave (pack_answer m (as_store_room np nw nm nv nx)) (used_of (store_of m).words) (w, n) (sym (ap told_topology k) ∙ e)
+  module _ (w n : ℕ) (k : t ≡ Ok (as_size w n)) where
+    made : (pack_answer m (as_store_room np nw nm nv nx) ≡ accepted) × (as_size w n ≡ used_of (store_of m).words)
+    made = gave (pack_answer m (as_store_room np nw nm nv nx)) (used_of (store_of m).words) (as_size w n) (sym (ap given k) ∙ e)
 
     words_are : w ≡ length (store_of m).words.word
-    words_are = ap (λ (i : ℕ × ℕ). i.0) made.1
+    words_are = ap (λ (i : TopologySize). i.words) made.1
 
     total_is : n ≡ (store_of m).words.total
-    total_is = ap (λ (i : ℕ × ℕ). i.1) made.1
+    total_is = ap (λ (i : TopologySize). i.structural_nnz) made.1
 
     -- the used parts lie in their lists
     pub record PackUsed : Type 0 where

@@ -11,17 +11,16 @@ ghost use Rattle.word.specs.Bits.{ceil64};
 ghost use Rattle.mask.specs.Mask.{as_mask, mask_words};
 ghost use Rattle.csr32.specs.Csr.{as_csr};
 ghost use Rattle.csr32.specs.Made.{as_csr_room};
-ghost use Rattle.metadata_first.specs.Dot.{told_dot};
+ghost use Rattle.hybit_core.specs.Table.{given};
 ghost use Rattle.metadata_first_build.specs.Pack.{as_store_room, store_of, pack_answer};
 ghost use Rattle.restricted.specs.Restricted.{restricted, restrict_answer, restricted_left};
 ghost use Rattle.demand_routes.specs.Routes.{packed_dot, StoreLists, all_answer, all_dot, restricted_dot};
 ghost use Rattle.demand_examine.specs.Steps.{PlotLists};
 ghost use Rattle.demand_examine.specs.Calls.{pruned_answer, row_dot, restricted_answer, restricted_row_dot};
 
-use hybit_core::{HybitError, Verdict};
-use metadata_first::DotAnswer;
-use restricted::RestrictAnswer;
-use topology::TopologyAnswer;
+use hybit_core::HybitError;
+use metadata_first::AbtmRowDot;
+use topology::TopologySize;
 
 // The pruned dot of a row: the plot list is packed, and the dot taken on the used parts. The five lists are what packing leaves.
 fn pack_dot(
@@ -39,8 +38,8 @@ fn pack_dot(
     bits: &mut [u64],
     row_value_ptr: &mut [u32],
     packed: &mut [f64],
-) -> DotAnswer
-    ensures answer { told_dot result ≡ packed_dot (as_csr nrows ncols row_ptr.now col_idx.now values.now) (as_store_room (length row_word_ptr.old) (length word_indices.old) (length bits.old) (length row_value_ptr.old) (length packed.old)) (as_mask mask_len mask.now) x.now row }
+) -> Result<AbtmRowDot, HybitError>
+    ensures answer { given result ≡ packed_dot (as_csr nrows ncols row_ptr.now col_idx.now values.now) (as_store_room (length row_word_ptr.old) (length word_indices.old) (length bits.old) (length row_value_ptr.old) (length packed.old)) (as_mask mask_len mask.now) x.now row }
     ensures store { StoreLists (pack_answer (as_csr nrows ncols row_ptr.now col_idx.now values.now) (as_store_room (length row_word_ptr.old) (length word_indices.old) (length bits.old) (length row_value_ptr.old) (length packed.old))) (store_of (as_csr nrows ncols row_ptr.now col_idx.now values.now)) (as_store_room (length row_word_ptr.old) (length word_indices.old) (length bits.old) (length row_value_ptr.old) (length packed.old)) row_word_ptr.new word_indices.new bits.new row_value_ptr.new packed.new }
 {
     let t = metadata_first_build::from_csr32(
@@ -56,11 +55,13 @@ fn pack_dot(
         packed,
     );
     match t {
-        TopologyAnswer::Refused(e) => DotAnswer::Refused(e),
-        TopologyAnswer::Built {
-            words,
-            structural_nnz,
-        } => metadata_first_dot::sparse_dot_row(
+        Err(e) => Err(e),
+        Ok(
+            TopologySize {
+                words,
+                structural_nnz,
+            },
+        ) => metadata_first_dot::sparse_dot_row(
             nrows,
             ncols,
             &row_word_ptr[..nrows + 1],
@@ -106,8 +107,8 @@ fn clear_store(
     ensures values { packed.new ≡ padded zero64 (length packed.old) [] }
 {
     topology::clear_past(0, 0, row_word_ptr, word_indices, bits);
-    lent::clear_from_u32(row_value_ptr, 0);
-    lent::clear_from_f64(packed, 0);
+    lent::clear_from(row_value_ptr, 0);
+    lent::clear_from(packed, 0);
 }
 
 // The pruned dot with every column active; the words of that mask go to `all`.
@@ -125,20 +126,20 @@ fn all_dot(
     row_value_ptr: &mut [u32],
     packed: &mut [f64],
     all: &mut [u64],
-) -> DotAnswer
+) -> Result<AbtmRowDot, HybitError>
     requires { ncols ≤ 2 ^ 20 }
-    ensures answer { told_dot result ≡ all_dot (as_csr nrows ncols row_ptr.now col_idx.now values.now) x.now row (length all.old) (as_store_room (length row_word_ptr.old) (length word_indices.old) (length bits.old) (length row_value_ptr.old) (length packed.old)) }
+    ensures answer { given result ≡ all_dot (as_csr nrows ncols row_ptr.now col_idx.now values.now) x.now row (length all.old) (as_store_room (length row_word_ptr.old) (length word_indices.old) (length bits.old) (length row_value_ptr.old) (length packed.old)) }
     ensures all { all.new ≡ built 0 (length all.old) (all_answer (as_csr nrows ncols row_ptr.now col_idx.now values.now) (length all.old)) (mask_words (λ c. true) ncols) }
     ensures store { StoreLists (all_answer (as_csr nrows ncols row_ptr.now col_idx.now values.now) (length all.old) and_then pack_answer (as_csr nrows ncols row_ptr.now col_idx.now values.now) (as_store_room (length row_word_ptr.old) (length word_indices.old) (length bits.old) (length row_value_ptr.old) (length packed.old))) (store_of (as_csr nrows ncols row_ptr.now col_idx.now values.now)) (as_store_room (length row_word_ptr.old) (length word_indices.old) (length bits.old) (length row_value_ptr.old) (length packed.old)) row_word_ptr.new word_indices.new bits.new row_value_ptr.new packed.new }
 {
     let words = (ncols + 63) / 64;
     if all.len() < words {
-        lent::clear_from_u64(all, 0);
+        lent::clear_from(all, 0);
         clear_store(row_word_ptr, word_indices, bits, row_value_ptr, packed);
-        return DotAnswer::Refused(HybitError::ShortList);
+        return Err(HybitError::ShortList);
     }
     fill_active(ncols, &mut all[..words]);
-    lent::clear_from_u64(all, words);
+    lent::clear_from(all, words);
     pack_dot(
         nrows,
         ncols,
@@ -178,8 +179,8 @@ fn restrict_dot(
     row_value_ptr: &mut [u32],
     packed: &mut [f64],
     all: &mut [u64],
-) -> DotAnswer
-    ensures answer { told_dot result ≡ restricted_dot (as_csr nrows ncols row_ptr.now col_idx.now values.now) (as_mask mask_len mask.now) x.now row (as_csr_room (length out_row_ptr.old) (length out_col_idx.old) (length out_values.old)) (length all.old) (as_store_room (length row_word_ptr.old) (length word_indices.old) (length bits.old) (length row_value_ptr.old) (length packed.old)) }
+) -> Result<AbtmRowDot, HybitError>
+    ensures answer { given result ≡ restricted_dot (as_csr nrows ncols row_ptr.now col_idx.now values.now) (as_mask mask_len mask.now) x.now row (as_csr_room (length out_row_ptr.old) (length out_col_idx.old) (length out_values.old)) (length all.old) (as_store_room (length row_word_ptr.old) (length word_indices.old) (length bits.old) (length row_value_ptr.old) (length packed.old)) }
     ensures list { PlotLists (restrict_answer (as_csr nrows ncols row_ptr.now col_idx.now values.now) (as_mask mask_len mask.now) (as_csr_room (length out_row_ptr.old) (length out_col_idx.old) (length out_values.old))) (restricted (as_csr nrows ncols row_ptr.now col_idx.now values.now) (as_mask mask_len mask.now)) (as_csr_room (length out_row_ptr.old) (length out_col_idx.old) (length out_values.old)) out_row_ptr.new out_col_idx.new out_values.new }
     ensures all { all.new ≡ built 0 (length all.old) (restrict_answer (as_csr nrows ncols row_ptr.now col_idx.now values.now) (as_mask mask_len mask.now) (as_csr_room (length out_row_ptr.old) (length out_col_idx.old) (length out_values.old)) and_then all_answer (restricted_left (as_csr nrows ncols row_ptr.now col_idx.now values.now) (as_mask mask_len mask.now) (as_csr_room (length out_row_ptr.old) (length out_col_idx.old) (length out_values.old))) (length all.old)) (mask_words (λ c. true) ncols) }
     ensures store { StoreLists (restrict_answer (as_csr nrows ncols row_ptr.now col_idx.now values.now) (as_mask mask_len mask.now) (as_csr_room (length out_row_ptr.old) (length out_col_idx.old) (length out_values.old)) and_then all_answer (restricted_left (as_csr nrows ncols row_ptr.now col_idx.now values.now) (as_mask mask_len mask.now) (as_csr_room (length out_row_ptr.old) (length out_col_idx.old) (length out_values.old))) (length all.old) and_then pack_answer (restricted_left (as_csr nrows ncols row_ptr.now col_idx.now values.now) (as_mask mask_len mask.now) (as_csr_room (length out_row_ptr.old) (length out_col_idx.old) (length out_values.old))) (as_store_room (length row_word_ptr.old) (length word_indices.old) (length bits.old) (length row_value_ptr.old) (length packed.old))) (store_of (restricted_left (as_csr nrows ncols row_ptr.now col_idx.now values.now) (as_mask mask_len mask.now) (as_csr_room (length out_row_ptr.old) (length out_col_idx.old) (length out_values.old)))) (as_store_room (length row_word_ptr.old) (length word_indices.old) (length bits.old) (length row_value_ptr.old) (length packed.old)) row_word_ptr.new word_indices.new bits.new row_value_ptr.new packed.new }
@@ -197,12 +198,12 @@ fn restrict_dot(
         out_values,
     );
     match t {
-        RestrictAnswer::Refused(e) => {
-            lent::clear_from_u64(all, 0);
+        Err(e) => {
+            lent::clear_from(all, 0);
             clear_store(row_word_ptr, word_indices, bits, row_value_ptr, packed);
-            DotAnswer::Refused(e)
+            Err(e)
         }
-        RestrictAnswer::Built(s) => {
+        Ok(s) => {
             let kept = s.retained_nnz;
             all_dot(
                 nrows,
@@ -239,16 +240,16 @@ pub fn pruned_dot(
     bits: &mut [u64],
     row_value_ptr: &mut [u32],
     packed: &mut [f64],
-) -> DotAnswer
-    ensures answer { told_dot result ≡ answers (pruned_answer (as_csr nrows ncols row_ptr.now col_idx.now values.now) (as_mask mask_len mask.now) x.now row (as_store_room (length row_word_ptr.old) (length word_indices.old) (length bits.old) (length row_value_ptr.old) (length packed.old))) (row_dot (as_csr nrows ncols row_ptr.now col_idx.now values.now) (as_mask mask_len mask.now) x.now row) }
+) -> Result<AbtmRowDot, HybitError>
+    ensures answer { given result ≡ answers (pruned_answer (as_csr nrows ncols row_ptr.now col_idx.now values.now) (as_mask mask_len mask.now) x.now row (as_store_room (length row_word_ptr.old) (length word_indices.old) (length bits.old) (length row_value_ptr.old) (length packed.old))) (row_dot (as_csr nrows ncols row_ptr.now col_idx.now values.now) (as_mask mask_len mask.now) x.now row) }
     ensures store { StoreLists (pruned_answer (as_csr nrows ncols row_ptr.now col_idx.now values.now) (as_mask mask_len mask.now) x.now row (as_store_room (length row_word_ptr.old) (length word_indices.old) (length bits.old) (length row_value_ptr.old) (length packed.old))) (store_of (as_csr nrows ncols row_ptr.now col_idx.now values.now)) (as_store_room (length row_word_ptr.old) (length word_indices.old) (length bits.old) (length row_value_ptr.old) (length packed.old)) row_word_ptr.new word_indices.new bits.new row_value_ptr.new packed.new }
 {
     let v = demand_examine::examine(
         nrows, ncols, row_ptr, col_idx, values, mask_len, mask, x, row,
     );
-    if let Verdict::Refused(e) = v {
+    if let Err(e) = v {
         clear_store(row_word_ptr, word_indices, bits, row_value_ptr, packed);
-        return DotAnswer::Refused(e);
+        return Err(e);
     }
     pack_dot(
         nrows,
@@ -287,11 +288,11 @@ fn clear_restricted(
     ensures values { packed.new ≡ padded zero64 (length packed.old) [] }
     ensures all { all.new ≡ padded 0 (length all.old) [] }
 {
-    lent::clear_from_u32(out_row_ptr, 0);
-    lent::clear_from_u32(out_col_idx, 0);
-    lent::clear_from_f64(out_values, 0);
+    lent::clear_from(out_row_ptr, 0);
+    lent::clear_from(out_col_idx, 0);
+    lent::clear_from(out_values, 0);
     clear_store(row_word_ptr, word_indices, bits, row_value_ptr, packed);
-    lent::clear_from_u64(all, 0);
+    lent::clear_from(all, 0);
 }
 
 // The dot of a row of the restriction to the active columns with every column active: the plot list is restricted and packed, and the
@@ -315,8 +316,8 @@ pub fn restricted_dot(
     row_value_ptr: &mut [u32],
     packed: &mut [f64],
     all: &mut [u64],
-) -> DotAnswer
-    ensures answer { told_dot result ≡ answers (restricted_answer (as_csr nrows ncols row_ptr.now col_idx.now values.now) (as_mask mask_len mask.now) x.now row (as_csr_room (length out_row_ptr.old) (length out_col_idx.old) (length out_values.old)) (length all.old) (as_store_room (length row_word_ptr.old) (length word_indices.old) (length bits.old) (length row_value_ptr.old) (length packed.old))) (restricted_row_dot (as_csr nrows ncols row_ptr.now col_idx.now values.now) (as_mask mask_len mask.now) x.now row) }
+) -> Result<AbtmRowDot, HybitError>
+    ensures answer { given result ≡ answers (restricted_answer (as_csr nrows ncols row_ptr.now col_idx.now values.now) (as_mask mask_len mask.now) x.now row (as_csr_room (length out_row_ptr.old) (length out_col_idx.old) (length out_values.old)) (length all.old) (as_store_room (length row_word_ptr.old) (length word_indices.old) (length bits.old) (length row_value_ptr.old) (length packed.old))) (restricted_row_dot (as_csr nrows ncols row_ptr.now col_idx.now values.now) (as_mask mask_len mask.now) x.now row) }
     ensures list { PlotLists (restricted_answer (as_csr nrows ncols row_ptr.now col_idx.now values.now) (as_mask mask_len mask.now) x.now row (as_csr_room (length out_row_ptr.old) (length out_col_idx.old) (length out_values.old)) (length all.old) (as_store_room (length row_word_ptr.old) (length word_indices.old) (length bits.old) (length row_value_ptr.old) (length packed.old))) (restricted (as_csr nrows ncols row_ptr.now col_idx.now values.now) (as_mask mask_len mask.now)) (as_csr_room (length out_row_ptr.old) (length out_col_idx.old) (length out_values.old)) out_row_ptr.new out_col_idx.new out_values.new }
     ensures all { all.new ≡ built 0 (length all.old) (restricted_answer (as_csr nrows ncols row_ptr.now col_idx.now values.now) (as_mask mask_len mask.now) x.now row (as_csr_room (length out_row_ptr.old) (length out_col_idx.old) (length out_values.old)) (length all.old) (as_store_room (length row_word_ptr.old) (length word_indices.old) (length bits.old) (length row_value_ptr.old) (length packed.old))) (mask_words (λ c. true) ncols) }
     ensures store { StoreLists (restricted_answer (as_csr nrows ncols row_ptr.now col_idx.now values.now) (as_mask mask_len mask.now) x.now row (as_csr_room (length out_row_ptr.old) (length out_col_idx.old) (length out_values.old)) (length all.old) (as_store_room (length row_word_ptr.old) (length word_indices.old) (length bits.old) (length row_value_ptr.old) (length packed.old))) (store_of (restricted (as_csr nrows ncols row_ptr.now col_idx.now values.now) (as_mask mask_len mask.now))) (as_store_room (length row_word_ptr.old) (length word_indices.old) (length bits.old) (length row_value_ptr.old) (length packed.old)) row_word_ptr.new word_indices.new bits.new row_value_ptr.new packed.new }
@@ -324,7 +325,7 @@ pub fn restricted_dot(
     let v = demand_examine::examine(
         nrows, ncols, row_ptr, col_idx, values, mask_len, mask, x, row,
     );
-    if let Verdict::Refused(e) = v {
+    if let Err(e) = v {
         clear_restricted(
             out_row_ptr,
             out_col_idx,
@@ -336,7 +337,7 @@ pub fn restricted_dot(
             packed,
             all,
         );
-        return DotAnswer::Refused(e);
+        return Err(e);
     }
     let d = restrict_dot(
         nrows,
@@ -359,8 +360,8 @@ pub fn restricted_dot(
         all,
     );
     match d {
-        DotAnswer::Dot(s) => DotAnswer::Dot(s),
-        DotAnswer::Refused(e) => {
+        Ok(s) => Ok(s),
+        Err(e) => {
             clear_restricted(
                 out_row_ptr,
                 out_col_idx,
@@ -372,7 +373,7 @@ pub fn restricted_dot(
                 packed,
                 all,
             );
-            DotAnswer::Refused(e)
+            Err(e)
         }
     }
 }

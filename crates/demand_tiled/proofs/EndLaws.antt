@@ -1,4 +1,6 @@
 -- What each end of the call leaves: zeros where it is refused, at whatever step, and the results where it is accepted. Assumes nothing.
+use Rattle.std.specs.Prelude.{Result, Ok}
+use Rattle.hybit_core.specs.declared.HybitError.{HybitError}
 use mathlib.Core.Bool.{Bool, true, ◌&&◌}
 use mathlib.Core.List.{List, []}
 use mathlib.Core.Path.{◌≡◌, sym, ap, ap₂, ◌∙◌, subst}
@@ -8,8 +10,6 @@ use lib.Ieee.{Float}
 use Rattle.hybit_core.specs.Answer.{Told, Answer, accepted, refused, Given, gives, refuses, demand, answers, ◌and_then◌}
 use Rattle.hybit_core.specs.Floats.{zero64}
 use Rattle.hybit_core.specs.Table.{told}
-use Rattle.hybit_core.specs.declared.Verdict.{Verdict}
-use Rattle.hybit_core.specs.declared.Verdict.TheVariants.{Accepted}
 use Rattle.hybit_core.proofs.BoolLaws.{and_left, and_right}
 use Rattle.hybit_core.proofs.AnswerLaws.{demand_accepted, then_first, then_second, accepted_by}
 use Rattle.lent.specs.Lent.{padded, built}
@@ -32,8 +32,8 @@ pub tile_zeros : (t : Answer) (e : Told) (s : Tiles) (room : TileRoom) (p b o k 
     → p ≡ padded 0 room.ptr [] → b ≡ padded 0 room.mask [] → o ≡ padded 0 room.offset [] → k ≡ padded 0 room.meta [] → v ≡ padded zero64 room.vals [] → TileLists t s room p b o k v
 tile_zeros t e s room p b o k v q ep eb eo ek ev = subst (λ (u : Answer). TileLists u s room p b o k v) (sym q) (record { pointers = ep; bits = eb; offsets = eo; metas = ek; values = ev })
 
-module _ (m : Csr) (a : Mask) (h : AbtmConfig) (x : List Float) (r : ℕ) (rt : TileRoom) (rc : CsrRoom) (n : ℕ) (v : Verdict)
-    (ev : told v ≡ records_answer m a and_then threshold_answer h and_then question_answer m a x r) (kv : v ≡ Accepted) where
+module _ (m : Csr) (a : Mask) (h : AbtmConfig) (x : List Float) (r : ℕ) (rt : TileRoom) (rc : CsrRoom) (n : ℕ) (v : Result Unit HybitError)
+    (ev : told v ≡ records_answer m a and_then threshold_answer h and_then question_answer m a x r) (kv : v ≡ Ok tt) where
   checked : records_answer m a and_then threshold_answer h and_then question_answer m a x r ≡ accepted
   checked = accepted_by (records_answer m a and_then threshold_answer h and_then question_answer m a x r) v ev kv
 

@@ -1,4 +1,5 @@
 -- The row product of a list, of one restricted from tiles, and of a matrix's tiles. Assumes nothing.
+use Rattle.std.specs.Prelude.{Result, Ok, Err}
 use mathlib.Core.Bool.{Bool, true, ◌&&◌}
 use mathlib.Core.List.{List, [], ◌++◌, map}
 use mathlib.Core.Path.{◌≡◌, refl, sym, ap, ap₂, subst, ◌∙◌}
@@ -12,10 +13,8 @@ use borrow.Author.Tests.{leb-true}
 use Rattle.hybit_core.specs.Answer.{plain, Answer, accepted, refused, Given, gives, refuses, demand, length_is, answers, ◌and_then◌}
 use Rattle.hybit_core.specs.Domain.{few, many, sizes_fit}
 use Rattle.hybit_core.specs.Floats.{zero64, finite}
-use Rattle.hybit_core.specs.Table.{paper, told}
+use Rattle.hybit_core.specs.Table.{paper, told, given}
 use Rattle.hybit_core.specs.declared.HybitError.{HybitError}
-use Rattle.hybit_core.specs.declared.Verdict.{Verdict}
-use Rattle.hybit_core.specs.declared.Verdict.TheVariants.{Accepted, Refused}
 use Rattle.hybit_core.proofs.BoolLaws.{and_left, and_right, is_below, is_not_below, is_within, is_above}
 use Rattle.hybit_core.proofs.AnswerLaws.{accepted_by, refused_by, demand_accepted, then_first, then_second}
 use Rattle.lent.specs.Lists.{joined, every}
@@ -31,14 +30,11 @@ use Rattle.abtm.specs.declared.AbtmConfig.{AbtmConfig}
 use Rattle.abtm.specs.Tiles.{Tile, Tiles, as_tiles, tiles_of, tile_sizes, tiles_rules, tile_entries}
 use Rattle.abtm.specs.Calls.{threshold_answer}
 use Rattle.abtm.proofs.PlaceLaws.{laid_long}
-use Rattle.abtm_build.specs.declared.TilesAnswer.{TilesAnswer}
-use Rattle.abtm_build.specs.declared.TilesAnswer.TheVariants as build
-use Rattle.abtm_build.specs.Build.{as_tile_room, tiles_from, fits_tiles, tile_answer, used_tiles, told_tiles, tiled}
+use Rattle.abtm_build.specs.declared.TilesSize.{TilesSize}
+use Rattle.abtm_build.specs.Build.{as_tile_room, tiles_from, fits_tiles, tile_answer, as_tiles_size, used_tiles, tiled}
 use Rattle.abtm_build.specs.Written.{row_of}
 use Rattle.restricted.specs.declared.ColumnRestriction.{ColumnRestriction}
-use Rattle.restricted.specs.declared.RestrictAnswer.{RestrictAnswer}
-use Rattle.restricted.specs.declared.RestrictAnswer.TheVariants as restriction
-use Rattle.restricted.specs.Restricted.{restricted_tiles, restrict_tiles_answer, restricted_tiles_left, tile_restriction_of, told_restriction}
+use Rattle.restricted.specs.Restricted.{restricted_tiles, restrict_tiles_answer, restricted_tiles_left, tile_restriction_of}
 use Rattle.demand_examine.specs.Steps.{after, PlotLists}
 use Rattle.demand_tiled.specs.Tiled.{product_answer, list_number, tile_list_number, tiles_number, TileLists}
 use Rattle.demand_examine.proofs.StepLaws.{gave, refused_as, plot_lent}
@@ -63,18 +59,18 @@ module _ (m : Csr) (x : List Float) (r n : ℕ) where
     product_short y k e =
         by_answer (refused (plain 13)) (refuses (plain 13)) y (ap₂ (λ (b d : Bool). demand b 7 and_then demand d 13 and_then apply_answer m x m.rows) (sym (is_below r m.rows h)) (sym (is_above m.rows n k))) refl e
 
-    module _ (k : m.rows ≤ n) (v : Verdict) (ny : ℕ) (en : ny ≡ m.rows) (t : told v ≡ apply_answer m x ny) where
+    module _ (k : m.rows ≤ n) (v : Result Unit HybitError) (ny : ℕ) (en : ny ≡ m.rows) (t : told v ≡ apply_answer m x ny) where
       only_apply : product_answer m x r n ≡ apply_answer m x ny
       unfolding product_answer
       only_apply =
           ap₂ (λ (b d : Bool). demand b 7 and_then demand d 13 and_then apply_answer m x m.rows) (sym (is_below r m.rows h)) (sym (is_within m.rows n k)) ∙ ap (apply_answer m x) (sym en)
 
-      pub apply_refused : (q : HybitError) (l : ℕ) (y : List Float) → v ≡ Refused q → y ≡ padded zero64 l [] → l ≡ n → Multiplied (refuses (paper q)) y
+      pub apply_refused : (q : HybitError) (l : ℕ) (y : List Float) → v ≡ Err q → y ≡ padded zero64 l [] → l ≡ n → Multiplied (refuses (paper q)) y
       apply_refused q l y e ey el =
           by_answer (refused (paper q)) (refuses (paper q)) y (only_apply ∙ refused_by (apply_answer m x ny) v q t e) refl (ey ∙ ap (λ (i : ℕ). padded zero64 i []) el)
 
       -- front: what `apply` left in the first rows places of old
-      module _ (e : v ≡ Accepted) (front old last : List Float) (ef : front ≡ kept (apply_answer m x ny) (product m x) (take m.rows old)) (eo : n ≡ length old)
+      module _ (e : v ≡ Ok tt) (front old last : List Float) (ef : front ≡ kept (apply_answer m x ny) (product m x) (take m.rows old)) (eo : n ≡ length old)
           (el : last ≡ padded zero64 (length (front ++ drop m.rows old)) (take m.rows (front ++ drop m.rows old))) where
         is_accepted : apply_answer m x ny ≡ accepted
         is_accepted = accepted_by (apply_answer m x ny) v t e
@@ -96,7 +92,7 @@ module _ (m : Csr) (x : List Float) (r n : ℕ) where
 
 -- ---- a list restricted from tiles, which answered s, in lists of np, nc and nv places
 
-module _ (t : Tiles) (a : Mask) (np nc nv : ℕ) (s : RestrictAnswer) (e : told_restriction s ≡ answers (restrict_tiles_answer t a (as_csr_room np nc nv)) (tile_restriction_of t a)) where
+module _ (t : Tiles) (a : Mask) (np nc nv : ℕ) (s : Result ColumnRestriction HybitError) (e : given s ≡ answers (restrict_tiles_answer t a (as_csr_room np nc nv)) (tile_restriction_of t a)) where
   module _ (x : List Float) (r n : ℕ) (y : List Float) (lp lc : List ℕ) (lv : List Float) (ls : PlotLists (restrict_tiles_answer t a (as_csr_room np nc nv)) (restricted_tiles t a) (as_csr_room np nc nv) lp lc lv) where
     abbrev left : Csr
     left = restricted_tiles_left t a (as_csr_room np nc nv)
@@ -112,12 +108,12 @@ module _ (t : Tiles) (a : Mask) (np nc nv : ℕ) (s : RestrictAnswer) (e : told_
         let w = subst (λ (j : Answer). (g ≡ after j (list_number left x r n)) × (y ≡ built zero64 n (j and_then product_answer left x r n) (product left x))) (sym q) (eg, ey) in
         (w.0, (ls, w.1))
 
-    pub unlisted : (q : HybitError) → s ≡ restriction.Refused q → y ≡ padded zero64 n [] → Lists (refuses (paper q))
-    unlisted q k ey = by_restriction (refuses (paper q)) (refused (paper q)) (refused_as (restrict_tiles_answer t a (as_csr_room np nc nv)) (tile_restriction_of t a) (paper q) (sym (ap told_restriction k) ∙ e)) refl ey
+    pub unlisted : (q : HybitError) → s ≡ Err q → y ≡ padded zero64 n [] → Lists (refuses (paper q))
+    unlisted q k ey = by_restriction (refuses (paper q)) (refused (paper q)) (refused_as (restrict_tiles_answer t a (as_csr_room np nc nv)) (tile_restriction_of t a) (paper q) (sym (ap given k) ∙ e)) refl ey
 
-    module _ (z : ColumnRestriction) (k : s ≡ restriction.Built z) where
+    module _ (z : ColumnRestriction) (k : s ≡ Ok z) where
       made : (restrict_tiles_answer t a (as_csr_room np nc nv) ≡ accepted) × (z ≡ tile_restriction_of t a)
-      made = gave (restrict_tiles_answer t a (as_csr_room np nc nv)) (tile_restriction_of t a) z (sym (ap told_restriction k) ∙ e)
+      made = gave (restrict_tiles_answer t a (as_csr_room np nc nv)) (tile_restriction_of t a) z (sym (ap given k) ∙ e)
 
       kept_is : z.retained_nnz ≡ length (restricted_tiles t a).val
       unfolding tile_restriction_of
@@ -132,7 +128,7 @@ module _ (t : Tiles) (a : Mask) (np nc nv : ℕ) (s : RestrictAnswer) (e : told_
           let w = subst (λ (i : Csr). (g ≡ list_number i x r n) × (y ≡ built zero64 n (product_answer i x r n) (product i x))) (el ∙ lent_is) (eg, ey) in
           by_restriction g accepted made.0 w.0 w.1
 
-  module _ (z : ColumnRestriction) (k : s ≡ restriction.Built z) where
+  module _ (z : ColumnRestriction) (k : s ≡ Ok z) where
     pub record ListUsed : Type 0 where
       pub rows_in : t.rows ≤ 2 ^ 20
       pub ptr_in : t.rows + 1 ≤ np
@@ -142,7 +138,7 @@ module _ (t : Tiles) (a : Mask) (np nc nv : ℕ) (s : RestrictAnswer) (e : told_
     pub list_used : ListUsed
     unfolding restrict_tiles_answer tile_restriction_of tile_sizes sizes_fit fits_csr restricted_tiles
     list_used =
-        let b = gave (restrict_tiles_answer t a (as_csr_room np nc nv)) (tile_restriction_of t a) z (sym (ap told_restriction k) ∙ e) in
+        let b = gave (restrict_tiles_answer t a (as_csr_room np nc nv)) (tile_restriction_of t a) z (sym (ap given k) ∙ e) in
         let row : ℕ → List Entry = λ r. entries_in (active a) (tile_entries t r) in
         let q : z.retained_nnz ≡ length (restricted_tiles t a).val = ap (λ (i : ColumnRestriction). i.retained_nnz) b.1 in
         let c₁ : Bool = few a.size && tile_sizes t in
@@ -181,7 +177,7 @@ module _ (t : Tiles) (a : Mask) (np nc nv : ℕ) (s : RestrictAnswer) (e : told_
 
 -- ---- a build of tiles, which answered s, in lists of n₁ .. n₅ places
 
-module _ (m : Csr) (h : AbtmConfig) (n₁ n₂ n₃ n₄ n₅ : ℕ) (s : TilesAnswer) (e : told_tiles s ≡ answers (tile_answer m h (as_tile_room n₁ n₂ n₃ n₄ n₅)) (used_tiles (tiles_from m h))) where
+module _ (m : Csr) (h : AbtmConfig) (n₁ n₂ n₃ n₄ n₅ : ℕ) (s : Result TilesSize HybitError) (e : given s ≡ answers (tile_answer m h (as_tile_room n₁ n₂ n₃ n₄ n₅)) (used_tiles (tiles_from m h))) where
   module _ (a : Mask) (x : List Float) (r : ℕ) (rc : CsrRoom) (n : ℕ) (y : List Float) (lp lc : List ℕ) (lv : List Float) (op ob oo ok : List ℕ) (ov : List Float)
       (ls : TileLists (tile_answer m h (as_tile_room n₁ n₂ n₃ n₄ n₅)) (tiles_from m h) (as_tile_room n₁ n₂ n₃ n₄ n₅) op ob oo ok ov) where
     abbrev held : Tiles
@@ -204,21 +200,21 @@ module _ (m : Csr) (h : AbtmConfig) (n₁ n₂ n₃ n₄ n₅ : ℕ) (s : TilesA
     unfolding tiles_number
     by_tiles g i q w = let z = subst (λ (j : Answer). After j g) (sym q) w in (z.0, (ls, (z.1.0, z.1.1)))
 
-    pub untiled : (q : HybitError) → s ≡ build.Refused q → lp ≡ padded 0 rc.ptr [] → lc ≡ padded 0 rc.col [] → lv ≡ padded zero64 rc.val [] → y ≡ padded zero64 n [] → Numbers (refuses (paper q))
+    pub untiled : (q : HybitError) → s ≡ Err q → lp ≡ padded 0 rc.ptr [] → lc ≡ padded 0 rc.col [] → lv ≡ padded zero64 rc.val [] → y ≡ padded zero64 n [] → Numbers (refuses (paper q))
     untiled q k ep ec ev ey =
-        by_tiles (refuses (paper q)) (refused (paper q)) (refused_as (tile_answer m h (as_tile_room n₁ n₂ n₃ n₄ n₅)) (used_tiles (tiles_from m h)) (paper q) (sym (ap told_tiles k) ∙ e))
+        by_tiles (refuses (paper q)) (refused (paper q)) (refused_as (tile_answer m h (as_tile_room n₁ n₂ n₃ n₄ n₅)) (used_tiles (tiles_from m h)) (paper q) (sym (ap given k) ∙ e))
         (refl, (record { pointers = ep; columns = ec; values = ev }, ey))
 
-    module _ (i j w : ℕ) (k : s ≡ build.Built i j w) where
-      tiles_made : (tile_answer m h (as_tile_room n₁ n₂ n₃ n₄ n₅) ≡ accepted) × ((i, (j, w)) ≡ used_tiles (tiles_from m h))
-      tiles_made = gave (tile_answer m h (as_tile_room n₁ n₂ n₃ n₄ n₅)) (used_tiles (tiles_from m h)) (i, (j, w)) (sym (ap told_tiles k) ∙ e)
+    module _ (i j w : ℕ) (k : s ≡ Ok (as_tiles_size i j w)) where
+      tiles_made : (tile_answer m h (as_tile_room n₁ n₂ n₃ n₄ n₅) ≡ accepted) × (as_tiles_size i j w ≡ used_tiles (tiles_from m h))
+      tiles_made = gave (tile_answer m h (as_tile_room n₁ n₂ n₃ n₄ n₅)) (used_tiles (tiles_from m h)) (as_tiles_size i j w) (sym (ap given k) ∙ e)
 
       tiles_lent : as_tiles m.rows m.cols (take (m.rows + 1) op) (take i ob) (take i oo) (take i ok) (take j ov) w ≡ held
       unfolding tiled
       tiles_lent =
-          let ei : i ≡ length (tiles_from m h).mask = ap (λ (u : ℕ × (ℕ × ℕ)). u.0) tiles_made.1 in
-          let ej : j ≡ length (tiles_from m h).vals = ap (λ (u : ℕ × (ℕ × ℕ)). u.1.0) tiles_made.1 in
-          let ew : w ≡ (tiles_from m h).nnz = ap (λ (u : ℕ × (ℕ × ℕ)). u.1.1) tiles_made.1 in
+          let ei : i ≡ length (tiles_from m h).mask = ap (λ (u : TilesSize). u.tiles) tiles_made.1 in
+          let ej : j ≡ length (tiles_from m h).vals = ap (λ (u : TilesSize). u.value_slots) tiles_made.1 in
+          let ew : w ≡ (tiles_from m h).nnz = ap (λ (u : TilesSize). u.matrix_nnz) tiles_made.1 in
           let p = ap₂ (λ (u : ℕ) (l : List ℕ). take u l) (add-one m.rows) ls.pointers in
           let b = ap₂ (λ (u : ℕ) (l : List ℕ). take u l) ei ls.bits in
           let o = ap₂ (λ (u : ℕ) (l : List ℕ). take u l) ei ls.offsets in
@@ -233,7 +229,7 @@ module _ (m : Csr) (h : AbtmConfig) (n₁ n₂ n₃ n₄ n₅ : ℕ) (s : TilesA
           (subst (λ (u : Tiles). (g ≡ tile_list_number u a x r rc n) × (PlotLists (restrict_tiles_answer u a rc) (restricted_tiles u a) rc lp lc lv × (y ≡ built zero64 n (restrict_tiles_answer u a rc and_then product_answer (restricted_tiles_left u a rc) x r n) (product (restricted_tiles_left u a rc) x)))) (et ∙ tiles_lent) (eg, (el, ey)))
 
   -- the used parts lie in their lists
-  module _ (i j w : ℕ) (k : s ≡ build.Built i j w) where
+  module _ (i j w : ℕ) (k : s ≡ Ok (as_tiles_size i j w)) where
     pub record TilesUsed : Type 0 where
       pub rows_in : m.rows ≤ 2 ^ 20
       pub ptr_in : m.rows + 1 ≤ n₁
@@ -246,9 +242,9 @@ module _ (m : Csr) (h : AbtmConfig) (n₁ n₂ n₃ n₄ n₅ : ℕ) (s : TilesA
     unfolding tile_answer fits_tiles tiles_from tiles_of
     tiles_used =
         let t : Tiles = tiles_from m h in
-        let b = gave (tile_answer m h (as_tile_room n₁ n₂ n₃ n₄ n₅)) (used_tiles t) (i, (j, w)) (sym (ap told_tiles k) ∙ e) in
-        let ei : i ≡ length t.mask = ap (λ (u : ℕ × (ℕ × ℕ)). u.0) b.1 in
-        let ej : j ≡ length t.vals = ap (λ (u : ℕ × (ℕ × ℕ)). u.1.0) b.1 in
+        let b = gave (tile_answer m h (as_tile_room n₁ n₂ n₃ n₄ n₅)) (used_tiles t) (as_tiles_size i j w) (sym (ap given k) ∙ e) in
+        let ei : i ≡ length t.mask = ap (λ (u : TilesSize). u.tiles) b.1 in
+        let ej : j ≡ length t.vals = ap (λ (u : TilesSize). u.value_slots) b.1 in
         let ts : List Tile = joined (row_of m h) m.rows in
         let masks : length t.mask ≡ length ts = length-map ts (λ (e : Tile). e.mask) in
         let metas : length t.meta ≡ length ts = length-map ts (λ (e : Tile). e.meta) in

@@ -2,9 +2,8 @@
 -- and a list that a refused call or one after it was to write holds zeros.
 use Rattle.std.specs.Prelude.{ℕ, List, ◌≡◌, leb, ltb, get_or, Float}
 use Rattle.std.specs.Float.{nan}
-use Rattle.hybit_core.specs.Answer.{Answer, Given, gives, refuses, demand, answers, ◌and_then◌}
+use Rattle.hybit_core.specs.Answer.{Answer, Given, demand, answers, ◌and_then◌}
 use Rattle.hybit_core.specs.Floats.{zero64}
-use Rattle.hybit_core.specs.Table.{paper}
 use Rattle.lent.specs.Lent.{built}
 use Rattle.mask.specs.Mask.{Mask}
 use Rattle.csr32.specs.Csr.{Csr, apply_answer, product}
@@ -13,13 +12,7 @@ use Rattle.abtm.specs.declared.AbtmConfig.{AbtmConfig}
 use Rattle.abtm.specs.Tiles.{Tiles}
 use Rattle.abtm_build.specs.Build.{TileRoom, tile_answer, tiled}
 use Rattle.restricted.specs.Restricted.{restrict_tiles_answer, restricted_tiles_left}
-use Rattle.demand_tiled.specs.declared.NumberAnswer.{NumberAnswer}
-use Rattle.demand_tiled.specs.declared.NumberAnswer.TheVariants as number
 use Rattle.demand_examine.specs.Steps.{after}
-
-abbrev pub told_number : NumberAnswer → Given Float
-told_number (number.Number n) = gives n
-told_number (number.Refused e) = refuses (paper e)
 
 -- a list's product, whose row r is answered, in a list of n places: 7; 13; then those of `apply`
 unfoldable pub product_answer : Csr → List Float → ℕ → ℕ → Answer

@@ -12,21 +12,14 @@ ghost use Rattle.csr32.specs.Made.{as_csr_room};
 ghost use Rattle.abtm.specs.Tiles.{as_tiles};
 ghost use Rattle.abtm_build.specs.Build.{as_tile_room, tiles_from, tile_answer, tiled};
 ghost use Rattle.restricted.specs.Restricted.{restricted_tiles, restrict_tiles_answer, restricted_tiles_left};
-ghost use Rattle.demand_tiled.specs.Tiled.{told_number, product_answer, product_of, list_number, tile_list_number, tiles_number, TileLists};
+ghost use Rattle.demand_tiled.specs.Tiled.{product_answer, product_of, list_number, tile_list_number, tiles_number, TileLists};
+ghost use Rattle.hybit_core.specs.Table.{given};
 ghost use Rattle.demand_examine.specs.Steps.{PlotLists};
 ghost use Rattle.demand_examine.specs.Calls.{tiled_answer, tiled_row_product};
 
 use abtm::AbtmConfig;
-use abtm_build::TilesAnswer;
-use hybit_core::{HybitError, Verdict};
-use restricted::RestrictAnswer;
-
-// A row product.
-#[derive(Clone, Copy)]
-pub enum NumberAnswer {
-    Number(f64),
-    Refused(HybitError),
-}
+use abtm_build::TilesSize;
+use hybit_core::HybitError;
 
 // A row of a plot list's product, which goes to `product`.
 fn list_number(
@@ -38,17 +31,17 @@ fn list_number(
     x: &[f64],
     row: usize,
     product: &mut [f64],
-) -> NumberAnswer
-    ensures answer { told_number result ≡ list_number (as_csr nrows ncols row_ptr.now col_idx.now values.now) x.now row (length product.old) }
+) -> Result<f64, HybitError>
+    ensures answer { given result ≡ list_number (as_csr nrows ncols row_ptr.now col_idx.now values.now) x.now row (length product.old) }
     ensures list { product.new ≡ built zero64 (length product.old) (product_answer (as_csr nrows ncols row_ptr.now col_idx.now values.now) x.now row (length product.old)) (product_of (as_csr nrows ncols row_ptr.now col_idx.now values.now) x.now) }
 {
     if row >= nrows {
-        lent::clear_from_f64(product, 0);
-        return NumberAnswer::Refused(HybitError::NoSuchPlace);
+        lent::clear_from(product, 0);
+        return Err(HybitError::NoSuchPlace);
     }
     if product.len() < nrows {
-        lent::clear_from_f64(product, 0);
-        return NumberAnswer::Refused(HybitError::ShortList);
+        lent::clear_from(product, 0);
+        return Err(HybitError::ShortList);
     }
     let v = csr32_apply::apply(
         nrows,
@@ -59,12 +52,12 @@ fn list_number(
         x,
         &mut product[..nrows],
     );
-    if let Verdict::Refused(e) = v {
-        lent::clear_from_f64(product, 0);
-        return NumberAnswer::Refused(e);
+    if let Err(e) = v {
+        lent::clear_from(product, 0);
+        return Err(e);
     }
-    lent::clear_from_f64(product, nrows);
-    NumberAnswer::Number(product[row])
+    lent::clear_from(product, nrows);
+    Ok(product[row])
 }
 
 // The row product of the list restricted from tiles.
@@ -85,8 +78,8 @@ fn tile_list_number(
     out_col_idx: &mut [u32],
     out_values: &mut [f64],
     product: &mut [f64],
-) -> NumberAnswer
-    ensures answer { told_number result ≡ tile_list_number (as_tiles nrows ncols row_tile_ptr.now tile_masks.now value_offsets.now metas.now tile_values.now matrix_nnz) (as_mask mask_len mask.now) x.now row (as_csr_room (length out_row_ptr.old) (length out_col_idx.old) (length out_values.old)) (length product.old) }
+) -> Result<f64, HybitError>
+    ensures answer { given result ≡ tile_list_number (as_tiles nrows ncols row_tile_ptr.now tile_masks.now value_offsets.now metas.now tile_values.now matrix_nnz) (as_mask mask_len mask.now) x.now row (as_csr_room (length out_row_ptr.old) (length out_col_idx.old) (length out_values.old)) (length product.old) }
     ensures list { PlotLists (restrict_tiles_answer (as_tiles nrows ncols row_tile_ptr.now tile_masks.now value_offsets.now metas.now tile_values.now matrix_nnz) (as_mask mask_len mask.now) (as_csr_room (length out_row_ptr.old) (length out_col_idx.old) (length out_values.old))) (restricted_tiles (as_tiles nrows ncols row_tile_ptr.now tile_masks.now value_offsets.now metas.now tile_values.now matrix_nnz) (as_mask mask_len mask.now)) (as_csr_room (length out_row_ptr.old) (length out_col_idx.old) (length out_values.old)) out_row_ptr.new out_col_idx.new out_values.new }
     ensures product { product.new ≡ built zero64 (length product.old) (restrict_tiles_answer (as_tiles nrows ncols row_tile_ptr.now tile_masks.now value_offsets.now metas.now tile_values.now matrix_nnz) (as_mask mask_len mask.now) (as_csr_room (length out_row_ptr.old) (length out_col_idx.old) (length out_values.old)) and_then product_answer (restricted_tiles_left (as_tiles nrows ncols row_tile_ptr.now tile_masks.now value_offsets.now metas.now tile_values.now matrix_nnz) (as_mask mask_len mask.now) (as_csr_room (length out_row_ptr.old) (length out_col_idx.old) (length out_values.old))) x.now row (length product.old)) (product_of (restricted_tiles_left (as_tiles nrows ncols row_tile_ptr.now tile_masks.now value_offsets.now metas.now tile_values.now matrix_nnz) (as_mask mask_len mask.now) (as_csr_room (length out_row_ptr.old) (length out_col_idx.old) (length out_values.old))) x.now) }
 {
@@ -106,11 +99,11 @@ fn tile_list_number(
         out_values,
     );
     match t {
-        RestrictAnswer::Refused(e) => {
-            lent::clear_from_f64(product, 0);
-            NumberAnswer::Refused(e)
+        Err(e) => {
+            lent::clear_from(product, 0);
+            Err(e)
         }
-        RestrictAnswer::Built(s) => {
+        Ok(s) => {
             let kept = s.retained_nnz;
             list_number(
                 nrows,
@@ -138,10 +131,10 @@ fn clear_list(
     ensures values { out_values.new ≡ padded zero64 (length out_values.old) [] }
     ensures product { product.new ≡ padded zero64 (length product.old) [] }
 {
-    lent::clear_from_u32(out_row_ptr, 0);
-    lent::clear_from_u32(out_col_idx, 0);
-    lent::clear_from_f64(out_values, 0);
-    lent::clear_from_f64(product, 0);
+    lent::clear_from(out_row_ptr, 0);
+    lent::clear_from(out_col_idx, 0);
+    lent::clear_from(out_values, 0);
+    lent::clear_from(product, 0);
 }
 
 // The row product of the list restricted from the plot list's tiles. Each list is what the call that writes it leaves.
@@ -165,8 +158,8 @@ fn tile_number(
     out_col_idx: &mut [u32],
     out_values: &mut [f64],
     product: &mut [f64],
-) -> NumberAnswer
-    ensures answer { told_number result ≡ tiles_number (as_csr nrows ncols row_ptr.now col_idx.now values.now) (as_mask mask_len mask.now) x.now config row (as_tile_room (length row_tile_ptr.old) (length tile_masks.old) (length value_offsets.old) (length metas.old) (length tile_values.old)) (as_csr_room (length out_row_ptr.old) (length out_col_idx.old) (length out_values.old)) (length product.old) }
+) -> Result<f64, HybitError>
+    ensures answer { given result ≡ tiles_number (as_csr nrows ncols row_ptr.now col_idx.now values.now) (as_mask mask_len mask.now) x.now config row (as_tile_room (length row_tile_ptr.old) (length tile_masks.old) (length value_offsets.old) (length metas.old) (length tile_values.old)) (as_csr_room (length out_row_ptr.old) (length out_col_idx.old) (length out_values.old)) (length product.old) }
     ensures tiles { TileLists (tile_answer (as_csr nrows ncols row_ptr.now col_idx.now values.now) config (as_tile_room (length row_tile_ptr.old) (length tile_masks.old) (length value_offsets.old) (length metas.old) (length tile_values.old))) (tiles_from (as_csr nrows ncols row_ptr.now col_idx.now values.now) config) (as_tile_room (length row_tile_ptr.old) (length tile_masks.old) (length value_offsets.old) (length metas.old) (length tile_values.old)) row_tile_ptr.new tile_masks.new value_offsets.new metas.new tile_values.new }
     ensures list { PlotLists (tile_answer (as_csr nrows ncols row_ptr.now col_idx.now values.now) config (as_tile_room (length row_tile_ptr.old) (length tile_masks.old) (length value_offsets.old) (length metas.old) (length tile_values.old)) and_then restrict_tiles_answer (tiled (as_csr nrows ncols row_ptr.now col_idx.now values.now) config (as_tile_room (length row_tile_ptr.old) (length tile_masks.old) (length value_offsets.old) (length metas.old) (length tile_values.old))) (as_mask mask_len mask.now) (as_csr_room (length out_row_ptr.old) (length out_col_idx.old) (length out_values.old))) (restricted_tiles (tiled (as_csr nrows ncols row_ptr.now col_idx.now values.now) config (as_tile_room (length row_tile_ptr.old) (length tile_masks.old) (length value_offsets.old) (length metas.old) (length tile_values.old))) (as_mask mask_len mask.now)) (as_csr_room (length out_row_ptr.old) (length out_col_idx.old) (length out_values.old)) out_row_ptr.new out_col_idx.new out_values.new }
     ensures product { product.new ≡ built zero64 (length product.old) (tile_answer (as_csr nrows ncols row_ptr.now col_idx.now values.now) config (as_tile_room (length row_tile_ptr.old) (length tile_masks.old) (length value_offsets.old) (length metas.old) (length tile_values.old)) and_then restrict_tiles_answer (tiled (as_csr nrows ncols row_ptr.now col_idx.now values.now) config (as_tile_room (length row_tile_ptr.old) (length tile_masks.old) (length value_offsets.old) (length metas.old) (length tile_values.old))) (as_mask mask_len mask.now) (as_csr_room (length out_row_ptr.old) (length out_col_idx.old) (length out_values.old)) and_then product_answer (restricted_tiles_left (tiled (as_csr nrows ncols row_ptr.now col_idx.now values.now) config (as_tile_room (length row_tile_ptr.old) (length tile_masks.old) (length value_offsets.old) (length metas.old) (length tile_values.old))) (as_mask mask_len mask.now) (as_csr_room (length out_row_ptr.old) (length out_col_idx.old) (length out_values.old))) x.now row (length product.old)) (product_of (restricted_tiles_left (tiled (as_csr nrows ncols row_ptr.now col_idx.now values.now) config (as_tile_room (length row_tile_ptr.old) (length tile_masks.old) (length value_offsets.old) (length metas.old) (length tile_values.old))) (as_mask mask_len mask.now) (as_csr_room (length out_row_ptr.old) (length out_col_idx.old) (length out_values.old))) x.now) }
@@ -185,15 +178,17 @@ fn tile_number(
         tile_values,
     );
     match t {
-        TilesAnswer::Refused(e) => {
+        Err(e) => {
             clear_list(out_row_ptr, out_col_idx, out_values, product);
-            NumberAnswer::Refused(e)
+            Err(e)
         }
-        TilesAnswer::Built {
-            tiles,
-            value_slots,
-            matrix_nnz,
-        } => tile_list_number(
+        Ok(
+            TilesSize {
+                tiles,
+                value_slots,
+                matrix_nnz,
+            },
+        ) => tile_list_number(
             nrows,
             ncols,
             &row_tile_ptr[..nrows + 1],
@@ -233,11 +228,11 @@ fn clear_tiled(
     ensures list { (out_row_ptr.new ≡ padded 0 (length out_row_ptr.old) []) × (out_col_idx.new ≡ padded 0 (length out_col_idx.old) []) × (out_values.new ≡ padded zero64 (length out_values.old) []) }
     ensures product { product.new ≡ padded zero64 (length product.old) [] }
 {
-    lent::clear_from_u32(row_tile_ptr, 0);
-    lent::clear_from_u64(tile_masks, 0);
-    lent::clear_from_u32(value_offsets, 0);
-    lent::clear_from_u32(metas, 0);
-    lent::clear_from_f64(tile_values, 0);
+    lent::clear_from(row_tile_ptr, 0);
+    lent::clear_from(tile_masks, 0);
+    lent::clear_from(value_offsets, 0);
+    lent::clear_from(metas, 0);
+    lent::clear_from(tile_values, 0);
     clear_list(out_row_ptr, out_col_idx, out_values, product);
 }
 
@@ -263,8 +258,8 @@ pub fn tiled_number(
     out_col_idx: &mut [u32],
     out_values: &mut [f64],
     product: &mut [f64],
-) -> NumberAnswer
-    ensures answer { told_number result ≡ answers (tiled_answer (as_csr nrows ncols row_ptr.now col_idx.now values.now) (as_mask mask_len mask.now) config x.now row (as_tile_room (length row_tile_ptr.old) (length tile_masks.old) (length value_offsets.old) (length metas.old) (length tile_values.old)) (as_csr_room (length out_row_ptr.old) (length out_col_idx.old) (length out_values.old)) (length product.old)) (tiled_row_product (as_csr nrows ncols row_ptr.now col_idx.now values.now) (as_mask mask_len mask.now) config x.now row) }
+) -> Result<f64, HybitError>
+    ensures answer { given result ≡ answers (tiled_answer (as_csr nrows ncols row_ptr.now col_idx.now values.now) (as_mask mask_len mask.now) config x.now row (as_tile_room (length row_tile_ptr.old) (length tile_masks.old) (length value_offsets.old) (length metas.old) (length tile_values.old)) (as_csr_room (length out_row_ptr.old) (length out_col_idx.old) (length out_values.old)) (length product.old)) (tiled_row_product (as_csr nrows ncols row_ptr.now col_idx.now values.now) (as_mask mask_len mask.now) config x.now row) }
     ensures tiles { TileLists (tiled_answer (as_csr nrows ncols row_ptr.now col_idx.now values.now) (as_mask mask_len mask.now) config x.now row (as_tile_room (length row_tile_ptr.old) (length tile_masks.old) (length value_offsets.old) (length metas.old) (length tile_values.old)) (as_csr_room (length out_row_ptr.old) (length out_col_idx.old) (length out_values.old)) (length product.old)) (tiles_from (as_csr nrows ncols row_ptr.now col_idx.now values.now) config) (as_tile_room (length row_tile_ptr.old) (length tile_masks.old) (length value_offsets.old) (length metas.old) (length tile_values.old)) row_tile_ptr.new tile_masks.new value_offsets.new metas.new tile_values.new }
     ensures list { PlotLists (tiled_answer (as_csr nrows ncols row_ptr.now col_idx.now values.now) (as_mask mask_len mask.now) config x.now row (as_tile_room (length row_tile_ptr.old) (length tile_masks.old) (length value_offsets.old) (length metas.old) (length tile_values.old)) (as_csr_room (length out_row_ptr.old) (length out_col_idx.old) (length out_values.old)) (length product.old)) (restricted_tiles (tiles_from (as_csr nrows ncols row_ptr.now col_idx.now values.now) config) (as_mask mask_len mask.now)) (as_csr_room (length out_row_ptr.old) (length out_col_idx.old) (length out_values.old)) out_row_ptr.new out_col_idx.new out_values.new }
     ensures product { product.new ≡ built zero64 (length product.old) (tiled_answer (as_csr nrows ncols row_ptr.now col_idx.now values.now) (as_mask mask_len mask.now) config x.now row (as_tile_room (length row_tile_ptr.old) (length tile_masks.old) (length value_offsets.old) (length metas.old) (length tile_values.old)) (as_csr_room (length out_row_ptr.old) (length out_col_idx.old) (length out_values.old)) (length product.old)) (product_of (restricted_tiles (tiles_from (as_csr nrows ncols row_ptr.now col_idx.now values.now) config) (as_mask mask_len mask.now)) x.now) }
@@ -272,7 +267,7 @@ pub fn tiled_number(
     let v = demand_examine::examine_tiled(
         nrows, ncols, row_ptr, col_idx, values, mask_len, mask, config, x, row,
     );
-    if let Verdict::Refused(e) = v {
+    if let Err(e) = v {
         clear_tiled(
             row_tile_ptr,
             tile_masks,
@@ -284,7 +279,7 @@ pub fn tiled_number(
             out_values,
             product,
         );
-        return NumberAnswer::Refused(e);
+        return Err(e);
     }
     let d = tile_number(
         nrows,
@@ -308,8 +303,8 @@ pub fn tiled_number(
         product,
     );
     match d {
-        NumberAnswer::Number(n) => NumberAnswer::Number(n),
-        NumberAnswer::Refused(e) => {
+        Ok(n) => Ok(n),
+        Err(e) => {
             clear_tiled(
                 row_tile_ptr,
                 tile_masks,
@@ -321,7 +316,7 @@ pub fn tiled_number(
                 out_values,
                 product,
             );
-            NumberAnswer::Refused(e)
+            Err(e)
         }
     }
 }

@@ -48,7 +48,7 @@ use denimrasp_answers::{
     DenimraspVerdict,
 };
 use dense_block::DenseBlocks;
-use hybit_core::{HybitError, Verdict};
+use hybit_core::HybitError;
 use metadata_first::{AbtmMetadataFirstStats, AbtmProductPruningStats};
 use restricted::{ColumnRestriction, LocalRegion};
 use topology::{AbtmTopologyStats, AbtmTopologyWord};
@@ -58,28 +58,28 @@ use word::Operation;
 pub fn denimrasp_mask_check(len: usize, words: &[u64]) -> DenimraspVerdict
     ensures { result ≡ verdict_of (mask_answer (as_mask len words.now)) }
 {
-    denimrasp_answers::verdict(mask::check(len, words))
+    mask::check(len, words).into()
 }
 
 // Whether index is a member; false from the length on.
 pub fn denimrasp_mask_contains(len: usize, words: &[u64], index: usize) -> DenimraspBool
     ensures { result ≡ bool_of (answers (mask_answer (as_mask len words.now)) (active (as_mask len words.now) index)) }
 {
-    denimrasp_answers::truth(mask::contains(len, words, index))
+    mask::contains(len, words, index).into()
 }
 
 // How many members the mask has.
 pub fn denimrasp_mask_count_ones(len: usize, words: &[u64]) -> DenimraspCount
     ensures { result ≡ count_of (answers (mask_answer (as_mask len words.now)) (count (active (as_mask len words.now)) len)) }
 {
-    denimrasp_answers::count(mask::count_ones(len, words))
+    mask::count_ones(len, words).into()
 }
 
 // Whether the mask has no member.
 pub fn denimrasp_mask_is_empty(len: usize, words: &[u64]) -> DenimraspBool
     ensures { result ≡ bool_of (answers (mask_answer (as_mask len words.now)) (eqb (count (active (as_mask len words.now)) len) 0)) }
 {
-    denimrasp_answers::truth(mask::is_empty(len, words))
+    mask::is_empty(len, words).into()
 }
 
 // The empty mask of that length.
@@ -87,7 +87,7 @@ pub fn denimrasp_mask_new(len: usize, words: &mut [u64]) -> DenimraspVerdict
     ensures answer { result ≡ verdict_of (new_answer len (length words.old)) }
     ensures list { words.new ≡ built 0 (length words.old) (new_answer len (length words.old)) (mask_words (λ c. false) len) }
 {
-    denimrasp_answers::verdict(mask_build::new(len, words))
+    mask_build::new(len, words).into()
 }
 
 // The mask of the listed members.
@@ -99,7 +99,7 @@ pub fn denimrasp_mask_from_indices(
     ensures answer { result ≡ verdict_of (from_indices_answer len indices.now (length words.old)) }
     ensures list { words.new ≡ built 0 (length words.old) (from_indices_answer len indices.now (length words.old)) (mask_words (listed indices.now) len) }
 {
-    denimrasp_answers::verdict(mask_build::from_indices(len, indices, words))
+    mask_build::from_indices(len, indices, words).into()
 }
 
 // Puts index in or out; a refused call leaves the words as they were.
@@ -112,7 +112,7 @@ pub fn denimrasp_mask_set(
     ensures answer { result ≡ verdict_of (set_answer (as_mask len words.old) index) }
     ensures list { words.new ≡ kept (set_answer (as_mask len words.old) index) (mask_words (changed (active (as_mask len words.old)) index value) len) words.old }
 {
-    denimrasp_answers::verdict(mask_build::set(len, words, index, value))
+    mask_build::set(len, words, index, value).into()
 }
 
 // Joins the members of one word; bits from the length on are dropped, a word past the end changes nothing.
@@ -125,7 +125,7 @@ pub fn denimrasp_mask_or_word(
     ensures answer { result ≡ verdict_of (mask_answer (as_mask len words.old)) }
     ensures list { words.new ≡ kept (mask_answer (as_mask len words.old)) (mask_words (joined_word (active (as_mask len words.old)) word_index bits) len) words.old }
 {
-    denimrasp_answers::verdict(mask::or_word(len, words, word_index, bits))
+    mask::or_word(len, words, word_index, bits).into()
 }
 
 // The members, ascending; answers how many.
@@ -133,7 +133,7 @@ pub fn denimrasp_mask_indices(len: usize, words: &[u64], out: &mut [usize]) -> D
     ensures answer { result ≡ count_of (answers (indices_answer (as_mask len words.now) (length out.old)) (count (active (as_mask len words.now)) len)) }
     ensures list { out.new ≡ built 0 (length out.old) (indices_answer (as_mask len words.now) (length out.old)) (below (active (as_mask len words.now)) len) }
 {
-    denimrasp_answers::count(mask::indices(len, words, out))
+    mask::indices(len, words, out).into()
 }
 
 // Joins the other mask's members to this one's.
@@ -146,7 +146,7 @@ pub fn denimrasp_mask_union_assign(
     ensures answer { result ≡ verdict_of (mask_pair_answer (as_mask len words.old) (as_mask other_len other.now)) }
     ensures list { words.new ≡ kept (mask_pair_answer (as_mask len words.old) (as_mask other_len other.now)) (mask_words (λ c. active (as_mask len words.old) c || active (as_mask other_len other.now) c) len) words.old }
 {
-    denimrasp_answers::verdict(mask_sets::union_assign(len, words, other_len, other))
+    mask_sets::union_assign(len, words, other_len, other).into()
 }
 
 // Keeps the members that the other mask has too.
@@ -159,7 +159,7 @@ pub fn denimrasp_mask_intersect_assign(
     ensures answer { result ≡ verdict_of (mask_pair_answer (as_mask len words.old) (as_mask other_len other.now)) }
     ensures list { words.new ≡ kept (mask_pair_answer (as_mask len words.old) (as_mask other_len other.now)) (mask_words (λ c. active (as_mask len words.old) c && active (as_mask other_len other.now) c) len) words.old }
 {
-    denimrasp_answers::verdict(mask_sets::intersect_assign(len, words, other_len, other))
+    mask_sets::intersect_assign(len, words, other_len, other).into()
 }
 
 // Keeps the members that the other mask does not have.
@@ -172,7 +172,7 @@ pub fn denimrasp_mask_and_not_assign(
     ensures answer { result ≡ verdict_of (mask_pair_answer (as_mask len words.old) (as_mask other_len other.now)) }
     ensures list { words.new ≡ kept (mask_pair_answer (as_mask len words.old) (as_mask other_len other.now)) (mask_words (λ c. active (as_mask len words.old) c && not (active (as_mask other_len other.now) c)) len) words.old }
 {
-    denimrasp_answers::verdict(mask_sets::and_not_assign(len, words, other_len, other))
+    mask_sets::and_not_assign(len, words, other_len, other).into()
 }
 
 // Whether the two masks have a member in common.
@@ -184,7 +184,7 @@ pub fn denimrasp_mask_intersects(
 ) -> DenimraspBool
     ensures { result ≡ bool_of (answers (mask_pair_answer (as_mask len words.now) (as_mask other_len other.now)) (not (eqb (count (both (active (as_mask len words.now)) (active (as_mask other_len other.now))) len) 0))) }
 {
-    denimrasp_answers::truth(mask_sets::intersects(len, words, other_len, other))
+    mask_sets::intersects(len, words, other_len, other).into()
 }
 
 // The Rust's `new` and `validate`.
@@ -197,7 +197,7 @@ pub fn denimrasp_csr32_check(
 ) -> DenimraspVerdict
     ensures { result ≡ verdict_of (csr_answer (as_csr nrows ncols row_ptr.now col_idx.now values.now)) }
 {
-    denimrasp_answers::verdict(csr32::check(nrows, ncols, row_ptr, col_idx, values))
+    csr32::check(nrows, ncols, row_ptr, col_idx, values).into()
 }
 
 // The row products; a refused call leaves y as it was.
@@ -213,7 +213,7 @@ pub fn denimrasp_csr32_apply(
     ensures answer { result ≡ verdict_of (apply_answer (as_csr nrows ncols row_ptr.now col_idx.now values.now) x.now (length y.old)) }
     ensures target { y.new ≡ kept (apply_answer (as_csr nrows ncols row_ptr.now col_idx.now values.now) x.now (length y.old)) (product (as_csr nrows ncols row_ptr.now col_idx.now values.now) x.now) y.old }
 {
-    denimrasp_answers::verdict(csr32_apply::apply(nrows, ncols, row_ptr, col_idx, values, x, y))
+    csr32_apply::apply(nrows, ncols, row_ptr, col_idx, values, x, y).into()
 }
 
 // The bytes of the pointers and columns.
@@ -226,7 +226,7 @@ pub fn denimrasp_csr32_metadata_bytes(
 ) -> DenimraspCount
     ensures { result ≡ count_of (answers (csr_answer (as_csr nrows ncols row_ptr.now col_idx.now values.now)) (csr_metadata_bytes (as_csr nrows ncols row_ptr.now col_idx.now values.now))) }
 {
-    denimrasp_answers::count(csr32::metadata_bytes(nrows, ncols, row_ptr, col_idx, values))
+    csr32::metadata_bytes(nrows, ncols, row_ptr, col_idx, values).into()
 }
 
 // The same and those of the values.
@@ -239,7 +239,7 @@ pub fn denimrasp_csr32_storage_bytes(
 ) -> DenimraspCount
     ensures { result ≡ count_of (answers (csr_answer (as_csr nrows ncols row_ptr.now col_idx.now values.now)) (csr_storage_bytes (as_csr nrows ncols row_ptr.now col_idx.now values.now))) }
 {
-    denimrasp_answers::count(csr32::storage_bytes(nrows, ncols, row_ptr, col_idx, values))
+    csr32::storage_bytes(nrows, ncols, row_ptr, col_idx, values).into()
 }
 
 // The Rust's `validate`.
@@ -261,7 +261,7 @@ pub fn denimrasp_topology_check(
         masks,
         structural_nnz,
     );
-    denimrasp_answers::verdict(answer)
+    answer.into()
 }
 
 // The words of a plot list.
@@ -290,7 +290,7 @@ pub fn denimrasp_topology_from_csr32(
         word_indices,
         masks,
     );
-    denimrasp_answers::topology_built(answer)
+    answer.into()
 }
 
 // The places of the row's word numbers and masks in their lists: from start, below end.
@@ -313,11 +313,11 @@ pub fn denimrasp_topology_row_words(
         masks,
         structural_nnz,
     );
-    if let Verdict::Refused(e) = v {
-        return denimrasp_answers::part_refused(e);
+    if let Err(e) = v {
+        return e.into();
     }
     if row >= nrows {
-        return denimrasp_answers::part_refused(HybitError::NoSuchPlace);
+        return HybitError::NoSuchPlace.into();
     }
     denimrasp_answers::part(row_word_ptr, row)
 }
@@ -343,7 +343,7 @@ pub fn denimrasp_topology_row_nonempty_words(
         structural_nnz,
         row,
     );
-    denimrasp_answers::count(answer)
+    answer.into()
 }
 
 // How many columns the row holds.
@@ -367,7 +367,7 @@ pub fn denimrasp_topology_row_popcount(
         structural_nnz,
         row,
     );
-    denimrasp_answers::count(answer)
+    answer.into()
 }
 
 // Whether the row holds the column; false from the column count on.
@@ -393,7 +393,7 @@ pub fn denimrasp_topology_row_contains(
         row,
         col,
     );
-    denimrasp_answers::truth(answer)
+    answer.into()
 }
 
 // How many columns below col the row holds; the column count is allowed.
@@ -419,7 +419,7 @@ pub fn denimrasp_topology_row_rank(
         row,
         col,
     );
-    denimrasp_answers::count(answer)
+    answer.into()
 }
 
 // The row's column with ordinal columns below it, if there is one.
@@ -445,7 +445,7 @@ pub fn denimrasp_topology_row_select(
         row,
         ordinal,
     );
-    denimrasp_answers::selection(answer)
+    answer.into()
 }
 
 // The figures of a record.
@@ -467,7 +467,7 @@ pub fn denimrasp_topology_stats(
         masks,
         structural_nnz,
     );
-    denimrasp_answers::topology_stats(answer)
+    answer.into()
 }
 
 // The columns that either record holds, row by row.
@@ -511,7 +511,7 @@ pub fn denimrasp_topology_union(
         out_words,
         out_masks,
     );
-    denimrasp_answers::topology_built(answer)
+    answer.into()
 }
 
 // The columns that both hold.
@@ -555,7 +555,7 @@ pub fn denimrasp_topology_intersection(
         out_words,
         out_masks,
     );
-    denimrasp_answers::topology_built(answer)
+    answer.into()
 }
 
 // The columns that the first holds and the other does not.
@@ -599,7 +599,7 @@ pub fn denimrasp_topology_and_not(
         out_words,
         out_masks,
     );
-    denimrasp_answers::topology_built(answer)
+    answer.into()
 }
 
 // The columns that one of them holds and the other does not.
@@ -643,7 +643,7 @@ pub fn denimrasp_topology_xor(
         out_words,
         out_masks,
     );
-    denimrasp_answers::topology_built(answer)
+    answer.into()
 }
 
 // The Rust's `validate`.
@@ -669,7 +669,7 @@ pub fn denimrasp_metadata_first_check(
         row_value_ptr,
         values,
     );
-    denimrasp_answers::verdict(answer)
+    answer.into()
 }
 
 // Whether the plot list can be packed: 4 too where a merged value is not finite. Writes nothing.
@@ -683,7 +683,7 @@ pub fn denimrasp_metadata_first_check_merge(
     ensures { result ≡ verdict_of (merge_answer (as_csr nrows ncols row_ptr.now col_idx.now values.now)) }
 {
     let answer = metadata_first_merge::check(nrows, ncols, row_ptr, col_idx, values);
-    denimrasp_answers::verdict(answer)
+    answer.into()
 }
 
 // The packed store of a plot list.
@@ -718,7 +718,7 @@ pub fn denimrasp_metadata_first_from_csr32(
         row_value_ptr,
         packed,
     );
-    denimrasp_answers::topology_built(answer)
+    answer.into()
 }
 
 // The places of the row's values in their list: from start, below end.
@@ -745,11 +745,11 @@ pub fn denimrasp_metadata_first_row_values(
         row_value_ptr,
         values,
     );
-    if let Verdict::Refused(e) = v {
-        return denimrasp_answers::part_refused(e);
+    if let Err(e) = v {
+        return e.into();
     }
     if row >= nrows {
-        return denimrasp_answers::part_refused(HybitError::NoSuchPlace);
+        return HybitError::NoSuchPlace.into();
     }
     denimrasp_answers::part(row_value_ptr, row)
 }
@@ -777,7 +777,7 @@ pub fn denimrasp_metadata_first_stats(
         row_value_ptr,
         values,
     );
-    denimrasp_answers::store_stats(answer)
+    answer.into()
 }
 
 // One row's pruned dot, with its counts.
@@ -811,7 +811,7 @@ pub fn denimrasp_metadata_first_sparse_dot_row(
         mask,
         x,
     );
-    denimrasp_answers::dot(answer)
+    answer.into()
 }
 
 // Every row's number and count of executed products.
@@ -849,7 +849,7 @@ pub fn denimrasp_metadata_first_sparse_dot_rows(
         sums,
         executed,
     );
-    denimrasp_answers::verdict(answer)
+    answer.into()
 }
 
 // The first column of a word.
@@ -881,14 +881,14 @@ pub fn denimrasp_word_contains_offset(mask: u64, offset: usize) -> bool
 pub fn denimrasp_word_rank(mask: u64, offset: usize) -> DenimraspCount
     ensures { result ≡ count_of (word_rank_answer mask offset) }
 {
-    denimrasp_answers::count(word::rank(mask, offset))
+    word::rank(mask, offset).into()
 }
 
 // The bit with ordinal set bits below it, if there is one.
 pub fn denimrasp_word_select(mask: u64, ordinal: usize) -> DenimraspSelect
     ensures { result ≡ select_of (gives (selected (has mask) 64 ordinal)) }
 {
-    denimrasp_answers::word_selection(word::select(mask, ordinal))
+    word::select(mask, ordinal).into()
 }
 
 // Columns for each word; the ratios are 0.0 where there is nothing to divide by.
@@ -1015,7 +1015,7 @@ pub fn denimrasp_metadata_first_accumulate(
         topology_words: other_topology_words,
         active_words: other_active_words,
     };
-    denimrasp_answers::totals(s.accumulate(other))
+    s.accumulate(other).into()
 }
 
 // 9 where the thresholds are bad.
@@ -1026,7 +1026,7 @@ pub fn denimrasp_abtm_validate(sparse_max_nnz: u8, dense_min_nnz: u8) -> Denimra
         sparse_max_nnz,
         dense_min_nnz,
     };
-    denimrasp_answers::verdict(config.validate())
+    config.validate().into()
 }
 
 // 12 where the tiles break a rule.
@@ -1052,7 +1052,7 @@ pub fn denimrasp_abtm_check(
         values,
         matrix_nnz,
     );
-    denimrasp_answers::verdict(answer)
+    answer.into()
 }
 
 // The tiles of a plot list; 13 exactly where they do not fit.
@@ -1094,7 +1094,7 @@ pub fn denimrasp_abtm_from_csr32(
         metas,
         tile_values,
     );
-    denimrasp_answers::tiles_built(answer)
+    answer.into()
 }
 
 // The kind of a tile: 0 Sparse, 1 Bitmap, 2 Dense; 12 for kind 3.
@@ -1106,7 +1106,7 @@ pub fn denimrasp_abtm_tile_kind(meta: u32) -> DenimraspCount
         value_offset: 0,
         meta,
     };
-    denimrasp_answers::kind(tile.kind())
+    tile.kind().into()
 }
 
 // The first column of a tile.
@@ -1145,11 +1145,11 @@ pub fn denimrasp_abtm_row_tiles(
         values,
         matrix_nnz,
     );
-    if let Verdict::Refused(e) = v {
-        return denimrasp_answers::part_refused(e);
+    if let Err(e) = v {
+        return e.into();
     }
     if row >= nrows {
-        return denimrasp_answers::part_refused(HybitError::NoSuchPlace);
+        return HybitError::NoSuchPlace.into();
     }
     denimrasp_answers::part(row_tile_ptr, row)
 }
@@ -1177,7 +1177,7 @@ pub fn denimrasp_abtm_stats(
         values,
         matrix_nnz,
     );
-    denimrasp_answers::tile_stats(answer)
+    answer.into()
 }
 
 // Bytes for each value; 0.0 where there is none.
@@ -1244,7 +1244,7 @@ pub fn denimrasp_abtm_apply(
         x,
         y,
     );
-    denimrasp_answers::verdict(answer)
+    answer.into()
 }
 
 // The mask joined with the columns of its rows' tiles, in out.
@@ -1277,7 +1277,7 @@ pub fn denimrasp_abtm_expand_mask_one_hop(
         mask,
         out,
     );
-    denimrasp_answers::verdict(answer)
+    answer.into()
 }
 
 // The entries of a plot list in active columns, in stored order; 13 exactly where they do not fit.
@@ -1310,7 +1310,7 @@ pub fn denimrasp_restricted_from_csr32(
         out_col_idx,
         out_values,
     );
-    denimrasp_answers::restriction(answer)
+    answer.into()
 }
 
 // The entries of tiles in active columns, ascending; 4 where one is infinite, 13 exactly where they do not fit.
@@ -1349,7 +1349,7 @@ pub fn denimrasp_restricted_from_abtm(
         out_col_idx,
         out_values,
     );
-    denimrasp_answers::restriction(answer)
+    answer.into()
 }
 
 // Entries kept among those of the source; 0.0 where it has none.
@@ -1411,14 +1411,14 @@ pub fn denimrasp_local_from_csr32(
         out_col_idx,
         out_values,
     );
-    denimrasp_answers::region(answer)
+    answer.into()
 }
 
 // 12 where the members do not rise or are not below the global size.
 pub fn denimrasp_local_check(global_size: usize, members: &[u32]) -> DenimraspVerdict
     ensures { result ≡ verdict_of (members_answer global_size members.now) }
 {
-    denimrasp_answers::verdict(restricted_gather::check(global_size, members))
+    restricted_gather::check(global_size, members).into()
 }
 
 // A region's numbers of a vector, in local; a refused call leaves local as it was.
@@ -1432,7 +1432,7 @@ pub fn denimrasp_local_gather_input(
     ensures list { local.new ≡ kept (gather_answer global_size members.now global.now (length local.old)) (gathered members.now global.now) local.old }
 {
     let answer = restricted_gather::gather_input(global_size, members, global, local);
-    denimrasp_answers::verdict(answer)
+    answer.into()
 }
 
 // 1.0 less the entries kept among the source entries of the region's rows; 0.0 where they have none.
@@ -1490,7 +1490,7 @@ pub fn denimrasp_dense_block_from_csr32(
         out_col_idx,
         out_values,
     );
-    denimrasp_answers::blocks_built(answer)
+    answer.into()
 }
 
 // 12 where the lists are not those of a matrix in blocks.
@@ -1506,7 +1506,7 @@ pub fn denimrasp_dense_block_check(
 {
     let size = denimrasp_answers::block_size(six);
     let answer = dense_block_check::check(nrows, ncols, size, row_ptr, col_idx, values);
-    denimrasp_answers::verdict(answer)
+    answer.into()
 }
 
 // The row products of blocks; a refused call leaves y as it was.
@@ -1525,7 +1525,7 @@ pub fn denimrasp_dense_block_apply(
 {
     let size = denimrasp_answers::block_size(six);
     let answer = dense_block_apply::apply(nrows, ncols, size, row_ptr, col_idx, values, x, y);
-    denimrasp_answers::verdict(answer)
+    answer.into()
 }
 
 // The blocks wholly inside the frame among all blocks; 0.0 without blocks.
@@ -1543,7 +1543,7 @@ pub fn denimrasp_dense_block_fast_block_fraction(
     let answer = dense_block_check::fast_block_fraction(
         nrows, ncols, size, row_ptr, col_idx, values,
     );
-    denimrasp_answers::ratio(answer)
+    answer.into()
 }
 
 // The distinct places with an entry among the places of the blocks inside the frame; 0.0 where there are none.

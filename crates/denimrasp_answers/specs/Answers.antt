@@ -1,14 +1,15 @@
 -- What each answer is as a struct of the C interface: 0, 0, 0 and the result when accepted; the refusal's number, expected and
 -- actual, and zeros for the result, where refused ("A refusal brings no result; a field beside it is 0").
-use Rattle.std.specs.Prelude.{ℕ, ◌+◌, Bool, true, false, List, Float, get_or}
-use Rattle.std.proofs.Math.Option.{Option, none, some}
+use Rattle.std.specs.Prelude.{ℕ, Option, Some, None, ◌+◌, Bool, true, false, List, Float, get_or}
 use Rattle.hybit_core.specs.Answer.{Answer, accepted, refused, Given, gives, refuses}
 use Rattle.hybit_core.specs.Floats.{zero64}
+use Rattle.topology.specs.declared.TopologySize.{TopologySize}
 use Rattle.topology.specs.declared.AbtmTopologyStats.{AbtmTopologyStats}
 use Rattle.metadata_first.specs.declared.AbtmMetadataFirstStats.{AbtmMetadataFirstStats}
 use Rattle.metadata_first.specs.declared.AbtmRowDot.{AbtmRowDot}
 use Rattle.metadata_first.specs.declared.AbtmProductPruningStats.{AbtmProductPruningStats}
 use Rattle.abtm.specs.declared.AbtmConfig.{AbtmConfig}
+use Rattle.abtm_build.specs.declared.TilesSize.{TilesSize}
 use Rattle.abtm_rows.specs.declared.AbtmStats.{AbtmStats}
 use Rattle.restricted.specs.declared.ColumnRestriction.{ColumnRestriction}
 use Rattle.restricted.specs.declared.LocalRegion.{LocalRegion}
@@ -45,8 +46,8 @@ bool_of (gives b) = record { number = 0; expected = 0; actual = 0; is = b }
 bool_of (refuses t) = record { number = t.number; expected = t.expected; actual = t.actual; is = false }
 
 abbrev pub select_of : Given (Option ℕ) → DenimraspSelect
-select_of (gives (some c)) = record { number = 0; expected = 0; actual = 0; found = true; column = c }
-select_of (gives none) = record { number = 0; expected = 0; actual = 0; found = false; column = 0 }
+select_of (gives (Some c)) = record { number = 0; expected = 0; actual = 0; found = true; column = c }
+select_of (gives None) = record { number = 0; expected = 0; actual = 0; found = false; column = 0 }
 select_of (refuses t) = record { number = t.number; expected = t.expected; actual = t.actual; found = false; column = 0 }
 
 -- where row r of a list starts and ends, by its pointers
@@ -58,8 +59,8 @@ abbrev pub part_of : Given (ℕ × ℕ) → DenimraspPart
 part_of (gives p) = record { number = 0; expected = 0; actual = 0; start = p.0; end = p.1 }
 part_of (refuses t) = record { number = t.number; expected = t.expected; actual = t.actual; start = 0; end = 0 }
 
-abbrev pub topology_answer_of : Given (ℕ × ℕ) → DenimraspTopology
-topology_answer_of (gives u) = record { number = 0; expected = 0; actual = 0; words = u.0; structural_nnz = u.1 }
+abbrev pub topology_answer_of : Given TopologySize → DenimraspTopology
+topology_answer_of (gives u) = record { number = 0; expected = 0; actual = 0; words = u.words; structural_nnz = u.structural_nnz }
 topology_answer_of (refuses t) = record { number = t.number; expected = t.expected; actual = t.actual; words = 0; structural_nnz = 0 }
 
 abbrev pub topology_stats_of : Given AbtmTopologyStats → DenimraspTopologyStats
@@ -158,15 +159,14 @@ totals_of (refuses t) = record {
 abbrev pub counts_from : ℕ → ℕ → ℕ → ℕ → ℕ → AbtmProductPruningStats
 counts_from c e s w a = record { candidate_products = c; executed_products = e; skipped_products = s; topology_words = w; active_words = a }
 
--- tiles, value slots and matrix_nnz
-abbrev pub tiles_answer_of : Given (ℕ × (ℕ × ℕ)) → DenimraspTiles
+abbrev pub tiles_answer_of : Given TilesSize → DenimraspTiles
 tiles_answer_of (gives u) = record {
   number = 0;
   expected = 0;
   actual = 0;
-  tiles = u.0;
-  value_slots = u.1.0;
-  matrix_nnz = u.1.1;
+  tiles = u.tiles;
+  value_slots = u.value_slots;
+  matrix_nnz = u.matrix_nnz;
 }
 tiles_answer_of (refuses t) = record {
   number = t.number;

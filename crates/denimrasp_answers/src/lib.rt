@@ -4,28 +4,18 @@
 
 ghost use Rattle.std.specs.Prelude.{◌≡◌, get_or};
 ghost use Rattle.hybit_core.specs.Answer.{gives, refuses};
-ghost use Rattle.hybit_core.specs.Table.{paper, told, told_count, told_bool};
-ghost use Rattle.word.specs.Word.{told_select};
-ghost use Rattle.topology.specs.Calls.{told_selection, told_stats, told_topology};
-ghost use Rattle.metadata_first.specs.Store.{told_store_stats};
-ghost use Rattle.metadata_first.specs.Dot.{told_dot, told_totals};
+ghost use Rattle.hybit_core.specs.Table.{paper, told, given};
 ghost use Rattle.abtm.specs.Calls.{kind_number, told_kind};
-ghost use Rattle.abtm_rows.specs.Rows.{told_tile_stats};
-ghost use Rattle.abtm_build.specs.Build.{told_tiles};
-ghost use Rattle.restricted.specs.Restricted.{told_restriction};
-ghost use Rattle.restricted.specs.Local.{told_region};
-ghost use Rattle.dense_block.specs.Calls.{told_blocks, told_ratio};
 ghost use Rattle.denimrasp_answers.specs.Answers.{verdict_of, count_of, bool_of, select_of, part_of, places_of, topology_answer_of, topology_stats_of, store_stats_of, dot_answer_of, totals_of, tiles_answer_of, tile_stats_of, restriction_answer_of, region_answer_of, blocks_answer_of, ratio_answer_of, size_from};
 
-use abtm::{KindAnswer, TileKind};
-use abtm_build::TilesAnswer;
-use abtm_rows::AbtmStatsAnswer;
-use dense_block::{BlocksAnswer, DenseBlockSize, RatioAnswer};
-use hybit_core::{BoolAnswer, CountAnswer, HybitError, Verdict};
-use metadata_first::{DotAnswer, StoreStatsAnswer, TotalsAnswer};
-use restricted::{LocalAnswer, RestrictAnswer};
-use topology::{SelectAnswer, StatsAnswer, TopologyAnswer};
-use word::WordSelect;
+use abtm::TileKind;
+use abtm_build::TilesSize;
+use abtm_rows::AbtmStats;
+use dense_block::{DenseBlockSize, DenseBlocks};
+use hybit_core::HybitError;
+use metadata_first::{AbtmMetadataFirstStats, AbtmProductPruningStats, AbtmRowDot};
+use restricted::{ColumnRestriction, LocalRegion};
+use topology::{AbtmTopologyStats, TopologySize};
 
 #[repr(C)]
 #[derive(Clone, Copy)]
@@ -221,119 +211,131 @@ pub struct DenimraspRatio {
     pub ratio: f64,
 }
 
-pub fn verdict(v: Verdict) -> DenimraspVerdict
-    ensures { result ≡ verdict_of (told v) }
-{
-    match v {
-        Verdict::Accepted => DenimraspVerdict {
-            number: 0,
-            expected: 0,
-            actual: 0,
-        },
-        Verdict::Refused(e) => DenimraspVerdict {
-            number: hybit_core::number(e),
-            expected: hybit_core::expected(e),
-            actual: hybit_core::actual(e),
-        },
+impl From<Result<(), HybitError>> for DenimraspVerdict {
+    ghost from_gives = { λ v r. r ≡ verdict_of (told v) };
+
+    fn from(v: Result<(), HybitError>) -> DenimraspVerdict {
+        match v {
+            Ok(()) => DenimraspVerdict {
+                number: 0,
+                expected: 0,
+                actual: 0,
+            },
+            Err(e) => DenimraspVerdict {
+                number: e.number(),
+                expected: e.expected(),
+                actual: e.actual(),
+            },
+        }
     }
 }
 
-pub fn count(a: CountAnswer) -> DenimraspCount
-    ensures { result ≡ count_of (told_count a) }
-{
-    match a {
-        CountAnswer::Count(n) => DenimraspCount {
-            number: 0,
-            expected: 0,
-            actual: 0,
-            count: n,
-        },
-        CountAnswer::Refused(e) => DenimraspCount {
-            number: hybit_core::number(e),
-            expected: hybit_core::expected(e),
-            actual: hybit_core::actual(e),
-            count: 0,
-        },
+impl From<Result<usize, HybitError>> for DenimraspCount {
+    ghost from_gives = { λ a r. r ≡ count_of (given a) };
+
+    fn from(a: Result<usize, HybitError>) -> DenimraspCount {
+        match a {
+            Ok(n) => DenimraspCount {
+                number: 0,
+                expected: 0,
+                actual: 0,
+                count: n,
+            },
+            Err(e) => DenimraspCount {
+                number: e.number(),
+                expected: e.expected(),
+                actual: e.actual(),
+                count: 0,
+            },
+        }
     }
 }
 
-pub fn truth(a: BoolAnswer) -> DenimraspBool
-    ensures { result ≡ bool_of (told_bool a) }
-{
-    match a {
-        BoolAnswer::Is(b) => DenimraspBool {
-            number: 0,
-            expected: 0,
-            actual: 0,
-            is: b,
-        },
-        BoolAnswer::Refused(e) => DenimraspBool {
-            number: hybit_core::number(e),
-            expected: hybit_core::expected(e),
-            actual: hybit_core::actual(e),
-            is: false,
-        },
+impl From<Result<bool, HybitError>> for DenimraspBool {
+    ghost from_gives = { λ a r. r ≡ bool_of (given a) };
+
+    fn from(a: Result<bool, HybitError>) -> DenimraspBool {
+        match a {
+            Ok(b) => DenimraspBool {
+                number: 0,
+                expected: 0,
+                actual: 0,
+                is: b,
+            },
+            Err(e) => DenimraspBool {
+                number: e.number(),
+                expected: e.expected(),
+                actual: e.actual(),
+                is: false,
+            },
+        }
     }
 }
 
-pub fn selection(a: SelectAnswer) -> DenimraspSelect
-    ensures { result ≡ select_of (told_selection a) }
-{
-    match a {
-        SelectAnswer::At(c) => DenimraspSelect {
-            number: 0,
-            expected: 0,
-            actual: 0,
-            found: true,
-            column: c,
-        },
-        SelectAnswer::Nothing => DenimraspSelect {
-            number: 0,
-            expected: 0,
-            actual: 0,
-            found: false,
-            column: 0,
-        },
-        SelectAnswer::Refused(e) => DenimraspSelect {
-            number: hybit_core::number(e),
-            expected: hybit_core::expected(e),
-            actual: hybit_core::actual(e),
-            found: false,
-            column: 0,
-        },
+impl From<Result<Option<usize>, HybitError>> for DenimraspSelect {
+    ghost from_gives = { λ a r. r ≡ select_of (given a) };
+
+    fn from(a: Result<Option<usize>, HybitError>) -> DenimraspSelect {
+        match a {
+            Ok(Some(c)) => DenimraspSelect {
+                number: 0,
+                expected: 0,
+                actual: 0,
+                found: true,
+                column: c,
+            },
+            Ok(None) => DenimraspSelect {
+                number: 0,
+                expected: 0,
+                actual: 0,
+                found: false,
+                column: 0,
+            },
+            Err(e) => DenimraspSelect {
+                number: e.number(),
+                expected: e.expected(),
+                actual: e.actual(),
+                found: false,
+                column: 0,
+            },
+        }
     }
 }
 
-pub fn word_selection(a: WordSelect) -> DenimraspSelect
-    ensures { result ≡ select_of (gives (told_select a)) }
-{
-    match a {
-        WordSelect::At(i) => DenimraspSelect {
-            number: 0,
-            expected: 0,
-            actual: 0,
-            found: true,
-            column: i,
-        },
-        WordSelect::Nothing => DenimraspSelect {
-            number: 0,
-            expected: 0,
-            actual: 0,
-            found: false,
-            column: 0,
-        },
+impl From<Option<usize>> for DenimraspSelect {
+    ghost from_gives = { λ a r. r ≡ select_of (gives a) };
+
+    fn from(a: Option<usize>) -> DenimraspSelect {
+        match a {
+            Some(i) => DenimraspSelect {
+                number: 0,
+                expected: 0,
+                actual: 0,
+                found: true,
+                column: i,
+            },
+            None => DenimraspSelect {
+                number: 0,
+                expected: 0,
+                actual: 0,
+                found: false,
+                column: 0,
+            },
+        }
     }
 }
 
-pub fn part_refused(e: HybitError) -> DenimraspPart
-    ensures { result ≡ part_of (refuses (paper e)) }
-{
-    DenimraspPart {
-        number: hybit_core::number(e),
-        expected: hybit_core::expected(e),
-        actual: hybit_core::actual(e),
-        start: 0,
-        end: 0,
+impl From<HybitError> for DenimraspPart {
+    ghost from_gives = { λ e r. r ≡ part_of (refuses (paper e)) };
+
+    fn from(e: HybitError) -> DenimraspPart {
+        DenimraspPart {
+            number: e.number(),
+            expected: e.expected(),
+            actual: e.actual(),
+            start: 0,
+            end: 0,
+        }
     }
 }
 
@@ -342,7 +344,7 @@ fn pointer(row_ptr: &[u32], at: usize) -> usize
     ensures { result ≡ get_or row_ptr.now at 0 }
 {
     if at < row_ptr.len() {
-        return hybit_core::wide(row_ptr[at]);
+        return row_ptr[at] as usize;
     }
     0
 }
@@ -369,139 +371,151 @@ pub fn part(row_ptr: &[u32], row: usize) -> DenimraspPart
     }
 }
 
-pub fn topology_built(a: TopologyAnswer) -> DenimraspTopology
-    ensures { result ≡ topology_answer_of (told_topology a) }
-{
-    match a {
-        TopologyAnswer::Built {
-            words,
-            structural_nnz,
-        } => DenimraspTopology {
-            number: 0,
-            expected: 0,
-            actual: 0,
-            words: words,
-            structural_nnz: structural_nnz,
-        },
-        TopologyAnswer::Refused(e) => DenimraspTopology {
-            number: hybit_core::number(e),
-            expected: hybit_core::expected(e),
-            actual: hybit_core::actual(e),
-            words: 0,
-            structural_nnz: 0,
-        },
+impl From<Result<TopologySize, HybitError>> for DenimraspTopology {
+    ghost from_gives = { λ a r. r ≡ topology_answer_of (given a) };
+
+    fn from(a: Result<TopologySize, HybitError>) -> DenimraspTopology {
+        match a {
+            Ok(
+                TopologySize {
+                    words,
+                    structural_nnz,
+                },
+            ) => DenimraspTopology {
+                number: 0,
+                expected: 0,
+                actual: 0,
+                words: words,
+                structural_nnz: structural_nnz,
+            },
+            Err(e) => DenimraspTopology {
+                number: e.number(),
+                expected: e.expected(),
+                actual: e.actual(),
+                words: 0,
+                structural_nnz: 0,
+            },
+        }
     }
 }
 
-pub fn topology_stats(a: StatsAnswer) -> DenimraspTopologyStats
-    ensures { result ≡ topology_stats_of (told_stats a) }
-{
-    match a {
-        StatsAnswer::Stats(s) => DenimraspTopologyStats {
-            number: 0,
-            expected: 0,
-            actual: 0,
-            nrows: s.nrows,
-            ncols: s.ncols,
-            structural_nnz: s.structural_nnz,
-            nonempty_words: s.nonempty_words,
-            metadata_bytes: s.metadata_bytes,
-        },
-        StatsAnswer::Refused(e) => DenimraspTopologyStats {
-            number: hybit_core::number(e),
-            expected: hybit_core::expected(e),
-            actual: hybit_core::actual(e),
-            nrows: 0,
-            ncols: 0,
-            structural_nnz: 0,
-            nonempty_words: 0,
-            metadata_bytes: 0,
-        },
+impl From<Result<AbtmTopologyStats, HybitError>> for DenimraspTopologyStats {
+    ghost from_gives = { λ a r. r ≡ topology_stats_of (given a) };
+
+    fn from(a: Result<AbtmTopologyStats, HybitError>) -> DenimraspTopologyStats {
+        match a {
+            Ok(s) => DenimraspTopologyStats {
+                number: 0,
+                expected: 0,
+                actual: 0,
+                nrows: s.nrows,
+                ncols: s.ncols,
+                structural_nnz: s.structural_nnz,
+                nonempty_words: s.nonempty_words,
+                metadata_bytes: s.metadata_bytes,
+            },
+            Err(e) => DenimraspTopologyStats {
+                number: e.number(),
+                expected: e.expected(),
+                actual: e.actual(),
+                nrows: 0,
+                ncols: 0,
+                structural_nnz: 0,
+                nonempty_words: 0,
+                metadata_bytes: 0,
+            },
+        }
     }
 }
 
-pub fn store_stats(a: StoreStatsAnswer) -> DenimraspStoreStats
-    ensures { result ≡ store_stats_of (told_store_stats a) }
-{
-    match a {
-        StoreStatsAnswer::Stats(s) => DenimraspStoreStats {
-            number: 0,
-            expected: 0,
-            actual: 0,
-            nrows: s.nrows,
-            ncols: s.ncols,
-            structural_nnz: s.structural_nnz,
-            topology_metadata_bytes: s.topology_metadata_bytes,
-            value_row_ptr_bytes: s.value_row_ptr_bytes,
-            packed_value_bytes: s.packed_value_bytes,
-        },
-        StoreStatsAnswer::Refused(e) => DenimraspStoreStats {
-            number: hybit_core::number(e),
-            expected: hybit_core::expected(e),
-            actual: hybit_core::actual(e),
-            nrows: 0,
-            ncols: 0,
-            structural_nnz: 0,
-            topology_metadata_bytes: 0,
-            value_row_ptr_bytes: 0,
-            packed_value_bytes: 0,
-        },
+impl From<Result<AbtmMetadataFirstStats, HybitError>> for DenimraspStoreStats {
+    ghost from_gives = { λ a r. r ≡ store_stats_of (given a) };
+
+    fn from(a: Result<AbtmMetadataFirstStats, HybitError>) -> DenimraspStoreStats {
+        match a {
+            Ok(s) => DenimraspStoreStats {
+                number: 0,
+                expected: 0,
+                actual: 0,
+                nrows: s.nrows,
+                ncols: s.ncols,
+                structural_nnz: s.structural_nnz,
+                topology_metadata_bytes: s.topology_metadata_bytes,
+                value_row_ptr_bytes: s.value_row_ptr_bytes,
+                packed_value_bytes: s.packed_value_bytes,
+            },
+            Err(e) => DenimraspStoreStats {
+                number: e.number(),
+                expected: e.expected(),
+                actual: e.actual(),
+                nrows: 0,
+                ncols: 0,
+                structural_nnz: 0,
+                topology_metadata_bytes: 0,
+                value_row_ptr_bytes: 0,
+                packed_value_bytes: 0,
+            },
+        }
     }
 }
 
-pub fn dot(a: DotAnswer) -> DenimraspDot
-    ensures { result ≡ dot_answer_of (told_dot a) }
-{
-    match a {
-        DotAnswer::Dot(d) => DenimraspDot {
-            number: 0,
-            expected: 0,
-            actual: 0,
-            sum: d.sum,
-            candidate_products: d.candidate_products,
-            executed_products: d.executed_products,
-            skipped_products: d.skipped_products,
-            topology_words: d.topology_words,
-            active_words: d.active_words,
-        },
-        DotAnswer::Refused(e) => DenimraspDot {
-            number: hybit_core::number(e),
-            expected: hybit_core::expected(e),
-            actual: hybit_core::actual(e),
-            sum: 0.0f64,
-            candidate_products: 0,
-            executed_products: 0,
-            skipped_products: 0,
-            topology_words: 0,
-            active_words: 0,
-        },
+impl From<Result<AbtmRowDot, HybitError>> for DenimraspDot {
+    ghost from_gives = { λ a r. r ≡ dot_answer_of (given a) };
+
+    fn from(a: Result<AbtmRowDot, HybitError>) -> DenimraspDot {
+        match a {
+            Ok(d) => DenimraspDot {
+                number: 0,
+                expected: 0,
+                actual: 0,
+                sum: d.sum,
+                candidate_products: d.candidate_products,
+                executed_products: d.executed_products,
+                skipped_products: d.skipped_products,
+                topology_words: d.topology_words,
+                active_words: d.active_words,
+            },
+            Err(e) => DenimraspDot {
+                number: e.number(),
+                expected: e.expected(),
+                actual: e.actual(),
+                sum: 0.0f64,
+                candidate_products: 0,
+                executed_products: 0,
+                skipped_products: 0,
+                topology_words: 0,
+                active_words: 0,
+            },
+        }
     }
 }
 
-pub fn totals(a: TotalsAnswer) -> DenimraspTotals
-    ensures { result ≡ totals_of (told_totals a) }
-{
-    match a {
-        TotalsAnswer::Totals(t) => DenimraspTotals {
-            number: 0,
-            expected: 0,
-            actual: 0,
-            candidate_products: t.candidate_products,
-            executed_products: t.executed_products,
-            skipped_products: t.skipped_products,
-            topology_words: t.topology_words,
-            active_words: t.active_words,
-        },
-        TotalsAnswer::Refused(e) => DenimraspTotals {
-            number: hybit_core::number(e),
-            expected: hybit_core::expected(e),
-            actual: hybit_core::actual(e),
-            candidate_products: 0,
-            executed_products: 0,
-            skipped_products: 0,
-            topology_words: 0,
-            active_words: 0,
-        },
+impl From<Result<AbtmProductPruningStats, HybitError>> for DenimraspTotals {
+    ghost from_gives = { λ a r. r ≡ totals_of (given a) };
+
+    fn from(a: Result<AbtmProductPruningStats, HybitError>) -> DenimraspTotals {
+        match a {
+            Ok(t) => DenimraspTotals {
+                number: 0,
+                expected: 0,
+                actual: 0,
+                candidate_products: t.candidate_products,
+                executed_products: t.executed_products,
+                skipped_products: t.skipped_products,
+                topology_words: t.topology_words,
+                active_words: t.active_words,
+            },
+            Err(e) => DenimraspTotals {
+                number: e.number(),
+                expected: e.expected(),
+                actual: e.actual(),
+                candidate_products: 0,
+                executed_products: 0,
+                skipped_products: 0,
+                topology_words: 0,
+                active_words: 0,
+            },
+        }
     }
 }
 
@@ -516,184 +530,200 @@ fn kind_number(k: TileKind) -> usize
 }
 
 // A tile's kind as a number.
-pub fn kind(a: KindAnswer) -> DenimraspCount
-    ensures { result ≡ count_of (told_kind a) }
-{
-    match a {
-        KindAnswer::Kind(k) => DenimraspCount {
-            number: 0,
-            expected: 0,
-            actual: 0,
-            count: kind_number(k),
-        },
-        KindAnswer::Refused(e) => DenimraspCount {
-            number: hybit_core::number(e),
-            expected: hybit_core::expected(e),
-            actual: hybit_core::actual(e),
-            count: 0,
-        },
+impl From<Result<TileKind, HybitError>> for DenimraspCount {
+    ghost from_gives = { λ a r. r ≡ count_of (told_kind a) };
+
+    fn from(a: Result<TileKind, HybitError>) -> DenimraspCount {
+        match a {
+            Ok(k) => DenimraspCount {
+                number: 0,
+                expected: 0,
+                actual: 0,
+                count: kind_number(k),
+            },
+            Err(e) => DenimraspCount {
+                number: e.number(),
+                expected: e.expected(),
+                actual: e.actual(),
+                count: 0,
+            },
+        }
     }
 }
 
-pub fn tiles_built(a: TilesAnswer) -> DenimraspTiles
-    ensures { result ≡ tiles_answer_of (told_tiles a) }
-{
-    match a {
-        TilesAnswer::Built {
-            tiles,
-            value_slots,
-            matrix_nnz,
-        } => DenimraspTiles {
-            number: 0,
-            expected: 0,
-            actual: 0,
-            tiles: tiles,
-            value_slots: value_slots,
-            matrix_nnz: matrix_nnz,
-        },
-        TilesAnswer::Refused(e) => DenimraspTiles {
-            number: hybit_core::number(e),
-            expected: hybit_core::expected(e),
-            actual: hybit_core::actual(e),
-            tiles: 0,
-            value_slots: 0,
-            matrix_nnz: 0,
-        },
+impl From<Result<TilesSize, HybitError>> for DenimraspTiles {
+    ghost from_gives = { λ a r. r ≡ tiles_answer_of (given a) };
+
+    fn from(a: Result<TilesSize, HybitError>) -> DenimraspTiles {
+        match a {
+            Ok(
+                TilesSize {
+                    tiles,
+                    value_slots,
+                    matrix_nnz,
+                },
+            ) => DenimraspTiles {
+                number: 0,
+                expected: 0,
+                actual: 0,
+                tiles: tiles,
+                value_slots: value_slots,
+                matrix_nnz: matrix_nnz,
+            },
+            Err(e) => DenimraspTiles {
+                number: e.number(),
+                expected: e.expected(),
+                actual: e.actual(),
+                tiles: 0,
+                value_slots: 0,
+                matrix_nnz: 0,
+            },
+        }
     }
 }
 
-pub fn tile_stats(a: AbtmStatsAnswer) -> DenimraspTileStats
-    ensures { result ≡ tile_stats_of (told_tile_stats a) }
-{
-    match a {
-        AbtmStatsAnswer::Stats(s) => DenimraspTileStats {
-            number: 0,
-            expected: 0,
-            actual: 0,
-            nrows: s.nrows,
-            ncols: s.ncols,
-            matrix_nnz: s.matrix_nnz,
-            tiles: s.tiles,
-            sparse_tiles: s.sparse_tiles,
-            bitmap_tiles: s.bitmap_tiles,
-            dense_tiles: s.dense_tiles,
-            value_slots: s.value_slots,
-            metadata_bytes: s.metadata_bytes,
-        },
-        AbtmStatsAnswer::Refused(e) => DenimraspTileStats {
-            number: hybit_core::number(e),
-            expected: hybit_core::expected(e),
-            actual: hybit_core::actual(e),
-            nrows: 0,
-            ncols: 0,
-            matrix_nnz: 0,
-            tiles: 0,
-            sparse_tiles: 0,
-            bitmap_tiles: 0,
-            dense_tiles: 0,
-            value_slots: 0,
-            metadata_bytes: 0,
-        },
+impl From<Result<AbtmStats, HybitError>> for DenimraspTileStats {
+    ghost from_gives = { λ a r. r ≡ tile_stats_of (given a) };
+
+    fn from(a: Result<AbtmStats, HybitError>) -> DenimraspTileStats {
+        match a {
+            Ok(s) => DenimraspTileStats {
+                number: 0,
+                expected: 0,
+                actual: 0,
+                nrows: s.nrows,
+                ncols: s.ncols,
+                matrix_nnz: s.matrix_nnz,
+                tiles: s.tiles,
+                sparse_tiles: s.sparse_tiles,
+                bitmap_tiles: s.bitmap_tiles,
+                dense_tiles: s.dense_tiles,
+                value_slots: s.value_slots,
+                metadata_bytes: s.metadata_bytes,
+            },
+            Err(e) => DenimraspTileStats {
+                number: e.number(),
+                expected: e.expected(),
+                actual: e.actual(),
+                nrows: 0,
+                ncols: 0,
+                matrix_nnz: 0,
+                tiles: 0,
+                sparse_tiles: 0,
+                bitmap_tiles: 0,
+                dense_tiles: 0,
+                value_slots: 0,
+                metadata_bytes: 0,
+            },
+        }
     }
 }
 
-pub fn restriction(a: RestrictAnswer) -> DenimraspRestriction
-    ensures { result ≡ restriction_answer_of (told_restriction a) }
-{
-    match a {
-        RestrictAnswer::Built(s) => DenimraspRestriction {
-            number: 0,
-            expected: 0,
-            actual: 0,
-            nrows: s.nrows,
-            ncols: s.ncols,
-            source_nnz: s.source_nnz,
-            retained_nnz: s.retained_nnz,
-        },
-        RestrictAnswer::Refused(e) => DenimraspRestriction {
-            number: hybit_core::number(e),
-            expected: hybit_core::expected(e),
-            actual: hybit_core::actual(e),
-            nrows: 0,
-            ncols: 0,
-            source_nnz: 0,
-            retained_nnz: 0,
-        },
+impl From<Result<ColumnRestriction, HybitError>> for DenimraspRestriction {
+    ghost from_gives = { λ a r. r ≡ restriction_answer_of (given a) };
+
+    fn from(a: Result<ColumnRestriction, HybitError>) -> DenimraspRestriction {
+        match a {
+            Ok(s) => DenimraspRestriction {
+                number: 0,
+                expected: 0,
+                actual: 0,
+                nrows: s.nrows,
+                ncols: s.ncols,
+                source_nnz: s.source_nnz,
+                retained_nnz: s.retained_nnz,
+            },
+            Err(e) => DenimraspRestriction {
+                number: e.number(),
+                expected: e.expected(),
+                actual: e.actual(),
+                nrows: 0,
+                ncols: 0,
+                source_nnz: 0,
+                retained_nnz: 0,
+            },
+        }
     }
 }
 
-pub fn region(a: LocalAnswer) -> DenimraspRegion
-    ensures { result ≡ region_answer_of (told_region a) }
-{
-    match a {
-        LocalAnswer::Built(s) => DenimraspRegion {
-            number: 0,
-            expected: 0,
-            actual: 0,
-            global_size: s.global_size,
-            local_nodes: s.local_nodes,
-            local_nnz: s.local_nnz,
-            source_row_nnz: s.source_row_nnz,
-        },
-        LocalAnswer::Refused(e) => DenimraspRegion {
-            number: hybit_core::number(e),
-            expected: hybit_core::expected(e),
-            actual: hybit_core::actual(e),
-            global_size: 0,
-            local_nodes: 0,
-            local_nnz: 0,
-            source_row_nnz: 0,
-        },
+impl From<Result<LocalRegion, HybitError>> for DenimraspRegion {
+    ghost from_gives = { λ a r. r ≡ region_answer_of (given a) };
+
+    fn from(a: Result<LocalRegion, HybitError>) -> DenimraspRegion {
+        match a {
+            Ok(s) => DenimraspRegion {
+                number: 0,
+                expected: 0,
+                actual: 0,
+                global_size: s.global_size,
+                local_nodes: s.local_nodes,
+                local_nnz: s.local_nnz,
+                source_row_nnz: s.source_row_nnz,
+            },
+            Err(e) => DenimraspRegion {
+                number: e.number(),
+                expected: e.expected(),
+                actual: e.actual(),
+                global_size: 0,
+                local_nodes: 0,
+                local_nnz: 0,
+                source_row_nnz: 0,
+            },
+        }
     }
 }
 
-pub fn blocks_built(a: BlocksAnswer) -> DenimraspBlocks
-    ensures { result ≡ blocks_answer_of (told_blocks a) }
-{
-    match a {
-        BlocksAnswer::Built(s) => DenimraspBlocks {
-            number: 0,
-            expected: 0,
-            actual: 0,
-            nrows: s.nrows,
-            ncols: s.ncols,
-            block_rows: s.block_rows,
-            unique_blocks: s.unique_blocks,
-            dense_value_slots: s.dense_value_slots,
-            structural_slots: s.structural_slots,
-            valid_dense_slots: s.valid_dense_slots,
-        },
-        BlocksAnswer::Refused(e) => DenimraspBlocks {
-            number: hybit_core::number(e),
-            expected: hybit_core::expected(e),
-            actual: hybit_core::actual(e),
-            nrows: 0,
-            ncols: 0,
-            block_rows: 0,
-            unique_blocks: 0,
-            dense_value_slots: 0,
-            structural_slots: 0,
-            valid_dense_slots: 0,
-        },
+impl From<Result<DenseBlocks, HybitError>> for DenimraspBlocks {
+    ghost from_gives = { λ a r. r ≡ blocks_answer_of (given a) };
+
+    fn from(a: Result<DenseBlocks, HybitError>) -> DenimraspBlocks {
+        match a {
+            Ok(s) => DenimraspBlocks {
+                number: 0,
+                expected: 0,
+                actual: 0,
+                nrows: s.nrows,
+                ncols: s.ncols,
+                block_rows: s.block_rows,
+                unique_blocks: s.unique_blocks,
+                dense_value_slots: s.dense_value_slots,
+                structural_slots: s.structural_slots,
+                valid_dense_slots: s.valid_dense_slots,
+            },
+            Err(e) => DenimraspBlocks {
+                number: e.number(),
+                expected: e.expected(),
+                actual: e.actual(),
+                nrows: 0,
+                ncols: 0,
+                block_rows: 0,
+                unique_blocks: 0,
+                dense_value_slots: 0,
+                structural_slots: 0,
+                valid_dense_slots: 0,
+            },
+        }
     }
 }
 
-pub fn ratio(a: RatioAnswer) -> DenimraspRatio
-    ensures { result ≡ ratio_answer_of (told_ratio a) }
-{
-    match a {
-        RatioAnswer::Ratio(v) => DenimraspRatio {
-            number: 0,
-            expected: 0,
-            actual: 0,
-            ratio: v,
-        },
-        RatioAnswer::Refused(e) => DenimraspRatio {
-            number: hybit_core::number(e),
-            expected: hybit_core::expected(e),
-            actual: hybit_core::actual(e),
-            ratio: 0.0,
-        },
+impl From<Result<f64, HybitError>> for DenimraspRatio {
+    ghost from_gives = { λ a r. r ≡ ratio_answer_of (given a) };
+
+    fn from(a: Result<f64, HybitError>) -> DenimraspRatio {
+        match a {
+            Ok(v) => DenimraspRatio {
+                number: 0,
+                expected: 0,
+                actual: 0,
+                ratio: v,
+            },
+            Err(e) => DenimraspRatio {
+                number: e.number(),
+                expected: e.expected(),
+                actual: e.actual(),
+                ratio: 0.0,
+            },
+        }
     }
 }
 

@@ -47,7 +47,7 @@ use denimrasp_answers::{
     DenimraspVerdict,
 };
 use dense_block::DenseBlocks;
-use hybit_core::{HybitError, Verdict};
+use hybit_core::HybitError;
 use metadata_first::{AbtmMetadataFirstStats, AbtmProductPruningStats};
 use restricted::{ColumnRestriction, LocalRegion};
 use topology::{AbtmTopologyStats, AbtmTopologyWord};

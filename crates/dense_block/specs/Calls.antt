@@ -1,18 +1,13 @@
 -- The figures of blocks (document 01, "Blocks"), and what a build of them answers.
 use Rattle.std.specs.Prelude.{ℕ, ◌+◌, ◌*◌, ◌/◌, Bool, ◌&&◌, leb, length, Float}
-use Rattle.hybit_core.specs.Answer.{Answer, Given, gives, refuses, demand, answers, ◌and_then◌}
+use Rattle.hybit_core.specs.Answer.{Answer, Given, demand, answers, ◌and_then◌}
 use Rattle.hybit_core.specs.Domain.{saturated}
 use Rattle.hybit_core.specs.Floats.{ratio_of}
-use Rattle.hybit_core.specs.Table.{paper}
 use Rattle.lent.specs.Lists.{joined, part, only}
 use Rattle.csr32.specs.Csr.{Csr, csr_answer}
 use Rattle.csr32.specs.Made.{CsrRoom}
 use Rattle.dense_block.specs.Blocks.{Blocks, blocks_for, blocks_of, structural_slots, valid_slots, blocks_answer}
 use Rattle.dense_block.specs.declared.DenseBlocks.{DenseBlocks}
-use Rattle.dense_block.specs.declared.BlocksAnswer.{BlocksAnswer}
-use Rattle.dense_block.specs.declared.BlocksAnswer.TheVariants as made
-use Rattle.dense_block.specs.declared.RatioAnswer.{RatioAnswer}
-use Rattle.dense_block.specs.declared.RatioAnswer.TheVariants as share
 
 -- ---- a build's answer
 
@@ -39,10 +34,6 @@ fits_blocks b room = leb (length b.ptr) room.ptr && leb (length b.col) room.col 
 -- from_csr32: 1; 2, 3, 4; 13
 unfoldable pub build_blocks_answer : Csr → ℕ → CsrRoom → Answer
 build_blocks_answer m w room = csr_answer m and_then demand (fits_blocks (blocks_of m w) room) 13
-
-abbrev pub told_blocks : BlocksAnswer → Given DenseBlocks
-told_blocks (made.Built s) = gives s
-told_blocks (made.Refused e) = refuses (paper e)
 
 -- ---- figures
 
@@ -71,7 +62,3 @@ fast_fraction b = ratio_of (fast_blocks b) (length b.col)
 
 abbrev pub fast_answer : Blocks → Given Float
 fast_answer b = answers (blocks_answer b) (fast_fraction b)
-
-abbrev pub told_ratio : RatioAnswer → Given Float
-told_ratio (share.Ratio v) = gives v
-told_ratio (share.Refused e) = refuses (paper e)

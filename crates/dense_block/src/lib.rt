@@ -26,19 +26,6 @@ pub struct DenseBlocks {
     pub valid_dense_slots: usize,
 }
 
-// `Result<DenseBlockCsrOperator, HybitError>`
-#[derive(Clone, Copy)]
-pub enum BlocksAnswer {
-    Built(DenseBlocks),
-    Refused(HybitError),
-}
-
-#[derive(Clone, Copy)]
-pub enum RatioAnswer {
-    Ratio(f64),
-    Refused(HybitError),
-}
-
 impl DenseBlockSize {
     pub fn width(self) -> usize
         ensures { result ≡ width_of self }
@@ -73,15 +60,15 @@ impl DenseBlockSize {
     pub fn key_of(self, col: u32) -> usize
         ensures { result ≡ col / width_of self }
     {
-        self.full_blocks(hybit_core::wide(col))
+        self.full_blocks(col as usize)
     }
 
     pub fn place_of(self, col: u32) -> usize
         ensures { result ≡ col % width_of self }
     {
         match self {
-            DenseBlockSize::B3 => hybit_core::wide(col) % 3,
-            DenseBlockSize::B6 => hybit_core::wide(col) % 6,
+            DenseBlockSize::B3 => col as usize % 3,
+            DenseBlockSize::B6 => col as usize % 6,
         }
     }
 }
@@ -121,17 +108,14 @@ impl DenseBlocks {
     pub fn metadata_bytes(self) -> usize
         ensures { result ≡ block_metadata_bytes self }
     {
-        let pointers = hybit_core::saturating_mul(
-            4,
-            hybit_core::saturating_add(self.block_rows, 1),
-        );
-        hybit_core::saturating_add(pointers, hybit_core::saturating_mul(4, self.unique_blocks))
+        let pointers = 4usize.saturating_mul(self.block_rows.saturating_add(1));
+        pointers.saturating_add(4usize.saturating_mul(self.unique_blocks))
     }
 
     pub fn storage_bytes(self) -> usize
         ensures { result ≡ block_storage_bytes self }
     {
-        let values = hybit_core::saturating_mul(8, self.dense_value_slots);
-        hybit_core::saturating_add(self.metadata_bytes(), values)
+        let values = 8usize.saturating_mul(self.dense_value_slots);
+        self.metadata_bytes().saturating_add(values)
     }
 }

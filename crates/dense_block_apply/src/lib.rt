@@ -12,7 +12,7 @@ ghost use Rattle.dense_block.specs.Blocks.{width_of, as_blocks};
 ghost use Rattle.dense_block_apply.specs.Product.{products, term_by_term, as_one, FullBlock, fast_end, added_blocks, block_sum, blocks_product, apply_blocks_answer};
 
 use dense_block::DenseBlockSize;
-use hybit_core::{HybitError, Verdict};
+use hybit_core::HybitError;
 
 fn term(values: &[f64], at: usize, x: &[f64], col: usize) -> f64
     requires { (at < length values.now) × (col < length x.now) }
@@ -68,7 +68,7 @@ fn add_full3(sums: [f64; 3], col_idx: &[u32], values: &[f64], x: &[f64], p: usiz
     ensures { result ≡ each (λ i. add binary64 (get_or sums i nan) (as_one (products values.now x.now (9 * p + 3 * i) (3 * get_or col_idx.now p 0) 3))) 3 }
 {
     let at = 9 * p;
-    let col = 3 * hybit_core::wide(col_idx[p]);
+    let col = 3 * col_idx[p] as usize;
     let a = sums[0] + three(values, at, x, col);
     let b = sums[1] + three(values, at + 3, x, col);
     let c = sums[2] + three(values, at + 6, x, col);
@@ -81,7 +81,7 @@ fn add_full6(sums: [f64; 6], col_idx: &[u32], values: &[f64], x: &[f64], p: usiz
     ensures { result ≡ each (λ i. add binary64 (get_or sums i nan) (as_one (products values.now x.now (36 * p + 6 * i) (6 * get_or col_idx.now p 0) 6))) 6 }
 {
     let at = 36 * p;
-    let col = 6 * hybit_core::wide(col_idx[p]);
+    let col = 6 * col_idx[p] as usize;
     let a = sums[0] + six(values, at, x, col);
     let b = sums[1] + six(values, at + 6, x, col);
     let c = sums[2] + six(values, at + 12, x, col);
@@ -141,7 +141,7 @@ fn fast_end(width: usize, ncols: usize, col_idx: &[u32], start: usize, end: usiz
     ensures { result ≡ fast_end width ncols col_idx.now start end }
 {
     if start < end {
-        if width * hybit_core::wide(col_idx[end - 1]) + width > ncols {
+        if width * col_idx[end - 1] as usize + width > ncols {
             return end - 1;
         }
     }
@@ -152,7 +152,7 @@ fn pointer(row_ptr: &[u32], row: usize) -> usize
     requires { row < length row_ptr.now }
     ensures { result ≡ get_or row_ptr.now row 0 }
 {
-    hybit_core::wide(row_ptr[row])
+    row_ptr[row] as usize
 }
 
 // How many full blocks a block row starts with.
@@ -194,7 +194,7 @@ fn add_blocks3(
     if p == end {
         return all;
     }
-    let col = 3 * hybit_core::wide(col_idx[p]);
+    let col = 3 * col_idx[p] as usize;
     add_tail3(all, ncols - col, values, 9 * p, x, col)
 }
 
@@ -223,10 +223,9 @@ fn two_rows3(
 {
     let a = pointer(row_ptr, row);
     let b = pointer(row_ptr, other);
-    let n = hybit_core::smaller(
-        full_count(3, ncols, row_ptr, col_idx, row),
-        full_count(3, ncols, row_ptr, col_idx, other),
-    );
+    let n = full_count(3, ncols, row_ptr, col_idx, row).min(full_count(
+        3, ncols, row_ptr, col_idx, other,
+    ));
     let mut one = [0.0f64; 3];
     let mut two = [0.0f64; 3];
     let mut i: usize = 0;
@@ -271,7 +270,7 @@ fn add_blocks6(
     if p == end {
         return all;
     }
-    let col = 6 * hybit_core::wide(col_idx[p]);
+    let col = 6 * col_idx[p] as usize;
     add_tail6(all, ncols - col, values, 36 * p, x, col)
 }
 
@@ -300,10 +299,9 @@ fn two_rows6(
 {
     let a = pointer(row_ptr, row);
     let b = pointer(row_ptr, other);
-    let n = hybit_core::smaller(
-        full_count(6, ncols, row_ptr, col_idx, row),
-        full_count(6, ncols, row_ptr, col_idx, other),
-    );
+    let n = full_count(6, ncols, row_ptr, col_idx, row).min(full_count(
+        6, ncols, row_ptr, col_idx, other,
+    ));
     let mut one = [0.0f64; 6];
     let mut two = [0.0f64; 6];
     let mut i: usize = 0;
@@ -362,7 +360,7 @@ fn apply3(
     let half = (full + 1) / 2;
     let mut row: usize = 0;
     while row < half {
-        let other = hybit_core::smaller(row + half, full - 1);
+        let other = (row + half).min(full - 1);
         let sums = two_rows3(nrows, ncols, row_ptr, col_idx, values, x, row, other);
         let first = sums.first;
         let second = sums.second;
@@ -399,7 +397,7 @@ fn apply6(
     let half = (full + 1) / 2;
     let mut row: usize = 0;
     while row < half {
-        let other = hybit_core::smaller(row + half, full - 1);
+        let other = (row + half).min(full - 1);
         let sums = two_rows6(nrows, ncols, row_ptr, col_idx, values, x, row, other);
         let first = sums.first;
         let second = sums.second;
@@ -441,9 +439,9 @@ fn partial_sum(
     let mut sum: f64 = 0.0;
     let mut p = pointer(row_ptr, last);
     while p < end {
-        let col = width * hybit_core::wide(col_idx[p]);
+        let col = width * col_idx[p] as usize;
         let at = p * (width * width) + width * local_row;
-        let count = hybit_core::smaller(width, ncols - col);
+        let count = width.min(ncols - col);
         let block = add_terms(0.0, count, values, at, x, col);
         sum = sum + block;
         p += 1;
@@ -502,26 +500,23 @@ fn examine_apply(
     values: &[f64],
     x: &[f64],
     places: usize,
-) -> Verdict
+) -> Result<(), HybitError>
     ensures { told result ≡ apply_blocks_answer (as_blocks nrows ncols (width_of size) row_ptr.now col_idx.now values.now) x.now places }
 {
-    let v = dense_block_check::check(nrows, ncols, size, row_ptr, col_idx, values);
-    if let Verdict::Refused(e) = v {
-        return Verdict::Refused(e);
-    }
+    dense_block_check::check(nrows, ncols, size, row_ptr, col_idx, values)?;
     if x.len() != ncols {
-        return Verdict::Refused(HybitError::DimensionMismatch {
+        return Err(HybitError::DimensionMismatch {
             expected: ncols,
             actual: x.len(),
         });
     }
     if places != nrows {
-        return Verdict::Refused(HybitError::DimensionMismatch {
+        return Err(HybitError::DimensionMismatch {
             expected: nrows,
             actual: places,
         });
     }
-    Verdict::Accepted
+    Ok(())
 }
 
 // The row products in y, which stays as it was where the call is refused.
@@ -534,14 +529,11 @@ pub fn apply(
     values: &[f64],
     x: &[f64],
     y: &mut [f64],
-) -> Verdict
+) -> Result<(), HybitError>
     ensures answer { told result ≡ apply_blocks_answer (as_blocks nrows ncols (width_of size) row_ptr.now col_idx.now values.now) x.now (length y.old) }
     ensures product { y.new ≡ kept (apply_blocks_answer (as_blocks nrows ncols (width_of size) row_ptr.now col_idx.now values.now) x.now (length y.old)) (blocks_product (as_blocks nrows ncols (width_of size) row_ptr.now col_idx.now values.now) x.now) y.old }
 {
-    let v = examine_apply(nrows, ncols, size, row_ptr, col_idx, values, x, y.len());
-    if let Verdict::Refused(e) = v {
-        return Verdict::Refused(e);
-    }
+    examine_apply(nrows, ncols, size, row_ptr, col_idx, values, x, y.len())?;
     fill_product(nrows, ncols, size, row_ptr, col_idx, values, x, y);
-    Verdict::Accepted
+    Ok(())
 }

@@ -1,4 +1,5 @@
 -- Laws of the public build: its figures, which lists are too short, and what each of its ends answers and leaves. Assumes nothing.
+use Rattle.std.specs.Prelude.{Result, Ok, Err}
 use mathlib.Core.Bool.{Bool, true, false, ◌&&◌}
 use mathlib.Core.List.{List, [], ◌++◌}
 use mathlib.Core.Path.{◌≡◌, refl, sym, ap, ap₂, ◌∙◌, subst}
@@ -12,10 +13,8 @@ use lib.Ieee.{Float}
 use borrow.Author.Tests.{le-leb, lt-leb, leb-true}
 use Rattle.hybit_core.specs.Answer.{Answer, accepted, refused, plain, demand, ◌and_then◌, Given, gives, refuses, answers}
 use Rattle.hybit_core.specs.Floats.{zero64}
-use Rattle.hybit_core.specs.Table.{paper, told_count}
+use Rattle.hybit_core.specs.Table.{paper, given}
 use Rattle.hybit_core.specs.declared.HybitError.{HybitError}
-use Rattle.hybit_core.specs.declared.CountAnswer.{CountAnswer}
-use Rattle.hybit_core.specs.declared.CountAnswer.TheVariants as counted
 use Rattle.hybit_core.proofs.BoolLaws.{and_left, and_right}
 use Rattle.hybit_core.proofs.AnswerLaws.{demand_accepted, then_first, then_second}
 use Rattle.lent.specs.Lent.{padded, built}
@@ -34,12 +33,12 @@ use Rattle.dense_block_build.proofs.FillLaws.{pointers_long, vals-count}
 
 -- ---- what a count answers
 
-pub count_given : (a : Answer) (x n : ℕ) (r : CountAnswer) → a ≡ accepted → told_count r ≡ answers a x → r ≡ counted.Count n → n ≡ x
-count_given a x n r k e q = let z : gives n ≡ gives x = sym (ap told_count q) ∙ e ∙ ap (λ (b : Answer). answers b x) k in cc
+pub count_given : (a : Answer) (x n : ℕ) (r : Result ℕ HybitError) → a ≡ accepted → given r ≡ answers a x → r ≡ Ok n → n ≡ x
+count_given a x n r k e q = let z : gives n ≡ gives x = sym (ap given q) ∙ e ∙ ap (λ (b : Answer). answers b x) k in cc
 
-pub count_never : (a : Answer) (x n : ℕ) (r : CountAnswer) (h : HybitError) → a ≡ accepted → told_count r ≡ answers a x → r ≡ counted.Refused h → n ≡ x
+pub count_never : (a : Answer) (x n : ℕ) (r : Result ℕ HybitError) (h : HybitError) → a ≡ accepted → given r ≡ answers a x → r ≡ Err h → n ≡ x
 count_never a x n r h k e q =
-    let z : refuses (paper h) ≡ gives x = sym (ap told_count q) ∙ e ∙ ap (λ (b : Answer). answers b x) k in
+    let z : refuses (paper h) ≡ gives x = sym (ap given q) ∙ e ∙ ap (λ (b : Answer). answers b x) k in
     let y : ◌≡◌ {A = ℕ} 0 1 = cc in
     absurd (omega arith)
 
@@ -88,12 +87,12 @@ module _ (m : Csr) (s : DenseBlockSize) (ok : csr_answer m ≡ accepted) where
 
 -- ---- what the call answers, and what its lists of np, nc and nv places hold
 
-abbrev Result : Answer → Given DenseBlocks → Csr → ℕ → ℕ → ℕ → ℕ → List ℕ → List ℕ → List Float → Type 0
-Result a g m w np nc nv op oc ov = (g ≡ answers a (figures_of m w)) × ((op ≡ built 0 np a (blocks_of m w).ptr) × ((oc ≡ built 0 nc a (blocks_of m w).col) × (ov ≡ built zero64 nv a (blocks_of m w).vals)))
+abbrev Outcome : Answer → Given DenseBlocks → Csr → ℕ → ℕ → ℕ → ℕ → List ℕ → List ℕ → List Float → Type 0
+Outcome a g m w np nc nv op oc ov = (g ≡ answers a (figures_of m w)) × ((op ≡ built 0 np a (blocks_of m w).ptr) × ((oc ≡ built 0 nc a (blocks_of m w).col) × (ov ≡ built zero64 nv a (blocks_of m w).vals)))
 
 -- ---- after the build of the block columns, which answered r
 
-module _ (m : Csr) (s : DenseBlockSize) (np nc nv : ℕ) (r : CountAnswer) (e : told_count r ≡ answers (columns_answer m (width_of s) np nc) (length (blocks_of m (width_of s)).col)) where
+module _ (m : Csr) (s : DenseBlockSize) (np nc nv : ℕ) (r : Result ℕ HybitError) (e : given r ≡ answers (columns_answer m (width_of s) np nc) (length (blocks_of m (width_of s)).col)) where
   abbrev whole : Answer
   whole = build_blocks_answer m (width_of s) (as_csr_room np nc nv)
 
@@ -111,20 +110,20 @@ module _ (m : Csr) (s : DenseBlockSize) (np nc nv : ℕ) (r : CountAnswer) (e : 
       go (refused u) p q x = x
 
   -- they are refused
-  pub columns_refused : (t : HybitError) (op oc : List ℕ) (ov : List Float) → r ≡ counted.Refused t → op ≡ built 0 np (columns_answer m (width_of s) np nc) (blocks_of m (width_of s)).ptr → oc ≡ built 0 nc (columns_answer m (width_of s) np nc) (blocks_of m (width_of s)).col → ov ≡ padded zero64 nv []
-      → Result (build_blocks_answer m (width_of s) (as_csr_room np nc nv)) (refuses (paper t)) m (width_of s) np nc nv op oc ov
+  pub columns_refused : (t : HybitError) (op oc : List ℕ) (ov : List Float) → r ≡ Err t → op ≡ built 0 np (columns_answer m (width_of s) np nc) (blocks_of m (width_of s)).ptr → oc ≡ built 0 nc (columns_answer m (width_of s) np nc) (blocks_of m (width_of s)).col → ov ≡ padded zero64 nv []
+      → Outcome (build_blocks_answer m (width_of s) (as_csr_room np nc nv)) (refuses (paper t)) m (width_of s) np nc nv op oc ov
   columns_refused t op oc ov k x y z = rw (refusal t no) (refl, (x ∙ ap (λ (a : Answer). built 0 np a (blocks_of m (width_of s)).ptr) no, (y ∙ ap (λ (a : Answer). built 0 nc a (blocks_of m (width_of s)).col) no, z)))
     where
       no : first ≡ refused (paper t)
-      no = go first (sym (ap told_count k) ∙ e)
+      no = go first (sym (ap given k) ∙ e)
         where
           go : (a : Answer) → refuses (paper t) ≡ answers a (length (blocks_of m (width_of s)).col) → a ≡ refused (paper t)
           go accepted q = let z : ◌≡◌ {A = ℕ} 0 1 = cc in absurd (omega arith)
           go (refused u) q = cc
 
-  module _ (blocks : ℕ) (k : r ≡ counted.Count blocks) where
+  module _ (blocks : ℕ) (k : r ≡ Ok blocks) where
     made : (first ≡ accepted) × (blocks ≡ length (blocks_of m (width_of s)).col)
-    made = go first refl (sym (ap told_count k) ∙ e)
+    made = go first refl (sym (ap given k) ∙ e)
       where
         go : (a : Answer) → first ≡ a → gives blocks ≡ answers a (length (blocks_of m (width_of s)).col) → (first ≡ accepted) × (blocks ≡ length (blocks_of m (width_of s)).col)
         go accepted q z = (q, cc)
@@ -155,7 +154,7 @@ module _ (m : Csr) (s : DenseBlockSize) (np nc nv : ℕ) (r : CountAnswer) (e : 
       total = slots_are m s checked blocks v made.1 ev
 
       pub values_short : (op oc : List ℕ) (ov : List Float) → nv / (v * v) < blocks → op ≡ padded 0 np [] → oc ≡ padded 0 nc [] → ov ≡ padded zero64 nv []
-          → Result (build_blocks_answer m (width_of s) (as_csr_room np nc nv)) (refuses (plain 13)) m (width_of s) np nc nv op oc ov
+          → Outcome (build_blocks_answer m (width_of s) (as_csr_room np nc nv)) (refuses (plain 13)) m (width_of s) np nc nv op oc ov
       values_short op oc ov h x y z =
           let l : nv < blocks * (v * v) = (div-lt_iff_lt-mul {k = v * v} {x = nv} {y = blocks} (square_pos s v ev)).0 h in
           let f : whole ≡ refused (plain 13) = decided false (lt-leb (length (blocks_of m (width_of s)).vals) nv (omega (arith, total))) in
@@ -182,7 +181,7 @@ module _ (m : Csr) (s : DenseBlockSize) (np nc nv : ℕ) (r : CountAnswer) (e : 
             )
 
         pub blocks_built : (figures : DenseBlocks) (op oc : List ℕ) (ov : List Float) → figures ≡ figures_of m (width_of s) → op ≡ built 0 np (columns_answer m (width_of s) np nc) (blocks_of m (width_of s)).ptr → oc ≡ built 0 nc (columns_answer m (width_of s) np nc) (blocks_of m (width_of s)).col → ov ≡ padded zero64 nv (blocks_of m (width_of s)).vals
-            → Result (build_blocks_answer m (width_of s) (as_csr_room np nc nv)) (gives figures) m (width_of s) np nc nv op oc ov
+            → Outcome (build_blocks_answer m (width_of s) (as_csr_room np nc nv)) (gives figures) m (width_of s) np nc nv op oc ov
         blocks_built figures op oc ov f x y z =
             let t : whole ≡ accepted = decided true (le-leb (length (blocks_of m (width_of s)).vals) nv (omega (arith, total, room))) in
             rw t (ap gives f, (x ∙ ap (λ (a : Answer). built 0 np a (blocks_of m (width_of s)).ptr) made.0, (y ∙ ap (λ (a : Answer). built 0 nc a (blocks_of m (width_of s)).col) made.0, z)))

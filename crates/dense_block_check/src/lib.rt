@@ -3,14 +3,14 @@
 #![tactic(auto)]
 
 ghost use Rattle.std.specs.Prelude.{◌≡◌, true, ◌&&◌, ◌+◌, ◌*◌, ◌≤◌, ◌^◌, leb, ltb, length};
-ghost use Rattle.hybit_core.specs.Table.{told};
+ghost use Rattle.hybit_core.specs.Table.{told, given};
 ghost use Rattle.lent.specs.Lists.{every, only, climbs};
 ghost use Rattle.csr32.specs.Csr.{framed};
 ghost use Rattle.dense_block.specs.Blocks.{width_of, blocks_for, as_blocks, rows_climb, blocks_rules, blocks_answer};
-ghost use Rattle.dense_block.specs.Calls.{fast_blocks, fast_answer, told_ratio};
+ghost use Rattle.dense_block.specs.Calls.{fast_blocks, fast_answer};
 
-use dense_block::{DenseBlockSize, RatioAnswer};
-use hybit_core::{HybitError, Verdict};
+use dense_block::DenseBlockSize;
+use hybit_core::HybitError;
 
 // The scan of a row keeps a flag and never leaves early, as those of csr32 do.
 fn also(holds: bool, test: bool) -> bool
@@ -56,8 +56,8 @@ fn rows_hold(
     let limit = hybit_core::narrow(size.blocks_for(ncols));
     let mut row: usize = 0;
     while row < rows {
-        let start = hybit_core::wide(row_ptr[row]);
-        let end = hybit_core::wide(row_ptr[row + 1]);
+        let start = row_ptr[row] as usize;
+        let end = row_ptr[row + 1] as usize;
         if !row_holds(&col_idx[start..end], limit) {
             return false;
         }
@@ -95,16 +95,16 @@ pub fn check(
     row_ptr: &[u32],
     col_idx: &[u32],
     values: &[f64],
-) -> Verdict
+) -> Result<(), HybitError>
     ensures { told result ≡ blocks_answer (as_blocks nrows ncols (width_of size) row_ptr.now col_idx.now values.now) }
 {
     if !hybit_core::sizes_fit(nrows, ncols, col_idx.len(), col_idx.len()) {
-        return Verdict::Refused(HybitError::SizeOverflow);
+        return Err(HybitError::SizeOverflow);
     }
     if !rules_hold(nrows, ncols, size, row_ptr, col_idx, values) {
-        return Verdict::Refused(HybitError::BadStore);
+        return Err(HybitError::BadStore);
     }
-    Verdict::Accepted
+    Ok(())
 }
 
 // How many of these block columns lie wholly inside a frame of `ncols`.
@@ -115,7 +115,7 @@ fn count_full(width: usize, ncols: usize, cols: &[u32]) -> usize
     let mut full: usize = 0;
     let mut i: usize = 0;
     while i < cols.len() {
-        full += hybit_core::one_if(width * hybit_core::wide(cols[i]) + width <= ncols);
+        full += usize::from(width * cols[i] as usize + width <= ncols);
         i += 1;
     }
     full
@@ -134,7 +134,7 @@ fn count_fast(
     ensures { result ≡ fast_blocks (as_blocks nrows ncols (width_of size) row_ptr.now col_idx.now values.now) }
 {
     let width = size.width();
-    let end = hybit_core::wide(row_ptr[size.full_blocks(nrows)]);
+    let end = row_ptr[size.full_blocks(nrows)] as usize;
     count_full(width, ncols, &col_idx[..end])
 }
 
@@ -146,13 +146,10 @@ pub fn fast_block_fraction(
     row_ptr: &[u32],
     col_idx: &[u32],
     values: &[f64],
-) -> RatioAnswer
-    ensures { told_ratio result ≡ fast_answer (as_blocks nrows ncols (width_of size) row_ptr.now col_idx.now values.now) }
+) -> Result<f64, HybitError>
+    ensures { given result ≡ fast_answer (as_blocks nrows ncols (width_of size) row_ptr.now col_idx.now values.now) }
 {
-    let v = check(nrows, ncols, size, row_ptr, col_idx, values);
-    if let Verdict::Refused(e) = v {
-        return RatioAnswer::Refused(e);
-    }
+    check(nrows, ncols, size, row_ptr, col_idx, values)?;
     let fast = count_fast(nrows, ncols, size, row_ptr, col_idx, values);
-    RatioAnswer::Ratio(hybit_core::ratio(fast as u64, col_idx.len() as u64))
+    Ok(hybit_core::ratio(fast as u64, col_idx.len() as u64))
 }

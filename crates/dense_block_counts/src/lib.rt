@@ -4,7 +4,7 @@
 
 ghost use Rattle.std.specs.Prelude.{◌≡◌, true, false, ◌≤◌, ◌^◌, ltb};
 ghost use Rattle.hybit_core.specs.Answer.{accepted, answers};
-ghost use Rattle.hybit_core.specs.Table.{told_count};
+ghost use Rattle.hybit_core.specs.Table.{given};
 ghost use Rattle.lent.specs.Lists.{every};
 ghost use Rattle.word.specs.Bits.{count};
 ghost use Rattle.mask.specs.Mask.{mask_words};
@@ -12,7 +12,7 @@ ghost use Rattle.mask.specs.Calls.{listed};
 ghost use Rattle.csr32.specs.Csr.{as_csr, csr_answer};
 ghost use Rattle.dense_block.specs.Blocks.{structural_slots};
 
-use hybit_core::{CountAnswer, Verdict};
+use hybit_core::HybitError;
 
 // How many distinct columns a row has, by a bitmap that is empty before and after.
 fn distinct(ncols: usize, cols: &[u32], bits: &mut [u64]) -> usize
@@ -25,8 +25,8 @@ fn distinct(ncols: usize, cols: &[u32], bits: &mut [u64]) -> usize
     let mut found: usize = 0;
     let mut k: usize = 0;
     while k < cols.len() {
-        let col = hybit_core::wide(cols[k]);
-        found += hybit_core::one_if(!word::contains_offset(bits[col / 64], col % 64));
+        let col = cols[k] as usize;
+        found += usize::from(!word::contains_offset(bits[col / 64], col % 64));
         levels::mark(bits, col);
         k += 1;
     }
@@ -50,8 +50,8 @@ fn count_structural(
     let mut slots: usize = 0;
     let mut row: usize = 0;
     while row < nrows {
-        let start = hybit_core::wide(row_ptr[row]);
-        let end = hybit_core::wide(row_ptr[row + 1]);
+        let start = row_ptr[row] as usize;
+        let end = row_ptr[row + 1] as usize;
         slots += distinct(ncols, &col_idx[start..end], &mut bits[..nwords]);
         row += 1;
     }
@@ -65,12 +65,9 @@ pub fn structural_slots(
     row_ptr: &[u32],
     col_idx: &[u32],
     values: &[f64],
-) -> CountAnswer
-    ensures { told_count result ≡ answers (csr_answer (as_csr nrows ncols row_ptr.now col_idx.now values.now)) (structural_slots (as_csr nrows ncols row_ptr.now col_idx.now values.now)) }
+) -> Result<usize, HybitError>
+    ensures { given result ≡ answers (csr_answer (as_csr nrows ncols row_ptr.now col_idx.now values.now)) (structural_slots (as_csr nrows ncols row_ptr.now col_idx.now values.now)) }
 {
-    let v = csr32::check(nrows, ncols, row_ptr, col_idx, values);
-    if let Verdict::Refused(e) = v {
-        return CountAnswer::Refused(e);
-    }
-    CountAnswer::Count(count_structural(nrows, ncols, row_ptr, col_idx, values))
+    csr32::check(nrows, ncols, row_ptr, col_idx, values)?;
+    Ok(count_structural(nrows, ncols, row_ptr, col_idx, values))
 }

@@ -1,11 +1,10 @@
 -- Laws of answers: a chain of checks at each return of the code that runs it, and what an accepted chain says. Assumes nothing.
 use Rattle.std.proofs.Common.{◌≡◌, ℕ, ◌^◌, ◌≤◌, Bool, true, false, not, ◌&&◌, eqb, sym, refl, ap, ◌∙◌, eq-eqb, ne_eqb, eqb-true, leb-true}
+use Rattle.std.specs.Prelude.{Result, Ok, Err}
 use borrow.Author.Tests.{not-false}
-use Rattle.hybit_core.specs.Answer.{plain, lengths_differ, Answer, accepted, refused, demand, demand_length, length_is, ◌and_then◌, number_in, gives, refuses, answers}
+use Rattle.hybit_core.specs.Answer.{Given, plain, lengths_differ, Answer, accepted, refused, demand, demand_length, length_is, ◌and_then◌, number_in, gives, refuses, answers}
 use Rattle.hybit_core.specs.Domain.{few}
-use Rattle.hybit_core.specs.Table.{paper, told}
-use Rattle.hybit_core.specs.declared.Verdict.{Verdict}
-use Rattle.hybit_core.specs.declared.Verdict.TheVariants.{Accepted, Refused}
+use Rattle.hybit_core.specs.Table.{paper, told, given}
 use Rattle.hybit_core.specs.declared.HybitError.{HybitError}
 
 -- ---- what an accepted chain says of each check
@@ -60,10 +59,10 @@ pub last_length_right : (e n : ℕ) → n ≡ e → accepted ≡ length_is e n
 last_length_right e n h = rw (eq-eqb n e h)
 
 -- a chain whose first part is a call that gave the verdict v
-pub call_refused : (a b : Answer) (v : Verdict) (e : HybitError) → told v ≡ a → v ≡ Refused e → refused (paper e) ≡ a and_then b
+pub call_refused : (a b : Answer) (v : Result Unit HybitError) (e : HybitError) → told v ≡ a → v ≡ Err e → refused (paper e) ≡ a and_then b
 call_refused a b v e h k = let is : a ≡ refused (paper e) = sym h ∙ ap told k in rw is
 
-pub call_accepted : (a b c : Answer) (v : Verdict) → told v ≡ a → v ≡ Accepted → c ≡ b → c ≡ a and_then b
+pub call_accepted : (a b c : Answer) (v : Result Unit HybitError) → told v ≡ a → v ≡ Ok tt → c ≡ b → c ≡ a and_then b
 call_accepted a b c v h k r = let is : a ≡ accepted = sym h ∙ ap told k in rw is r
 
 -- 1 of the mask has found nothing: the checks of the record beside it are next, then the mask's
@@ -72,30 +71,37 @@ by_records true true m r rest e = refl
 by_records true false m r rest e = refl
 by_records false s m r rest e = cc
 
+-- a call handed on by `?`, which returned r
+pub told_refused : (r : Result Unit HybitError) (e : HybitError) (a : Answer) → r ≡ Err e → refused (paper e) ≡ a → told r ≡ a
+told_refused r e a h k = rw h k
+
+pub given_refused_by : {A : Type 0} (r : Result A HybitError) (e : HybitError) (a : Given A) → r ≡ Err e → refuses (paper e) ≡ a → given r ≡ a
+given_refused_by r e a h k = rw h k
+
 pub ruleset checks = (test_fails, test_passes, last_fails, last_passes, call_refused, call_accepted, length_wrong, length_right, last_length_wrong, last_length_right)
 
 -- ---- a call whose checks a callee has run, which gave the verdict v
 
-pub accepted_by : (a : Answer) (v : Verdict) → told v ≡ a → v ≡ Accepted → a ≡ accepted
+pub accepted_by : (a : Answer) (v : Result Unit HybitError) → told v ≡ a → v ≡ Ok tt → a ≡ accepted
 accepted_by a v h k = sym h ∙ ap told k
 
-pub refused_by : (a : Answer) (v : Verdict) (e : HybitError) → told v ≡ a → v ≡ Refused e → a ≡ refused (paper e)
+pub refused_by : (a : Answer) (v : Result Unit HybitError) (e : HybitError) → told v ≡ a → v ≡ Err e → a ≡ refused (paper e)
 refused_by a v e h k = sym h ∙ ap told k
 
-pub answer_accepted : (a : Answer) (v : Verdict) → told v ≡ a → v ≡ Accepted → accepted ≡ a
+pub answer_accepted : (a : Answer) (v : Result Unit HybitError) → told v ≡ a → v ≡ Ok tt → accepted ≡ a
 answer_accepted a v h k = sym (accepted_by a v h k)
 
-pub answer_refused : (a : Answer) (v : Verdict) (e : HybitError) → told v ≡ a → v ≡ Refused e → refused (paper e) ≡ a
+pub answer_refused : (a : Answer) (v : Result Unit HybitError) (e : HybitError) → told v ≡ a → v ≡ Err e → refused (paper e) ≡ a
 answer_refused a v e h k = sym (refused_by a v e h k)
 
-pub number_by : (a : Answer) (v : Verdict) (n : ℕ) → told v ≡ a → n ≡ number_in (told v) → n ≡ number_in a
+pub number_by : (a : Answer) (v : Result Unit HybitError) (n : ℕ) → told v ≡ a → n ≡ number_in (told v) → n ≡ number_in a
 number_by a v n h e = e ∙ ap number_in h
 
 -- the result beside it
-pub given_refused : {A : Type 0} (a : Answer) (x : A) (v : Verdict) (e : HybitError) → told v ≡ a → v ≡ Refused e → refuses (paper e) ≡ answers a x
+pub given_refused : {A : Type 0} (a : Answer) (x : A) (v : Result Unit HybitError) (e : HybitError) → told v ≡ a → v ≡ Err e → refuses (paper e) ≡ answers a x
 given_refused a x v e h k = rw (refused_by a v e h k)
 
-pub given_accepted : {A : Type 0} (a : Answer) (x y : A) (v : Verdict) → told v ≡ a → v ≡ Accepted → y ≡ x → gives y ≡ answers a x
+pub given_accepted : {A : Type 0} (a : Answer) (x y : A) (v : Result Unit HybitError) → told v ≡ a → v ≡ Ok tt → y ≡ x → gives y ≡ answers a x
 given_accepted a x y v h k r = rw (accepted_by a v h k) (ap gives r)
 
 pub ruleset outcomes = (accepted_by, answer_accepted, answer_refused, number_by, given_refused, given_accepted)

@@ -1,16 +1,16 @@
 -- Laws of lent lists: what they hold while they are cleared or filled, and after a call whose checks gave an answer. Assumes nothing.
+use Rattle.std.specs.Prelude.{Result, Ok, Err}
 use mathlib.Core.Path.{◌≡◌, refl, sym, ap, ap₂, ◌∙◌}
 use mathlib.Core.List.{List, [], ◌∷◌, ◌++◌, append_assoc, append-nil}
 use Prim.Native.Nat.{ℕ, zero, suc, ◌+◌, ◌-◌, ◌≤◌, ◌<◌}
 use native.Mathlib.Nat.{sub-zero, add-zero}
 use native.Mathlib.Numerals.{add-one}
 use native.Mathlib.Omega.{arith}
-use lib.ListN.{get_or-append, length, take, drop, get_or, set, replicate, length-append, length-replicate, length-set, length-drop, drop_of_length-le, take-append-drop, replicate-append-replicate}
+use lib.ListN.{get_or-append, length, take, drop, get_or, set, replicate, length-append, length-replicate, length-set, length-take, length-drop, drop_of_length-le, take-append-drop, replicate-append-replicate}
 use lib.Seq.{get_or-drop, get_or-append-add, take_all, take_at, take-suc-set, length-take-le, drop-cons, set_at, append_snoc}
+use borrow.Rule.Slice.PartMut.{put_mid}
 use Rattle.hybit_core.specs.Answer.{Answer, accepted}
 use Rattle.hybit_core.specs.Table.{told}
-use Rattle.hybit_core.specs.declared.Verdict.{Verdict}
-use Rattle.hybit_core.specs.declared.Verdict.TheVariants.{Accepted, Refused}
 use Rattle.hybit_core.specs.declared.HybitError.{HybitError}
 use Rattle.hybit_core.proofs.AnswerLaws.{accepted_by, refused_by}
 use Rattle.lent.specs.Lists.{joined, each}
@@ -104,6 +104,16 @@ module _ {A : Type 0} (z : A) (from : ℕ) (old : List A) where
         let e : i ≡ length old = omega (arith, inv.inside, inv.same) in
         sym (take_all i new h) ∙ inv.front ∙ ap (λ (n : ℕ). padded z n (take from old)) e
 
+-- the part of s from a place on, cleared from its front
+pub cleared_tail : {A : Type 0} (z : A) (s : List A) (from i : ℕ) (new : List A) → from < length s → Cleared z 0 (take (length s - from) (drop from s)) i new
+    → length (take (length s - from) (drop from s)) ≤ i → put_mid from (length s - from) s new ≡ padded z (length s) (take from s)
+unfolding padded
+cleared_tail z s from i new h inv l =
+    let long : length (take (length s - from) (drop from s)) ≡ length s - from = simp (length-take, length-drop) (omega arith) in
+    let zeros : new ≡ replicate (length s - from) z = cleared_done z 0 _ i new inv (omega (arith, inv.same)) ∙ padded-none z _ ∙ ap (λ (n : ℕ). replicate n z) long in
+    let rest : drop (length s - from) (drop from s) ≡ [] = drop_of_length-le (drop from s) (simp length-drop (omega arith)) in
+    rw (zeros, rest, append-nil, length-take-le from s (omega arith)) refl
+
 -- ---- filling from the front, one store a turn: the first r are f's, and the others as they were
 
 pub record Filled {A : Type 0} (f : ℕ → A) (old : List A) (r : ℕ) (new : List A) : Type 0 where
@@ -165,16 +175,16 @@ module _ {A : Type 0} where
 -- ---- what a list holds after a call whose checks gave the verdict v
 
 module _ {A : Type 0} where
-  pub kept_refused : (a : Answer) (v : Verdict) (e : HybitError) (new old : List A) → told v ≡ a → v ≡ Refused e → old ≡ kept a new old
+  pub kept_refused : (a : Answer) (v : Result Unit HybitError) (e : HybitError) (new old : List A) → told v ≡ a → v ≡ Err e → old ≡ kept a new old
   kept_refused a v e new old h k = rw (refused_by a v e h k)
 
-  pub kept_accepted : (a : Answer) (v : Verdict) (new old out : List A) → told v ≡ a → v ≡ Accepted → out ≡ new → out ≡ kept a new old
+  pub kept_accepted : (a : Answer) (v : Result Unit HybitError) (new old out : List A) → told v ≡ a → v ≡ Ok tt → out ≡ new → out ≡ kept a new old
   kept_accepted a v new old out h k r = rw (accepted_by a v h k) r
 
-  pub built_refused : (z : A) (n : ℕ) (a : Answer) (v : Verdict) (e : HybitError) (new out : List A) → told v ≡ a → v ≡ Refused e → out ≡ padded z n [] → out ≡ built z n a new
+  pub built_refused : (z : A) (n : ℕ) (a : Answer) (v : Result Unit HybitError) (e : HybitError) (new out : List A) → told v ≡ a → v ≡ Err e → out ≡ padded z n [] → out ≡ built z n a new
   built_refused z n a v e new out h k r = rw (refused_by a v e h k) r
 
-  pub built_accepted : (z : A) (n : ℕ) (a : Answer) (v : Verdict) (new out : List A) → told v ≡ a → v ≡ Accepted → out ≡ padded z n new → out ≡ built z n a new
+  pub built_accepted : (z : A) (n : ℕ) (a : Answer) (v : Result Unit HybitError) (new out : List A) → told v ≡ a → v ≡ Ok tt → out ≡ padded z n new → out ≡ built z n a new
   built_accepted z n a v new out h k r = rw (accepted_by a v h k) r
 
 pub ruleset lists = (kept_refused, kept_accepted, built_refused, built_accepted)

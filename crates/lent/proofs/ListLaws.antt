@@ -2,12 +2,14 @@
 use mathlib.Core.Bool.{Bool, true, false, not, ◌&&◌, ◌||◌, and_assoc, or-false, or-true, true≢false, false≢true}
 use mathlib.Core.List.{List, [], ◌∷◌, ◌++◌, map, zip, zip_with, foldl, append_assoc, append-nil, map-append}
 use mathlib.Core.Path.{◌≡◌, refl, sym, ap, ap₂, ◌∙◌}
-use Prim.Native.Nat.{ℕ, zero, suc, ◌+◌, ◌-◌, ◌≤◌, ◌<◌}
+use Prim.Native.Nat.{ℕ, zero, suc, ◌+◌, ◌-◌, ◌≤◌, ◌<◌, min}
 use native.Mathlib.Nat.{sub-zero, le_refl, not-suc-le-zero}
 use native.Mathlib.Numerals.{add-one}
 use native.Mathlib.Decide.{le_ind, dec_lt}
 use native.Mathlib.Omega.{arith}
 use lib.Dec.{leb, eqb}
+use Rattle.std.proofs.Math.Nat.{min-eq_left, min-eq_right}
+use Rattle.std.proofs.lemmas.List.{get_or_past}
 use lib.ListN.{length, get_or, take, drop, set, replicate, length-set, length-replicate, length-drop, take-append-drop, drop_of_length-le, length-append, get_or-append}
 use lib.Seq.{ext_get_or, get_or-set_same, get_or-set_other, drop-cons, drop-drop, slice, take_all, take_at, drop_at, get_or-append-add}
 use borrow.Author.Tests.{eqb-true, eq-eqb}
@@ -228,6 +230,27 @@ slice_lent (suc a) (suc b) (x ∷ l) = let e : suc b - suc a ≡ b - a = omega a
 pub part_lent : {A : Type 0} (ptr : List ℕ) (l : List A) (r a b : ℕ) → a ≡ get_or ptr r 0 → b ≡ get_or ptr (r + 1) 0 → take (b - a) (drop a l) ≡ part ptr l r
 unfolding part
 part_lent ptr l r a b p q = slice_lent a b l ∙ ap₂ (λ (i j : ℕ). slice i j l) p q
+
+-- the same of a list that may be shorter than the next pointer: b is where the part ends in it
+module _ {A : Type 0} (ptr : List ℕ) (l : List A) (r e b : ℕ) (q : e ≡ get_or ptr (r + 1) 0) (k : b ≡ min e (length l)) where
+  part_end : slice (get_or ptr r 0) b l ≡ part ptr l r
+  unfolding part
+  part_end = go (dec_lt (length l) e)
+    where
+      go : Dec (length l < e) → slice (get_or ptr r 0) b l ≡ slice (get_or ptr r 0) (get_or ptr (r + 1) 0) l
+      go (yes h) =
+          ap (λ (t : List A). drop (get_or ptr r 0) t) (take_all b l (omega (arith, k ∙ min-eq_right (omega arith))) ∙ sym (take_all (get_or ptr (r + 1) 0) l (omega (arith, q))))
+      go (no h) = ap (λ (n : ℕ). slice (get_or ptr r 0) n l) (k ∙ min-eq_left (omega arith) ∙ q)
+
+  pub part_within : (a : ℕ) → a ≡ get_or ptr r 0 → take (b - a) (drop a l) ≡ part ptr l r
+  part_within a p = slice_lent a b l ∙ ap (λ (i : ℕ). slice i b l) p ∙ part_end
+
+  pub part_empty : (a : ℕ) → a ≡ get_or ptr r 0 → b ≤ a → [] ≡ part ptr l r
+  part_empty a p h = let z : b - a ≡ 0 = omega arith in ap (λ (n : ℕ). take n (drop a l)) (sym z) ∙ part_within a p
+
+pub part_past : {A : Type 0} (ptr : List ℕ) (l : List A) (r : ℕ) → length ptr ≤ r → [] ≡ part ptr l r
+part_past ptr l r h =
+    part_empty ptr l r 0 0 (sym (get_or_past ptr (r + 1) 0 (omega arith))) (sym (min-eq_left (omega arith))) 0 (sym (get_or_past ptr r 0 h)) (omega arith)
 
 pub every-zip : {A B : Type 0} (p : A → Bool) (q : B → Bool) (l : List A) (m : List B) → every p l ≡ true → every q m ≡ true → every (λ (e : A × B). p e.0 && q e.1) (zip l m) ≡ true
 unfolding every zip zip_with

@@ -1,4 +1,6 @@
 -- Laws of masks: a valid one is the words of its own membership, and the words of a membership are a valid mask. Assumes nothing.
+use Rattle.std.specs.Prelude.{Result, Ok}
+use Rattle.hybit_core.specs.declared.HybitError.{HybitError}
 use mathlib.Core.Bool.{Bool, true, false, ◌&&◌, true≢false, and-false}
 use mathlib.Core.List.{List}
 use mathlib.Core.Path.{◌≡◌, refl, sym, ap, ap₂, ◌∙◌}
@@ -13,8 +15,6 @@ use native.Mathlib.Nat.{div-le_self}
 use Rattle.hybit_core.specs.Answer.{accepted, demand}
 use Rattle.hybit_core.specs.Domain.{few}
 use Rattle.hybit_core.specs.Table.{told}
-use Rattle.hybit_core.specs.declared.Verdict.{Verdict}
-use Rattle.hybit_core.specs.declared.Verdict.TheVariants.{Accepted}
 use Rattle.hybit_core.proofs.AnswerLaws.{demand_accepted, then_first, then_second, accepted_by}
 use Rattle.hybit_core.proofs.BoolLaws.{and_left, and_right, same_test}
 use Rattle.lent.proofs.ListLaws.{length-each, get_or-each, each_is}
@@ -83,7 +83,7 @@ valid n ws ok =
     (demand_accepted (mask_rules (as_mask n ws)) 5 (then_second (demand (few n) 1) (demand (mask_rules (as_mask n ws)) 5) ok))
 
 -- the same where `check` gave the verdict v
-pub checked : (n : ℕ) (ws : List ℕ) (v : Verdict) → told v ≡ mask_answer (as_mask n ws) → v ≡ Accepted → Valid n ws
+pub checked : (n : ℕ) (ws : List ℕ) (v : Result Unit HybitError) → told v ≡ mask_answer (as_mask n ws) → v ≡ Ok tt → Valid n ws
 checked n ws v e t = valid n ws (accepted_by (mask_answer (as_mask n ws)) v e t)
 
 -- ---- the rules, as the code tests them

@@ -4,13 +4,13 @@
 
 ghost use Rattle.std.specs.Prelude.{◌≡◌, map, ◌+◌, ◌*◌, ◌≤◌, ◌^◌, eqb, length};
 ghost use Rattle.hybit_core.specs.Answer.{answers};
-ghost use Rattle.hybit_core.specs.Table.{told, told_count, told_bool};
+ghost use Rattle.hybit_core.specs.Table.{told, given};
 ghost use Rattle.lent.specs.Lent.{built, kept, Appended};
 ghost use Rattle.word.specs.Bits.{below, count, members};
 ghost use Rattle.mask.specs.Mask.{as_mask, bit_at, active, mask_words, mask_rules, mask_answer};
 ghost use Rattle.mask.specs.Calls.{indices_answer, joined_word};
 
-use hybit_core::{BoolAnswer, CountAnswer, HybitError, Verdict};
+use hybit_core::HybitError;
 
 // Whether the word count is right and no bit stands at or past the length. Only the last word can have such a bit.
 fn rules_hold(len: usize, words: &[u64]) -> bool
@@ -29,16 +29,16 @@ fn rules_hold(len: usize, words: &[u64]) -> bool
 }
 
 // The Rust's private fields make this check needless there.
-pub fn check(len: usize, words: &[u64]) -> Verdict
+pub fn check(len: usize, words: &[u64]) -> Result<(), HybitError>
     ensures { told result ≡ mask_answer (as_mask len words.now) }
 {
     if !hybit_core::dimension_fits(len) {
-        return Verdict::Refused(HybitError::SizeOverflow);
+        return Err(HybitError::SizeOverflow);
     }
     if !rules_hold(len, words) {
-        return Verdict::Refused(HybitError::BadMask);
+        return Err(HybitError::BadMask);
     }
-    Verdict::Accepted
+    Ok(())
 }
 
 // Whether `index` is a member, for any words: the test that loops make once the mask is checked. False past the length.
@@ -55,14 +55,11 @@ pub fn is_member(len: usize, words: &[u64], index: usize) -> bool
     word::contains_offset(words[at], index % 64)
 }
 
-pub fn contains(len: usize, words: &[u64], index: usize) -> BoolAnswer
-    ensures { told_bool result ≡ answers (mask_answer (as_mask len words.now)) (active (as_mask len words.now) index) }
+pub fn contains(len: usize, words: &[u64], index: usize) -> Result<bool, HybitError>
+    ensures { given result ≡ answers (mask_answer (as_mask len words.now)) (active (as_mask len words.now) index) }
 {
-    let v = check(len, words);
-    if let Verdict::Refused(e) = v {
-        return BoolAnswer::Refused(e);
-    }
-    BoolAnswer::Is(is_member(len, words, index))
+    check(len, words)?;
+    Ok(is_member(len, words, index))
 }
 
 // The ones of all words.
@@ -79,43 +76,39 @@ fn ones(words: &[u64]) -> usize
     n
 }
 
-pub fn count_ones(len: usize, words: &[u64]) -> CountAnswer
-    ensures { told_count result ≡ answers (mask_answer (as_mask len words.now)) (count (active (as_mask len words.now)) len) }
+pub fn count_ones(len: usize, words: &[u64]) -> Result<usize, HybitError>
+    ensures { given result ≡ answers (mask_answer (as_mask len words.now)) (count (active (as_mask len words.now)) len) }
 {
-    let v = check(len, words);
-    if let Verdict::Refused(e) = v {
-        return CountAnswer::Refused(e);
-    }
-    CountAnswer::Count(ones(words))
+    check(len, words)?;
+    Ok(ones(words))
 }
 
 // Whether no bit is set.
-pub fn is_empty(len: usize, words: &[u64]) -> BoolAnswer
-    ensures { told_bool result ≡ answers (mask_answer (as_mask len words.now)) (eqb (count (active (as_mask len words.now)) len) 0) }
+pub fn is_empty(len: usize, words: &[u64]) -> Result<bool, HybitError>
+    ensures { given result ≡ answers (mask_answer (as_mask len words.now)) (eqb (count (active (as_mask len words.now)) len) 0) }
 {
-    let v = check(len, words);
-    if let Verdict::Refused(e) = v {
-        return BoolAnswer::Refused(e);
-    }
-    BoolAnswer::Is(ones(words) == 0)
+    check(len, words)?;
+    Ok(ones(words) == 0)
 }
 
 // Joins `bits` into word `word_index`, the last word trimmed to the length; a word number past the end does nothing.
-pub fn or_word(len: usize, words: &mut [u64], word_index: usize, bits: u64) -> Verdict
+pub fn or_word(
+    len: usize,
+    words: &mut [u64],
+    word_index: usize,
+    bits: u64,
+) -> Result<(), HybitError>
     ensures answer { told result ≡ mask_answer (as_mask len words.old) }
     ensures list { words.new ≡ kept (mask_answer (as_mask len words.old))
         (mask_words (joined_word (active (as_mask len words.old)) word_index bits) len) words.old }
 {
-    let v = check(len, words);
-    if let Verdict::Refused(e) = v {
-        return Verdict::Refused(e);
-    }
+    check(len, words)?;
     if word_index >= words.len() {
-        return Verdict::Accepted;
+        return Ok(());
     }
     let trimmed = word::trimmed(bits, len - word_index * 64);
     words[word_index] = word::union(words[word_index], trimmed);
-    Verdict::Accepted
+    Ok(())
 }
 
 // Writes base + i for each bit i of the word, ascending, from place `from` of out on; answers the next place.
@@ -148,22 +141,19 @@ fn put_all(words: &[u64], out: &mut [usize]) -> usize
     at
 }
 
-fn examine_room(len: usize, words: &[u64], room: usize) -> Verdict
+fn examine_room(len: usize, words: &[u64], room: usize) -> Result<(), HybitError>
     ensures { told result ≡ indices_answer (as_mask len words.now) room }
 {
-    let v = check(len, words);
-    if let Verdict::Refused(e) = v {
-        return Verdict::Refused(e);
-    }
+    check(len, words)?;
     if room < ones(words) {
-        return Verdict::Refused(HybitError::ShortList);
+        return Err(HybitError::ShortList);
     }
-    Verdict::Accepted
+    Ok(())
 }
 
 // The members, ascending; answers how many, which is the used part.
-pub fn indices(len: usize, words: &[u64], out: &mut [usize]) -> CountAnswer
-    ensures answer { told_count result ≡ answers
+pub fn indices(len: usize, words: &[u64], out: &mut [usize]) -> Result<usize, HybitError>
+    ensures answer { given result ≡ answers
         (indices_answer (as_mask len words.now) (length out.old))
         (count (active (as_mask len words.now)) len) }
     ensures list { out.new ≡ built 0 (length out.old)
@@ -171,11 +161,11 @@ pub fn indices(len: usize, words: &[u64], out: &mut [usize]) -> CountAnswer
         (below (active (as_mask len words.now)) len) }
 {
     let v = examine_room(len, words, out.len());
-    if let Verdict::Refused(e) = v {
-        lent::clear_from_usize(out, 0);
-        return CountAnswer::Refused(e);
+    if let Err(e) = v {
+        lent::clear_from(out, 0);
+        return Err(e);
     }
     let n = put_all(words, out);
-    lent::clear_from_usize(out, n);
-    CountAnswer::Count(n)
+    lent::clear_from(out, n);
+    Ok(n)
 }

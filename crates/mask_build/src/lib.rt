@@ -9,7 +9,7 @@ ghost use Rattle.word.specs.Bits.{has, word_of, ceil64};
 ghost use Rattle.mask.specs.Mask.{as_mask, active, mask_words};
 ghost use Rattle.mask.specs.Calls.{new_answer, from_indices_answer, listed, set_answer, changed};
 
-use hybit_core::{HybitError, Verdict};
+use hybit_core::HybitError;
 
 // Whether a list of `room` words holds a mask of this length.
 fn words_fit(len: usize, room: usize) -> bool
@@ -19,25 +19,25 @@ fn words_fit(len: usize, room: usize) -> bool
     (len + 63) / 64 <= room
 }
 
-fn examine_new(len: usize, room: usize) -> Verdict
+fn examine_new(len: usize, room: usize) -> Result<(), HybitError>
     ensures { told result ≡ new_answer len room }
 {
     if !hybit_core::dimension_fits(len) {
-        return Verdict::Refused(HybitError::SizeOverflow);
+        return Err(HybitError::SizeOverflow);
     }
     if !words_fit(len, room) {
-        return Verdict::Refused(HybitError::ShortList);
+        return Err(HybitError::ShortList);
     }
-    Verdict::Accepted
+    Ok(())
 }
 
 // The empty mask. The used part is ceil(len / 64) words.
-pub fn new(len: usize, words: &mut [u64]) -> Verdict
+pub fn new(len: usize, words: &mut [u64]) -> Result<(), HybitError>
     ensures answer { told result ≡ new_answer len (length words.old) }
     ensures list { words.new ≡ built 0 (length words.old) (new_answer len (length words.old)) (mask_words (λ c. false) len) }
 {
     let v = examine_new(len, words.len());
-    lent::clear_from_u64(words, 0);
+    lent::clear_from(words, 0);
     v
 }
 
@@ -54,19 +54,19 @@ fn all_below(indices: &[usize], len: usize) -> bool
     true
 }
 
-fn examine_indices(len: usize, indices: &[usize], room: usize) -> Verdict
+fn examine_indices(len: usize, indices: &[usize], room: usize) -> Result<(), HybitError>
     ensures { told result ≡ from_indices_answer len indices.now room }
 {
     if !hybit_core::dimension_fits(len) {
-        return Verdict::Refused(HybitError::SizeOverflow);
+        return Err(HybitError::SizeOverflow);
     }
     if !all_below(indices, len) {
-        return Verdict::Refused(HybitError::NoSuchPlace);
+        return Err(HybitError::NoSuchPlace);
     }
     if !words_fit(len, room) {
-        return Verdict::Refused(HybitError::ShortList);
+        return Err(HybitError::ShortList);
     }
-    Verdict::Accepted
+    Ok(())
 }
 
 fn with_value(bits: u64, offset: usize, value: bool) -> u64
@@ -96,44 +96,38 @@ fn set_all(len: usize, indices: &[usize], words: &mut [u64])
 }
 
 // The mask whose members are the indices, in any order and with repeats. The used part is ceil(len / 64) words.
-pub fn from_indices(len: usize, indices: &[usize], words: &mut [u64]) -> Verdict
+pub fn from_indices(len: usize, indices: &[usize], words: &mut [u64]) -> Result<(), HybitError>
     ensures answer { told result ≡ from_indices_answer len indices.now (length words.old) }
     ensures list { words.new ≡ built 0 (length words.old)
         (from_indices_answer len indices.now (length words.old))
         (mask_words (listed indices.now) len) }
 {
     let v = examine_indices(len, indices, words.len());
-    lent::clear_from_u64(words, 0);
-    if let Verdict::Refused(e) = v {
-        return Verdict::Refused(e);
+    lent::clear_from(words, 0);
+    if let Err(e) = v {
+        return Err(e);
     }
     set_all(len, indices, words);
-    Verdict::Accepted
+    Ok(())
 }
 
-fn examine_set(len: usize, words: &[u64], index: usize) -> Verdict
+fn examine_set(len: usize, words: &[u64], index: usize) -> Result<(), HybitError>
     ensures { told result ≡ set_answer (as_mask len words.now) index }
 {
-    let v = mask::check(len, words);
-    if let Verdict::Refused(e) = v {
-        return Verdict::Refused(e);
-    }
+    mask::check(len, words)?;
     if len <= index {
-        return Verdict::Refused(HybitError::NoSuchPlace);
+        return Err(HybitError::NoSuchPlace);
     }
-    Verdict::Accepted
+    Ok(())
 }
 
-pub fn set(len: usize, words: &mut [u64], index: usize, value: bool) -> Verdict
+pub fn set(len: usize, words: &mut [u64], index: usize, value: bool) -> Result<(), HybitError>
     ensures answer { told result ≡ set_answer (as_mask len words.old) index }
     ensures list { words.new ≡ kept (set_answer (as_mask len words.old) index)
         (mask_words (changed (active (as_mask len words.old)) index value) len) words.old }
 {
-    let v = examine_set(len, words, index);
-    if let Verdict::Refused(e) = v {
-        return Verdict::Refused(e);
-    }
+    examine_set(len, words, index)?;
     let at = index / 64;
     words[at] = with_value(words[at], index % 64, value);
-    Verdict::Accepted
+    Ok(())
 }

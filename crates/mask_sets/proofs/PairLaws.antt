@@ -1,4 +1,5 @@
 -- Two masks: their words combined and met one after another, and what an accepted pair says. Assumes nothing.
+use Rattle.std.specs.Prelude.{Result, Ok, Err}
 use mathlib.Core.Bool.{Bool, true, false, not, ◌&&◌}
 use mathlib.Core.List.{List}
 use mathlib.Core.Path.{◌≡◌, refl, sym, ap, ap₂, ◌∙◌, subst}
@@ -12,8 +13,6 @@ use lib.ListN.{length, get_or, set, length-set}
 use Rattle.hybit_core.specs.Answer.{Answer, accepted, refused, lengths_differ, demand, length_is, ◌and_then◌}
 use Rattle.hybit_core.specs.Domain.{few}
 use Rattle.hybit_core.specs.Table.{told, paper}
-use Rattle.hybit_core.specs.declared.Verdict.{Verdict}
-use Rattle.hybit_core.specs.declared.Verdict.TheVariants.{Accepted, Refused}
 use Rattle.hybit_core.specs.declared.HybitError.{HybitError}
 use Rattle.hybit_core.proofs.AnswerLaws.{demand_accepted, then_first, then_second, length_accepted, test_passes, call_refused, call_accepted, last_length_wrong, last_length_right}
 use Rattle.hybit_core.proofs.BoolLaws.{and_left, and_right, and-next}
@@ -162,7 +161,7 @@ module _ (n : ℕ) (ws : List ℕ) (m : ℕ) (us : List ℕ) (ok : pair_answer (
 
 -- ---- the checks of both masks, where 1 has found nothing
 
-rules_told : (n : ℕ) (ws : List ℕ) (v : Verdict) → true ≡ few n → told v ≡ mask_answer (as_mask n ws) → told v ≡ demand (mask_rules (as_mask n ws)) 5
+rules_told : (n : ℕ) (ws : List ℕ) (v : Result Unit HybitError) → true ≡ few n → told v ≡ mask_answer (as_mask n ws) → told v ≡ demand (mask_rules (as_mask n ws)) 5
 unfolding mask_answer
 rules_told n ws v s e = e ∙ sym (test_passes (few n) 1 (demand (mask_rules (as_mask n ws)) 5) (demand (mask_rules (as_mask n ws)) 5) s refl)
 
@@ -171,17 +170,17 @@ module _ (n : ℕ) (ws : List ℕ) (m : ℕ) (us : List ℕ) (s : true ≡ few n
   unfolding pair_answer
   after_sizes a e = test_passes (few n && few m) 1 a _ (and-next _ _ _ s t) e
 
-  pub first_refused : (v : Verdict) (e : HybitError) → told v ≡ mask_answer (as_mask n ws) → v ≡ Refused e → refused (paper e) ≡ pair_answer (as_mask n ws) (as_mask m us)
+  pub first_refused : (v : Result Unit HybitError) (e : HybitError) → told v ≡ mask_answer (as_mask n ws) → v ≡ Err e → refused (paper e) ≡ pair_answer (as_mask n ws) (as_mask m us)
   first_refused v e h k = after_sizes _ (call_refused _ _ v e (rules_told n ws v s h) k)
 
-  module _ (v : Verdict) (h : told v ≡ mask_answer (as_mask n ws)) (k : v ≡ Accepted) where
+  module _ (v : Result Unit HybitError) (h : told v ≡ mask_answer (as_mask n ws)) (k : v ≡ Ok tt) where
     after_first : (a : Answer) → a ≡ demand (mask_rules (as_mask m us)) 5 and_then length_is n m → a ≡ pair_answer (as_mask n ws) (as_mask m us)
     after_first a e = after_sizes a (call_accepted _ _ a v (rules_told n ws v s h) k e)
 
-    pub second_refused : (u : Verdict) (e : HybitError) → told u ≡ mask_answer (as_mask m us) → u ≡ Refused e → refused (paper e) ≡ pair_answer (as_mask n ws) (as_mask m us)
+    pub second_refused : (u : Result Unit HybitError) (e : HybitError) → told u ≡ mask_answer (as_mask m us) → u ≡ Err e → refused (paper e) ≡ pair_answer (as_mask n ws) (as_mask m us)
     second_refused u e i j = after_first _ (call_refused _ _ u e (rules_told m us u t i) j)
 
-    module _ (u : Verdict) (i : told u ≡ mask_answer (as_mask m us)) (j : u ≡ Accepted) where
+    module _ (u : Result Unit HybitError) (i : told u ≡ mask_answer (as_mask m us)) (j : u ≡ Ok tt) where
       pub sizes_differ : (m ≡ n → ⊥) → refused (lengths_differ n m) ≡ pair_answer (as_mask n ws) (as_mask m us)
       sizes_differ d = after_first _ (call_accepted _ _ _ u (rules_told m us u t i) j (last_length_wrong n m d))
 

@@ -3,7 +3,7 @@
 
 ghost use Rattle.std.specs.Prelude.{◌≡◌, not, ◌&&◌, ◌||◌, ◌*◌, eqb, length, get_or};
 ghost use Rattle.hybit_core.specs.Answer.{answers};
-ghost use Rattle.hybit_core.specs.Table.{told, told_bool};
+ghost use Rattle.hybit_core.specs.Table.{told, given};
 ghost use Rattle.lent.specs.Lists.{each};
 ghost use Rattle.lent.specs.Lent.{kept};
 ghost use Rattle.word.specs.Bits.{has, count, both, word_of};
@@ -11,31 +11,30 @@ ghost use Rattle.word.specs.Word.{combined};
 ghost use Rattle.mask.specs.Mask.{as_mask, bit_at, active, mask_words};
 ghost use Rattle.mask.specs.Calls.{pair_answer};
 
-use hybit_core::{BoolAnswer, HybitError, Verdict};
+use hybit_core::HybitError;
 use word::Operation;
 
 // The Rust's `ensure_same_len`, after the checks of both masks.
-fn examine_pair(expected: usize, words: &[u64], actual: usize, other: &[u64]) -> Verdict
+fn examine_pair(
+    expected: usize,
+    words: &[u64],
+    actual: usize,
+    other: &[u64],
+) -> Result<(), HybitError>
     ensures { told result ≡ pair_answer (as_mask expected words.now) (as_mask actual other.now) }
 {
     if !hybit_core::dimension_fits(expected) {
-        return Verdict::Refused(HybitError::SizeOverflow);
+        return Err(HybitError::SizeOverflow);
     }
     if !hybit_core::dimension_fits(actual) {
-        return Verdict::Refused(HybitError::SizeOverflow);
+        return Err(HybitError::SizeOverflow);
     }
-    let a = mask::check(expected, words);
-    if let Verdict::Refused(e) = a {
-        return Verdict::Refused(e);
-    }
-    let b = mask::check(actual, other);
-    if let Verdict::Refused(e) = b {
-        return Verdict::Refused(e);
-    }
+    mask::check(expected, words)?;
+    mask::check(actual, other)?;
     if actual != expected {
-        return Verdict::Refused(HybitError::DimensionMismatch { expected, actual });
+        return Err(HybitError::DimensionMismatch { expected, actual });
     }
-    Verdict::Accepted
+    Ok(())
 }
 
 fn combine_words(operation: Operation, words: &mut [u64], other: &[u64])
@@ -58,23 +57,25 @@ fn combine_assign(
     words: &mut [u64],
     other_len: usize,
     other: &[u64],
-) -> Verdict
+) -> Result<(), HybitError>
     ensures answer { told result ≡ pair_answer (as_mask len words.old) (as_mask other_len other.now) }
     ensures list { words.new ≡ kept
         (pair_answer (as_mask len words.old) (as_mask other_len other.now))
         (mask_words (λ c. combined operation (active (as_mask len words.old) c) (active (as_mask other_len other.now) c)) len)
         words.old }
 {
-    let v = examine_pair(len, words, other_len, other);
-    if let Verdict::Refused(e) = v {
-        return Verdict::Refused(e);
-    }
+    examine_pair(len, words, other_len, other)?;
     combine_words(operation, words, other);
-    Verdict::Accepted
+    Ok(())
 }
 
 // Joins the other mask's members to this one's.
-pub fn union_assign(len: usize, words: &mut [u64], other_len: usize, other: &[u64]) -> Verdict
+pub fn union_assign(
+    len: usize,
+    words: &mut [u64],
+    other_len: usize,
+    other: &[u64],
+) -> Result<(), HybitError>
     ensures answer { told result ≡ pair_answer (as_mask len words.old) (as_mask other_len other.now) }
     ensures list { words.new ≡ kept
         (pair_answer (as_mask len words.old) (as_mask other_len other.now))
@@ -85,7 +86,12 @@ pub fn union_assign(len: usize, words: &mut [u64], other_len: usize, other: &[u6
 }
 
 // Keeps the members that the other mask has too.
-pub fn intersect_assign(len: usize, words: &mut [u64], other_len: usize, other: &[u64]) -> Verdict
+pub fn intersect_assign(
+    len: usize,
+    words: &mut [u64],
+    other_len: usize,
+    other: &[u64],
+) -> Result<(), HybitError>
     ensures answer { told result ≡ pair_answer (as_mask len words.old) (as_mask other_len other.now) }
     ensures list { words.new ≡ kept
         (pair_answer (as_mask len words.old) (as_mask other_len other.now))
@@ -96,7 +102,12 @@ pub fn intersect_assign(len: usize, words: &mut [u64], other_len: usize, other: 
 }
 
 // Keeps the members that the other mask does not have.
-pub fn and_not_assign(len: usize, words: &mut [u64], other_len: usize, other: &[u64]) -> Verdict
+pub fn and_not_assign(
+    len: usize,
+    words: &mut [u64],
+    other_len: usize,
+    other: &[u64],
+) -> Result<(), HybitError>
     ensures answer { told result ≡ pair_answer (as_mask len words.old) (as_mask other_len other.now) }
     ensures list { words.new ≡ kept
         (pair_answer (as_mask len words.old) (as_mask other_len other.now))
@@ -121,14 +132,16 @@ fn words_meet(words: &[u64], other: &[u64]) -> bool
 }
 
 // Whether the masks share a member.
-pub fn intersects(len: usize, words: &[u64], other_len: usize, other: &[u64]) -> BoolAnswer
-    ensures { told_bool result ≡ answers
+pub fn intersects(
+    len: usize,
+    words: &[u64],
+    other_len: usize,
+    other: &[u64],
+) -> Result<bool, HybitError>
+    ensures { given result ≡ answers
         (pair_answer (as_mask len words.now) (as_mask other_len other.now))
         (not (eqb (count (both (active (as_mask len words.now)) (active (as_mask other_len other.now))) len) 0)) }
 {
-    let v = examine_pair(len, words, other_len, other);
-    if let Verdict::Refused(e) = v {
-        return BoolAnswer::Refused(e);
-    }
-    BoolAnswer::Is(words_meet(words, other))
+    examine_pair(len, words, other_len, other)?;
+    Ok(words_meet(words, other))
 }

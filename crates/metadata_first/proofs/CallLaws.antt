@@ -1,5 +1,6 @@
 -- What the calls on a store know once their checks have accepted, and how the checks follow one another. Assumes nothing but masks
 -- of 64 bits.
+use Rattle.std.specs.Prelude.{Result, Ok, Err}
 use mathlib.Core.Bool.{Bool, true, false, ◌&&◌}
 use mathlib.Core.List.{List}
 use mathlib.Core.Path.{◌≡◌, refl, sym, ap, ap₂, ◌∙◌}
@@ -16,8 +17,6 @@ use Rattle.hybit_core.specs.Domain.{many}
 use Rattle.hybit_core.specs.Floats.{finite}
 use Rattle.hybit_core.specs.Table.{told, paper}
 use Rattle.hybit_core.specs.declared.HybitError.{HybitError}
-use Rattle.hybit_core.specs.declared.Verdict.{Verdict}
-use Rattle.hybit_core.specs.declared.Verdict.TheVariants as verdict
 use Rattle.hybit_core.proofs.BoolLaws.{and_left, and_right, not-both, is_equal, is_unequal}
 use Rattle.hybit_core.proofs.AnswerLaws.{demand_accepted, then_first, then_second, accepted_by, given_accepted, test_fails, test_passes, last_fails, last_passes}
 use Rattle.lent.specs.Lists.{joined, part, every, spread}
@@ -77,7 +76,7 @@ stored s e =
       values_finite = and_right (f && v) q rules;
     }
 
-pub checked : (s : Store) (v : Verdict) → told v ≡ store_answer s → v ≡ verdict.Accepted → Stored s
+pub checked : (s : Store) (v : Result Unit HybitError) → told v ≡ store_answer s → v ≡ Ok tt → Stored s
 checked s v e a = stored s (accepted_by (store_answer s) v e a)
 
 -- ---- the rest of the checks, once those of the words but their total have accepted
@@ -95,7 +94,7 @@ module _ (n m : ℕ) (ps ws ms : List ℕ) (vp : List ℕ) (vs : List Float) (q 
       go true u = refl
       go false u = refl
 
-  pub words_refused : (v : Verdict) (x : HybitError) → told v ≡ word_answer (as_words n m ps ws ms (set_bits ms)) → v ≡ verdict.Refused x → refused (paper x) ≡ store_answer (as_store n m ps ws ms t vp vs)
+  pub words_refused : (v : Result Unit HybitError) (x : HybitError) → told v ≡ word_answer (as_words n m ps ws ms (set_bits ms)) → v ≡ Err x → refused (paper x) ≡ store_answer (as_store n m ps ws ms t vp vs)
   words_refused v x e h = ap (λ (a : Answer). a and_then demand (store_rules own) 12) (lists_refused n m ps ws ms t v x e h) ∙ sizes_then
 
   module _ (a : word_answer (as_words n m ps ws ms (set_bits ms)) ≡ accepted) where
@@ -154,7 +153,7 @@ module _ (s : Store) (k : Stored s) (r : ℕ) (h : r < s.words.rows) where
       sym (get_or-drop a (take b s.vals) n nan ∙ get_or-take b s.vals (a + n) nan i)
 
 -- the figures of an accepted store: its pointers are as many as its rows ask for
-pub stats_given : (s : Store) (v : Verdict) → told v ≡ store_answer s → v ≡ verdict.Accepted
+pub stats_given : (s : Store) (v : Result Unit HybitError) → told v ≡ store_answer s → v ≡ Ok tt
     → gives (record {
       nrows = s.words.rows;
       ncols = s.words.cols;
@@ -200,7 +199,7 @@ module _ (s : Store) (r : ℕ) where
       let h : r < s.words.rows = ltb-true r s.words.rows (demand_accepted _ _ (then_second (store_answer s) (demand (ltb r s.words.rows) 7) e)) in
       record { facts = k; here = h; values = row_values_lem s k r h }
 
-  pub row_checked : (v : Verdict) → told v ≡ store_row_answer s r → v ≡ verdict.Accepted → RowOk
+  pub row_checked : (v : Result Unit HybitError) → told v ≡ store_row_answer s r → v ≡ Ok tt → RowOk
   row_checked v e a = row_ok (accepted_by (store_row_answer s r) v e a)
 
 -- ---- one row of `counts_hold`: words that are accepted, value pointers that keep their rule

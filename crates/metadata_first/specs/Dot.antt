@@ -4,20 +4,15 @@ use Rattle.std.specs.Prelude.{ℕ, ◌+◌, ◌-◌, ◌^◌, Bool, not, ◌&&�
 use mathlib.Core.List.{List, foldl}
 use Rattle.std.specs.Float.{binary64}
 use Rattle.std.specs.Float.Ieee.{add, mul}
-use Rattle.hybit_core.specs.Answer.{Answer, Given, gives, refuses, demand, length_is, answers, ◌and_then◌}
+use Rattle.hybit_core.specs.Answer.{Answer, Given, demand, length_is, answers, ◌and_then◌}
 use Rattle.hybit_core.specs.Domain.{few}
 use Rattle.hybit_core.specs.Floats.{zero64, ratio_of}
-use Rattle.hybit_core.specs.Table.{paper}
 use Rattle.word.specs.Bits.{below, count, both, words_of}
 use Rattle.mask.specs.Mask.{Mask, active, mask_rules}
 use Rattle.csr32.specs.Csr.{Entry, present, merged, at}
 use Rattle.topology.specs.Words.{member}
 use Rattle.metadata_first.specs.declared.AbtmRowDot.{AbtmRowDot}
 use Rattle.metadata_first.specs.declared.AbtmProductPruningStats.{AbtmProductPruningStats}
-use Rattle.metadata_first.specs.declared.DotAnswer.{DotAnswer}
-use Rattle.metadata_first.specs.declared.DotAnswer.TheVariants as dotted
-use Rattle.metadata_first.specs.declared.TotalsAnswer.{TotalsAnswer}
-use Rattle.metadata_first.specs.declared.TotalsAnswer.TheVariants as totalled
 use Rattle.metadata_first.specs.Store.{Store, value_at, store_sizes, store_faults}
 
 -- from 0.0, v × x over the columns of a list, in its order, each product and sum rounded once
@@ -58,10 +53,6 @@ dot_answer s a x r = operands_answer s a x and_then demand (ltb r s.words.rows) 
 unfoldable pub sparse_dot_row : Store → Mask → List Float → ℕ → Given AbtmRowDot
 sparse_dot_row s a x r = answers (dot_answer s a x r) (dot_on s a x r)
 
-abbrev pub told_dot : DotAnswer → Given AbtmRowDot
-told_dot (dotted.Dot d) = gives d
-told_dot (dotted.Refused e) = refuses (paper e)
-
 -- ---- ratios and totals of the counts
 
 -- the five counts of a report
@@ -95,10 +86,6 @@ totals_fit t =
 -- accumulate: 1 for a total
 unfoldable pub accumulate_answer : AbtmProductPruningStats → AbtmProductPruningStats → Answer
 accumulate_answer a b = demand (totals_fit (accumulated a b)) 1
-
-abbrev pub told_totals : TotalsAnswer → Given AbtmProductPruningStats
-told_totals (totalled.Totals t) = gives t
-told_totals (totalled.Refused e) = refuses (paper e)
 
 -- ---- document 01's Words of demand 3
 

@@ -1,18 +1,15 @@
 -- The packed store (document 01, "Packed store"): the record of a membership and values, the value of a column, and its rules.
 use Rattle.std.specs.Prelude.{ℕ, ◌+◌, ◌*◌, Bool, true, ◌&&◌, List, map, eqb, ltb, length, get_or, Float}
 use Rattle.std.specs.Float.{nan}
-use Rattle.hybit_core.specs.Answer.{Answer, Given, gives, refuses, demand, ◌and_then◌}
+use Rattle.hybit_core.specs.Answer.{Answer, demand, ◌and_then◌}
 use Rattle.hybit_core.specs.Domain.{many, saturated}
 use Rattle.hybit_core.specs.Floats.{finite}
-use Rattle.hybit_core.specs.Table.{paper}
 use Rattle.lent.specs.Lists.{joined, starts, part, every}
 use Rattle.word.specs.Bits.{below, count}
 use Rattle.csr32.specs.Csr.{framed}
 use Rattle.topology.specs.Words.{Words, as_words, topology_of, member, word_sizes, word_rules}
 use Rattle.topology.specs.Calls.{rank, metadata_bytes}
 use Rattle.metadata_first.specs.declared.AbtmMetadataFirstStats.{AbtmMetadataFirstStats}
-use Rattle.metadata_first.specs.declared.StoreStatsAnswer.{StoreStatsAnswer}
-use Rattle.metadata_first.specs.declared.StoreStatsAnswer.TheVariants as statistics
 
 pub record Store : Type 0 where
   pub words : Words
@@ -73,10 +70,6 @@ store_stats s = record {
   value_row_ptr_bytes = 4 * (s.words.rows + 1);
   packed_value_bytes = 8 * length s.vals;
 }
-
-abbrev pub told_store_stats : StoreStatsAnswer → Given AbtmMetadataFirstStats
-told_store_stats (statistics.Stats s) = gives s
-told_store_stats (statistics.Refused e) = refuses (paper e)
 
 abbrev pub estimated_bytes : AbtmMetadataFirstStats → ℕ
 estimated_bytes s = saturated (s.topology_metadata_bytes + s.value_row_ptr_bytes + s.packed_value_bytes)

@@ -3,17 +3,16 @@
 // the report of a dot; the dot itself is the crate metadata_first_dot, packing is metadata_first_build.
 #![tactic(auto)]
 
-ghost use Rattle.std.specs.Prelude.{◌≡◌, true, [], ◌+◌, ◌-◌, ◌%◌, ◌<◌, ◌^◌, eqb, ltb, length};
-ghost use Rattle.hybit_core.specs.Answer.{accepted, refused, plain, demand, number_in, answers, ◌and_then◌};
-ghost use Rattle.hybit_core.specs.Table.{told};
+ghost use Rattle.std.specs.Prelude.{◌≡◌, true, ◌+◌, ◌-◌, ◌%◌, ◌<◌, ◌^◌, eqb, ltb, length};
+ghost use Rattle.hybit_core.specs.Answer.{on_given, accepted, refused, plain, demand, answers, ◌and_then◌};
+ghost use Rattle.hybit_core.specs.Table.{told, given};
 ghost use Rattle.lent.specs.Lists.{part};
 ghost use Rattle.csr32.specs.Csr.{framed};
 ghost use Rattle.topology.specs.Words.{as_words, word_answer, set_bits};
-ghost use Rattle.topology.specs.Calls.{part_given};
-ghost use Rattle.metadata_first.specs.Store.{as_store, value_rules, store_rules, store_answer, store_row_answer, store_stats, told_store_stats, estimated_bytes};
-ghost use Rattle.metadata_first.specs.Dot.{counts_of, pruning_ratio, empty_word_ratio, accumulated, totals_fit, accumulate_answer, told_totals};
+ghost use Rattle.metadata_first.specs.Store.{as_store, value_rules, store_rules, store_answer, store_row_answer, store_stats, estimated_bytes};
+ghost use Rattle.metadata_first.specs.Dot.{counts_of, pruning_ratio, empty_word_ratio, accumulated, totals_fit, accumulate_answer};
 
-use hybit_core::{HybitError, Verdict};
+use hybit_core::HybitError;
 
 // The counts of one dot, or of several together.
 #[derive(Clone, Copy)]
@@ -44,26 +43,6 @@ pub struct AbtmMetadataFirstStats {
     pub topology_metadata_bytes: usize,
     pub value_row_ptr_bytes: usize,
     pub packed_value_bytes: usize,
-}
-
-// The Rust's `Result<(f64, AbtmProductPruningStats), HybitError>`.
-#[derive(Clone, Copy)]
-pub enum DotAnswer {
-    Dot(AbtmRowDot),
-    Refused(HybitError),
-}
-
-// `accumulate` by value: the totals, or the refusal and no totals.
-#[derive(Clone, Copy)]
-pub enum TotalsAnswer {
-    Totals(AbtmProductPruningStats),
-    Refused(HybitError),
-}
-
-#[derive(Clone, Copy)]
-pub enum StoreStatsAnswer {
-    Stats(AbtmMetadataFirstStats),
-    Refused(HybitError),
 }
 
 // Whether a + b is at most 2^64 − 1.
@@ -113,13 +92,16 @@ impl AbtmProductPruningStats {
         )
     }
 
-    pub fn accumulate(self, other: AbtmProductPruningStats) -> TotalsAnswer
-        ensures { told_totals result ≡ answers (accumulate_answer self other) (accumulated self other) }
+    pub fn accumulate(
+        self,
+        other: AbtmProductPruningStats,
+    ) -> Result<AbtmProductPruningStats, HybitError>
+        ensures { given result ≡ answers (accumulate_answer self other) (accumulated self other) }
     {
         if !totals_fit(self, other) {
-            return TotalsAnswer::Refused(HybitError::SizeOverflow);
+            return Err(HybitError::SizeOverflow);
         }
-        TotalsAnswer::Totals(AbtmProductPruningStats {
+        Ok(AbtmProductPruningStats {
             candidate_products: self.candidate_products + other.candidate_products,
             executed_products: self.executed_products + other.executed_products,
             skipped_products: self.skipped_products + other.skipped_products,
@@ -160,10 +142,9 @@ impl AbtmMetadataFirstStats {
     pub fn total_estimated_bytes(self) -> usize
         ensures { result ≡ estimated_bytes self }
     {
-        hybit_core::saturating_add(
-            hybit_core::saturating_add(self.topology_metadata_bytes, self.value_row_ptr_bytes),
-            self.packed_value_bytes,
-        )
+        self.topology_metadata_bytes
+            .saturating_add(self.value_row_ptr_bytes)
+            .saturating_add(self.packed_value_bytes)
     }
 }
 
@@ -183,10 +164,10 @@ fn counts_hold(
 {
     let mut row: usize = 0;
     while row < nrows {
-        let start = hybit_core::wide(row_word_ptr[row]);
-        let end = hybit_core::wide(row_word_ptr[row + 1]);
-        let first = hybit_core::wide(row_value_ptr[row]);
-        let last = hybit_core::wide(row_value_ptr[row + 1]);
+        let start = row_word_ptr[row] as usize;
+        let end = row_word_ptr[row + 1] as usize;
+        let first = row_value_ptr[row] as usize;
+        let last = row_value_ptr[row + 1] as usize;
         if last - first != topology::count_bits(&masks[start..end]) {
             return false;
         }
@@ -225,13 +206,13 @@ fn rules_hold(
 }
 
 // 12, and before it 11 for a wrong total.
-fn refused_store(masks: &[u64], structural_nnz: usize) -> Verdict
+fn refused_store(masks: &[u64], structural_nnz: usize) -> Result<(), HybitError>
     ensures { told result ≡ demand (eqb structural_nnz (set_bits masks.now % 2 ^ 64)) 11 and_then refused (plain 12) }
 {
     if structural_nnz != topology::count_bits(masks) {
-        return Verdict::Refused(HybitError::BadWords);
+        return Err(HybitError::BadWords);
     }
-    Verdict::Refused(HybitError::BadStore)
+    Err(HybitError::BadStore)
 }
 
 // The Rust's `validate`. Where every row has as many values as present columns, the total of set bits is the number of values, and
@@ -245,16 +226,13 @@ pub fn check(
     structural_nnz: usize,
     row_value_ptr: &[u32],
     values: &[f64],
-) -> Verdict
+) -> Result<(), HybitError>
     ensures { told result ≡ store_answer (as_store nrows ncols row_word_ptr.now word_indices.now masks.now structural_nnz row_value_ptr.now values.now) }
 {
     if !hybit_core::entries_fit(values.len()) {
-        return Verdict::Refused(HybitError::SizeOverflow);
+        return Err(HybitError::SizeOverflow);
     }
-    let v = topology::check_lists(nrows, ncols, row_word_ptr, word_indices, masks);
-    if let Verdict::Refused(e) = v {
-        return Verdict::Refused(e);
-    }
+    topology::check_lists(nrows, ncols, row_word_ptr, word_indices, masks)?;
     if !rules_hold(
         nrows,
         ncols,
@@ -267,9 +245,9 @@ pub fn check(
         return refused_store(masks, structural_nnz);
     }
     if structural_nnz != values.len() {
-        return Verdict::Refused(HybitError::BadWords);
+        return Err(HybitError::BadWords);
     }
-    Verdict::Accepted
+    Ok(())
 }
 
 fn check_row(
@@ -282,10 +260,10 @@ fn check_row(
     row_value_ptr: &[u32],
     values: &[f64],
     row: usize,
-) -> Verdict
+) -> Result<(), HybitError>
     ensures { told result ≡ store_row_answer (as_store nrows ncols row_word_ptr.now word_indices.now masks.now structural_nnz row_value_ptr.now values.now) row }
 {
-    let v = check(
+    check(
         nrows,
         ncols,
         row_word_ptr,
@@ -294,17 +272,14 @@ fn check_row(
         structural_nnz,
         row_value_ptr,
         values,
-    );
-    if let Verdict::Refused(e) = v {
-        return Verdict::Refused(e);
-    }
+    )?;
     if row >= nrows {
-        return Verdict::Refused(HybitError::NoSuchPlace);
+        return Err(HybitError::NoSuchPlace);
     }
-    Verdict::Accepted
+    Ok(())
 }
 
-// The row's values, as that part of the lent list; the refusal's number goes to `refusal`, 0 when accepted.
+// The row's values, as that part of the lent list.
 pub fn row_values<'a>(
     nrows: usize,
     ncols: usize,
@@ -315,12 +290,10 @@ pub fn row_values<'a>(
     row_value_ptr: &[u32],
     values: &'a [f64],
     row: usize,
-    refusal: &mut u32,
-) -> &'a [f64]
-    ensures part { result.now ≡ part_given (store_row_answer (as_store nrows ncols row_word_ptr.now word_indices.now masks.now structural_nnz row_value_ptr.now values.now) row) (part row_value_ptr.now values.now row) }
-    ensures number { refusal.new ≡ number_in (store_row_answer (as_store nrows ncols row_word_ptr.now word_indices.now masks.now structural_nnz row_value_ptr.now values.now) row) }
+) -> Result<&'a [f64], HybitError>
+    ensures { on_given (λ s. s.now) (given result) ≡ answers (store_row_answer (as_store nrows ncols row_word_ptr.now word_indices.now masks.now structural_nnz row_value_ptr.now values.now) row) (part row_value_ptr.now values.now row) }
 {
-    let v = check_row(
+    check_row(
         nrows,
         ncols,
         row_word_ptr,
@@ -330,14 +303,10 @@ pub fn row_values<'a>(
         row_value_ptr,
         values,
         row,
-    );
-    *refusal = hybit_core::verdict_number(v);
-    if let Verdict::Refused(e) = v {
-        return &values[..0];
-    }
-    let start = hybit_core::wide(row_value_ptr[row]);
-    let end = hybit_core::wide(row_value_ptr[row + 1]);
-    &values[start..end]
+    )?;
+    let start = row_value_ptr[row] as usize;
+    let end = row_value_ptr[row + 1] as usize;
+    Ok(&values[start..end])
 }
 
 pub fn stats(
@@ -349,10 +318,10 @@ pub fn stats(
     structural_nnz: usize,
     row_value_ptr: &[u32],
     values: &[f64],
-) -> StoreStatsAnswer
-    ensures { told_store_stats result ≡ answers (store_answer (as_store nrows ncols row_word_ptr.now word_indices.now masks.now structural_nnz row_value_ptr.now values.now)) (store_stats (as_store nrows ncols row_word_ptr.now word_indices.now masks.now structural_nnz row_value_ptr.now values.now)) }
+) -> Result<AbtmMetadataFirstStats, HybitError>
+    ensures { given result ≡ answers (store_answer (as_store nrows ncols row_word_ptr.now word_indices.now masks.now structural_nnz row_value_ptr.now values.now)) (store_stats (as_store nrows ncols row_word_ptr.now word_indices.now masks.now structural_nnz row_value_ptr.now values.now)) }
 {
-    let v = check(
+    check(
         nrows,
         ncols,
         row_word_ptr,
@@ -361,11 +330,8 @@ pub fn stats(
         structural_nnz,
         row_value_ptr,
         values,
-    );
-    if let Verdict::Refused(e) = v {
-        return StoreStatsAnswer::Refused(e);
-    }
-    StoreStatsAnswer::Stats(AbtmMetadataFirstStats {
+    )?;
+    Ok(AbtmMetadataFirstStats {
         nrows: nrows,
         ncols: ncols,
         structural_nnz: structural_nnz,

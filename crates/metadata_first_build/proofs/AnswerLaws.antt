@@ -1,4 +1,5 @@
 -- Laws of the public build: when it is refused and how, and what each of its ends answers and leaves. Assumes nothing.
+use Rattle.std.specs.Prelude.{Result, Ok, Err}
 use mathlib.Core.Bool.{Bool, true, false, not, ◌&&◌, true≢false, false≢true}
 use mathlib.Core.List.{List, [], ◌++◌}
 use mathlib.Core.Path.{◌≡◌, refl, sym, ap, ap₂, ◌∙◌}
@@ -11,10 +12,8 @@ use lib.Ieee.{Float}
 use borrow.Author.Tests.{le-leb, leb-true, not-true, not-false}
 use Rattle.hybit_core.specs.Answer.{Answer, accepted, refused, plain, demand, ◌and_then◌, Given, gives, refuses, answers}
 use Rattle.hybit_core.specs.Floats.{zero64, finite}
-use Rattle.hybit_core.specs.Table.{paper, told}
+use Rattle.hybit_core.specs.Table.{paper, told, given}
 use Rattle.hybit_core.specs.declared.HybitError.{HybitError}
-use Rattle.hybit_core.specs.declared.Verdict.{Verdict}
-use Rattle.hybit_core.specs.declared.Verdict.TheVariants as verdict
 use Rattle.hybit_core.proofs.BoolLaws.{and_left, and_right, and_both}
 use Rattle.hybit_core.proofs.AnswerLaws.{demand_accepted, then_first, then_second, accepted_by, refused_by}
 use Rattle.lent.specs.Lists.{every}
@@ -22,9 +21,8 @@ use Rattle.lent.specs.Lent.{padded, built}
 use Rattle.lent.proofs.LentLaws.{handed_used, front_zeros, written_front}
 use Rattle.csr32.specs.Csr.{Csr, csr_answer, entries, present}
 use Rattle.csr32.proofs.CsrLaws.{valid}
-use Rattle.topology.specs.Calls.{as_room, fits_words, used_of, told_topology}
-use Rattle.topology.specs.declared.TopologyAnswer.{TopologyAnswer}
-use Rattle.topology.specs.declared.TopologyAnswer.TheVariants as build
+use Rattle.topology.specs.declared.TopologySize.{TopologySize}
+use Rattle.topology.specs.Calls.{as_room, fits_words, as_size, used_of}
 use Rattle.topology.proofs.TopologyLaws.{topology_pointers, topology_sides}
 use Rattle.topology_build.specs.Build.{topology_from, build_answer}
 use Rattle.metadata_first.specs.Store.{Store, packed_of}
@@ -34,21 +32,21 @@ use Rattle.metadata_first_build.specs.Pack.{store_of, as_store_room, fits_store,
 use Rattle.metadata_first_build.specs.Making.{Source, Valued, last_refusal}
 
 -- what the call answers, and what its lists of np, nw, nm, nv and nx places hold
-abbrev Result : Answer → Given (ℕ × ℕ) → Store → ℕ → ℕ → ℕ → ℕ → ℕ → List ℕ → List ℕ → List ℕ → List ℕ → List Float → Type 0
-Result a g s np nw nm nv nx op ow om ov ox =
+abbrev Outcome : Answer → Given TopologySize → Store → ℕ → ℕ → ℕ → ℕ → ℕ → List ℕ → List ℕ → List ℕ → List ℕ → List Float → Type 0
+Outcome a g s np nw nm nv nx op ow om ov ox =
     (g ≡ answers a (used_of s.words))
     × ((op ≡ built 0 np a s.words.ptr)
     × ((ow ≡ built 0 nw a s.words.word) × ((om ≡ built 0 nm a s.words.mask) × ((ov ≡ built 0 nv a s.vptr) × (ox ≡ built zero64 nx a s.vals)))))
 
-given_same : (x y : ℕ × ℕ) → gives x ≡ gives y → x ≡ y
+given_same : (x y : TopologySize) → gives x ≡ gives y → x ≡ y
 given_same x y e = cc
 
 -- ---- the refusal of a refused build
 
-pub refuse_first : (m : Csr) (v : Verdict) (e : HybitError) → told v ≡ merge_answer m → v ≡ verdict.Refused e → ◌≡◌ {A = Given (ℕ × ℕ)} (refuses (paper e)) (refuses (last_refusal (merge_answer m)))
+pub refuse_first : (m : Csr) (v : Result Unit HybitError) (e : HybitError) → told v ≡ merge_answer m → v ≡ Err e → ◌≡◌ {A = Given TopologySize} (refuses (paper e)) (refuses (last_refusal (merge_answer m)))
 refuse_first m v e t k = sym (ap (λ (a : Answer). refuses (last_refusal a)) (refused_by (merge_answer m) v e t k))
 
-pub refuse_last : (m : Csr) (v : Verdict) → told v ≡ merge_answer m → v ≡ verdict.Accepted → ◌≡◌ {A = Given (ℕ × ℕ)} (refuses (plain 13)) (refuses (last_refusal (merge_answer m)))
+pub refuse_last : (m : Csr) (v : Result Unit HybitError) → told v ≡ merge_answer m → v ≡ Ok tt → ◌≡◌ {A = Given TopologySize} (refuses (plain 13)) (refuses (last_refusal (merge_answer m)))
 refuse_last m v t k = sym (ap (λ (a : Answer). refuses (last_refusal a)) (accepted_by (merge_answer m) v t k))
 
 -- ---- the store that is built
@@ -68,13 +66,13 @@ module _ (m : Csr) where
 
 -- ---- after the build of the words, which answered t
 
-module _ (m : Csr) (np nw nm : ℕ) (t : TopologyAnswer) (e : told_topology t ≡ answers (build_answer m (as_room np nw nm)) (used_of (topology_from m))) where
-  module _ (w n : ℕ) (k : t ≡ build.Built w n) where
+module _ (m : Csr) (np nw nm : ℕ) (t : Result TopologySize HybitError) (e : given t ≡ answers (build_answer m (as_room np nw nm)) (used_of (topology_from m))) where
+  module _ (w n : ℕ) (k : t ≡ Ok (as_size w n)) where
     made : (build_answer m (as_room np nw nm) ≡ accepted) × ((w ≡ length (topology_from m).word) × (n ≡ (topology_from m).total))
-    made = go (build_answer m (as_room np nw nm)) refl (sym (ap told_topology k) ∙ e)
+    made = go (build_answer m (as_room np nw nm)) refl (sym (ap given k) ∙ e)
       where
-        go : (a : Answer) → build_answer m (as_room np nw nm) ≡ a → gives (w, n) ≡ answers a (used_of (topology_from m)) → (build_answer m (as_room np nw nm) ≡ accepted) × ((w ≡ length (topology_from m).word) × (n ≡ (topology_from m).total))
-        go accepted q z = let y : (w, n) ≡ used_of (topology_from m) = given_same (w, n) (used_of (topology_from m)) z in (q, (ap (λ (i : ℕ × ℕ). i.0) y, ap (λ (i : ℕ × ℕ). i.1) y))
+        go : (a : Answer) → build_answer m (as_room np nw nm) ≡ a → gives (as_size w n) ≡ answers a (used_of (topology_from m)) → (build_answer m (as_room np nw nm) ≡ accepted) × ((w ≡ length (topology_from m).word) × (n ≡ (topology_from m).total))
+        go accepted q z = let y : as_size w n ≡ used_of (topology_from m) = given_same (as_size w n) (used_of (topology_from m)) z in (q, (ap (λ (i : TopologySize). i.words) y, ap (λ (i : TopologySize). i.structural_nnz) y))
         go (refused t) q z = let y : ◌≡◌ {A = ℕ} 0 1 = cc in absurd (omega arith)
 
     words_in_lem : fits_words (topology_from m) (as_room np nw nm) ≡ true
@@ -171,9 +169,9 @@ module _ (m : Csr) (np nw nm nv nx : ℕ) where
       go accepted false f = refl
       go (refused t) b f = refl
 
-  pub pack_refused : (Packs → ⊥) → (g : Given (ℕ × ℕ)) (a b c d f : ℕ) (op ow om ov : List ℕ) (ox : List Float) → g ≡ refuses (last_refusal (merge_answer m))
+  pub pack_refused : (Packs → ⊥) → (g : Given TopologySize) (a b c d f : ℕ) (op ow om ov : List ℕ) (ox : List Float) → g ≡ refuses (last_refusal (merge_answer m))
       → op ≡ padded 0 a [] → ow ≡ padded 0 b [] → om ≡ padded 0 c [] → ov ≡ padded 0 d [] → ox ≡ padded zero64 f []
-      → a ≡ np → b ≡ nw → c ≡ nm → d ≡ nv → f ≡ nx → Result whole g (store_of m) np nw nm nv nx op ow om ov ox
+      → a ≡ np → b ≡ nw → c ≡ nm → d ≡ nv → f ≡ nx → Outcome whole g (store_of m) np nw nm nv nx op ow om ov ox
   pack_refused not-packed g a b c d f op ow om ov ox eg ep ew em ev ex la lb lc ld lf =
       rw (refuses_last not-packed) (
         eg,
@@ -182,15 +180,15 @@ module _ (m : Csr) (np nw nm nv nx : ℕ) where
 
   -- ---- why a build is not accepted, in the order of the code
 
-  module _ (t : TopologyAnswer) (e : told_topology t ≡ answers (build_answer m (as_room np nw nm)) (used_of (topology_from m))) where
-    pub no_words : (x : HybitError) → t ≡ build.Refused x → Packs → ⊥
+  module _ (t : Result TopologySize HybitError) (e : given t ≡ answers (build_answer m (as_room np nw nm)) (used_of (topology_from m))) where
+    pub no_words : (x : HybitError) → t ≡ Err x → Packs → ⊥
     unfolding build_answer
-    no_words x k p = differ (sym (ap told_topology k) ∙ e ∙ ap₂ (λ (a : Answer) (b : Bool). answers (a and_then demand b 13) (used_of (topology_from m))) p.list p.fits)
+    no_words x k p = differ (sym (ap given k) ∙ e ∙ ap₂ (λ (a : Answer) (b : Bool). answers (a and_then demand b 13) (used_of (topology_from m))) p.list p.fits)
       where
         differ : refuses (paper x) ≡ gives (used_of (topology_from m)) → ⊥
         differ q = let z : ◌≡◌ {A = ℕ} 0 1 = cc in omega arith
 
-    module _ (w n : ℕ) (k : t ≡ build.Built w n) where
+    module _ (w n : ℕ) (k : t ≡ Ok (as_size w n)) where
       words-made : (build_answer m (as_room np nw nm) ≡ accepted) × ((w ≡ length (topology_from m).word) × (n ≡ (topology_from m).total))
       words-made = made m np nw nm t e w n k
 
@@ -200,7 +198,7 @@ module _ (m : Csr) (np nw nm nv nx : ℕ) where
         no_values_written h p = vs.not_held (not-true b h) (omega (arith, p.pointers)) (omega (arith, store_total m, p.values)) p.finites
 
         pub pack_built : not b ≡ false → (op ow om : List ℕ) → op ≡ built 0 np (build_answer m (as_room np nw nm)) (topology_from m).ptr → ow ≡ built 0 nw (build_answer m (as_room np nw nm)) (topology_from m).word
-            → om ≡ built 0 nm (build_answer m (as_room np nw nm)) (topology_from m).mask → Result whole (gives (w, n)) (store_of m) np nw nm nv nx op ow om ov ox
+            → om ≡ built 0 nm (build_answer m (as_room np nw nm)) (topology_from m).mask → Outcome whole (gives (as_size w n)) (store_of m) np nw nm nv nx op ow om ov ox
         unfolding store_of packed_of
         pack_built h op ow om ep ew em =
             let y : b ≡ true = not-false b h in
@@ -208,7 +206,7 @@ module _ (m : Csr) (np nw nm nv nx : ℕ) where
             let k2 = vs.written y in
             let ok : whole ≡ accepted = accepts (record { list = list_is m np nw nm t e w n k; finites = k1.2; fits = words_in_lem m np nw nm t e w n k; pointers = omega (arith, k1.0); values = omega (arith, k1.1, store_total m) }) in
             rw ok (
-              ap₂ (λ (i j : ℕ). gives (i, j)) words-made.1.0 words-made.1.1,
+              ap₂ (λ (i j : ℕ). gives (as_size i j)) words-made.1.0 words-made.1.1,
               (
                 ep ∙ ap (λ (a : Answer). built 0 np a (topology_from m).ptr) words-made.0,
                 (

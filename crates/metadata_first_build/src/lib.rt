@@ -12,15 +12,16 @@ ghost use Rattle.lent.specs.Lent.{padded, built};
 ghost use Rattle.word.specs.Bits.{count, ceil64};
 ghost use Rattle.csr32.specs.Csr.{as_csr, present};
 ghost use Rattle.topology.specs.Words.{row_member, row_rule};
-ghost use Rattle.topology.specs.Calls.{used_of, told_topology};
+ghost use Rattle.topology.specs.Calls.{used_of};
+ghost use Rattle.hybit_core.specs.Table.{given};
 ghost use Rattle.topology.proofs.RowLaws.{Row};
 ghost use Rattle.metadata_first_merge.specs.Merge.{row_values, merge_answer};
 ghost use Rattle.metadata_first_build.specs.Pack.{store_of, as_store_room, pack_answer};
 ghost use Rattle.levels.specs.Ranks.{Ranks};
 ghost use Rattle.metadata_first_build.specs.Making.{Source, Valued, last_refusal};
 
-use hybit_core::{HybitError, Verdict};
-use topology::TopologyAnswer;
+use hybit_core::HybitError;
+use topology::TopologySize;
 
 // Notes each word of a row: its mask, and the place of its first value in the row.
 fn place_words(ncols: usize, words: &[u32], masks: &[u64], bits: &mut [u64], starts: &mut [u32])
@@ -33,7 +34,7 @@ fn place_words(ncols: usize, words: &[u32], masks: &[u64], bits: &mut [u64], sta
     let mut place: usize = 0;
     let mut i: usize = 0;
     while i < words.len() {
-        let index = hybit_core::wide(words[i]);
+        let index = words[i] as usize;
         bits[index] = masks[i];
         starts[index] = hybit_core::narrow(place);
         place += word::popcount(masks[i]);
@@ -58,9 +59,9 @@ fn add_entries(
 {
     let mut k: usize = 0;
     while k < cols.len() {
-        let c = hybit_core::wide(cols[k]);
+        let c = cols[k] as usize;
         let index = c / 64;
-        let place = hybit_core::wide(starts[index]) + word::ones_below(bits[index], c % 64);
+        let place = starts[index] as usize + word::ones_below(bits[index], c % 64);
         out[place] = out[place] + vals[k];
         k += 1;
     }
@@ -116,10 +117,10 @@ fn pack_rows(
         let row = next;
         next += 1;
         row_value_ptr[row] = hybit_core::narrow(at);
-        let start = hybit_core::wide(row_ptr[row]);
-        let end = hybit_core::wide(row_ptr[row + 1]);
-        let first = hybit_core::wide(row_word_ptr[row]);
-        let last = hybit_core::wide(row_word_ptr[row + 1]);
+        let start = row_ptr[row] as usize;
+        let end = row_ptr[row + 1] as usize;
+        let first = row_word_ptr[row] as usize;
+        let last = row_word_ptr[row + 1] as usize;
         let to = at + topology::count_bits(&masks[first..last]);
         pack_row(
             ncols,
@@ -198,8 +199,8 @@ fn fill_values(
     if packed.len() < structural_nnz {
         return false;
     }
-    lent::clear_from_u32(row_value_ptr, 0);
-    lent::clear_from_f64(packed, 0);
+    lent::clear_from(row_value_ptr, 0);
+    lent::clear_from(packed, 0);
     pack(
         nrows,
         ncols,
@@ -230,8 +231,8 @@ fn clear_all(
     ensures values { packed.new ≡ padded zero64 (length packed.old) [] }
 {
     topology::clear_past(0, 0, row_word_ptr, word_indices, masks);
-    lent::clear_from_u32(row_value_ptr, 0);
-    lent::clear_from_f64(packed, 0);
+    lent::clear_from(row_value_ptr, 0);
+    lent::clear_from(packed, 0);
 }
 
 // The refusal of a refused build: that of the checks, 4 for a merged value among them, or else 13.
@@ -241,14 +242,11 @@ fn refusal(
     row_ptr: &[u32],
     col_idx: &[u32],
     values: &[f64],
-) -> TopologyAnswer
-    ensures { told_topology result ≡ refuses (last_refusal (merge_answer (as_csr nrows ncols row_ptr.now col_idx.now values.now))) }
+) -> Result<TopologySize, HybitError>
+    ensures { given result ≡ refuses (last_refusal (merge_answer (as_csr nrows ncols row_ptr.now col_idx.now values.now))) }
 {
-    let v = metadata_first_merge::check(nrows, ncols, row_ptr, col_idx, values);
-    if let Verdict::Refused(e) = v {
-        return TopologyAnswer::Refused(e);
-    }
-    TopologyAnswer::Refused(HybitError::ShortList)
+    metadata_first_merge::check(nrows, ncols, row_ptr, col_idx, values)?;
+    Err(HybitError::ShortList)
 }
 
 // The packed store of a plot list: the used parts are nrows + 1 pointers of each kind, as many words and masks as the answer
@@ -264,8 +262,8 @@ pub fn from_csr32(
     masks: &mut [u64],
     row_value_ptr: &mut [u32],
     packed: &mut [f64],
-) -> TopologyAnswer
-    ensures answer { told_topology result ≡ answers (pack_answer (as_csr nrows ncols row_ptr.now col_idx.now values.now) (as_store_room (length row_word_ptr.old) (length word_indices.old) (length masks.old) (length row_value_ptr.old) (length packed.old))) (used_of (store_of (as_csr nrows ncols row_ptr.now col_idx.now values.now)).words) }
+) -> Result<TopologySize, HybitError>
+    ensures answer { given result ≡ answers (pack_answer (as_csr nrows ncols row_ptr.now col_idx.now values.now) (as_store_room (length row_word_ptr.old) (length word_indices.old) (length masks.old) (length row_value_ptr.old) (length packed.old))) (used_of (store_of (as_csr nrows ncols row_ptr.now col_idx.now values.now)).words) }
     ensures pointers { row_word_ptr.new ≡ built 0 (length row_word_ptr.old) (pack_answer (as_csr nrows ncols row_ptr.now col_idx.now values.now) (as_store_room (length row_word_ptr.old) (length word_indices.old) (length masks.old) (length row_value_ptr.old) (length packed.old))) (store_of (as_csr nrows ncols row_ptr.now col_idx.now values.now)).words.ptr }
     ensures numbers { word_indices.new ≡ built 0 (length word_indices.old) (pack_answer (as_csr nrows ncols row_ptr.now col_idx.now values.now) (as_store_room (length row_word_ptr.old) (length word_indices.old) (length masks.old) (length row_value_ptr.old) (length packed.old))) (store_of (as_csr nrows ncols row_ptr.now col_idx.now values.now)).words.word }
     ensures bits { masks.new ≡ built 0 (length masks.old) (pack_answer (as_csr nrows ncols row_ptr.now col_idx.now values.now) (as_store_room (length row_word_ptr.old) (length word_indices.old) (length masks.old) (length row_value_ptr.old) (length packed.old))) (store_of (as_csr nrows ncols row_ptr.now col_idx.now values.now)).words.mask }
@@ -282,10 +280,12 @@ pub fn from_csr32(
         word_indices,
         masks,
     );
-    let TopologyAnswer::Built {
-        words,
-        structural_nnz,
-    } = t
+    let Ok(
+        TopologySize {
+            words,
+            structural_nnz,
+        },
+    ) = t
     else {
         clear_all(row_word_ptr, word_indices, masks, row_value_ptr, packed);
         return refusal(nrows, ncols, row_ptr, col_idx, values);
@@ -306,8 +306,8 @@ pub fn from_csr32(
         clear_all(row_word_ptr, word_indices, masks, row_value_ptr, packed);
         return refusal(nrows, ncols, row_ptr, col_idx, values);
     }
-    TopologyAnswer::Built {
+    Ok(TopologySize {
         words: words,
         structural_nnz: structural_nnz,
-    }
+    })
 }

@@ -1,4 +1,6 @@
 -- What is known once the checks of the dots have accepted, and what the calls leave in lent lists. Assumes nothing.
+use Rattle.std.specs.Prelude.{Result, Ok}
+use Rattle.hybit_core.specs.declared.HybitError.{HybitError}
 use mathlib.Core.Bool.{Bool, true, ◌&&◌}
 use mathlib.Core.List.{List, ◌++◌}
 use mathlib.Core.Path.{◌≡◌, refl, sym, ap, ap₂, ◌∙◌}
@@ -12,8 +14,6 @@ use Rattle.hybit_core.specs.Answer.{Answer, accepted, demand, length_is, ◌and_
 use Rattle.hybit_core.specs.Domain.{few}
 use Rattle.hybit_core.specs.Floats.{zero64}
 use Rattle.hybit_core.specs.Table.{told}
-use Rattle.hybit_core.specs.declared.Verdict.{Verdict}
-use Rattle.hybit_core.specs.declared.Verdict.TheVariants.{Accepted}
 use Rattle.hybit_core.proofs.BoolLaws.{and_left, and_right}
 use Rattle.hybit_core.proofs.AnswerLaws.{demand_accepted, then_first, then_second, length_accepted, accepted_by}
 use Rattle.lent.specs.Lists.{part}
@@ -174,7 +174,7 @@ module _ (s : Store) (a : Mask) (x sums₀ : List Float) (counts₀ : List ℕ) 
 
 -- ---- what an accepted call may do
 
-module _ (s : Store) (a : Mask) (x : List Float) (v : Verdict) (ac : v ≡ Accepted) where
+module _ (s : Store) (a : Mask) (x : List Float) (v : Result Unit HybitError) (ac : v ≡ Ok tt) where
   module _ (r : ℕ) (e : told v ≡ dot_answer s a x r) where
     pub dot_operands : operands_answer s a x ≡ accepted
     unfolding dot_answer

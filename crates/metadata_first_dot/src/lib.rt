@@ -5,17 +5,17 @@
 ghost use Rattle.std.specs.Prelude.{◌≡◌, true, ◌≤◌, ◌<◌, ◌^◌, length};
 ghost use Rattle.hybit_core.specs.Answer.{accepted};
 ghost use Rattle.hybit_core.specs.Floats.{zero64};
-ghost use Rattle.hybit_core.specs.Table.{told};
+ghost use Rattle.hybit_core.specs.Table.{told, given};
 ghost use Rattle.lent.specs.Lent.{built};
 ghost use Rattle.mask.specs.Mask.{as_mask};
 ghost use Rattle.metadata_first.specs.Store.{as_store};
-ghost use Rattle.metadata_first.specs.Dot.{dot_on, operands_answer, sparse_dot_row, told_dot};
+ghost use Rattle.metadata_first.specs.Dot.{dot_on, operands_answer, sparse_dot_row};
 ghost use Rattle.metadata_first_operands.specs.Checks.{rows_answer};
 ghost use Rattle.metadata_first_dot.specs.Rows.{row_sums, row_counts};
 ghost use Rattle.metadata_first_dot.specs.Walk.{word_sum, word_inside, RowReady, row_dot};
 
-use hybit_core::Verdict;
-use metadata_first::{AbtmRowDot, DotAnswer};
+use hybit_core::HybitError;
+use metadata_first::AbtmRowDot;
 
 // The products of one word added to `start`, ascending: of its mask, the bits that are active. A value stands at the rank of
 // its column among the present ones, not among the active ones.
@@ -61,7 +61,7 @@ fn dot_row(
     let mut active_words: usize = 0;
     let mut i: usize = 0;
     while i < words.len() {
-        let index = hybit_core::wide(words[i]);
+        let index = words[i] as usize;
         let bits = word::intersection(masks[i], active[index]);
         if bits == 0 {
             candidate += word::popcount(masks[i]);
@@ -103,10 +103,10 @@ fn row_dot(
     requires fact_2 { row < nrows }
     ensures { result ≡ dot_on (as_store nrows ncols row_word_ptr.now word_indices.now masks.now structural_nnz row_value_ptr.now values.now) (as_mask mask_len mask.now) x.now row }
 {
-    let start = hybit_core::wide(row_word_ptr[row]);
-    let end = hybit_core::wide(row_word_ptr[row + 1]);
-    let first = hybit_core::wide(row_value_ptr[row]);
-    let last = hybit_core::wide(row_value_ptr[row + 1]);
+    let start = row_word_ptr[row] as usize;
+    let end = row_word_ptr[row + 1] as usize;
+    let first = row_value_ptr[row] as usize;
+    let last = row_value_ptr[row + 1] as usize;
     dot_row(
         ncols,
         &word_indices[start..end],
@@ -131,10 +131,10 @@ pub fn sparse_dot_row(
     mask_len: usize,
     mask: &[u64],
     x: &[f64],
-) -> DotAnswer
-    ensures { told_dot result ≡ sparse_dot_row (as_store nrows ncols row_word_ptr.now word_indices.now masks.now structural_nnz row_value_ptr.now values.now) (as_mask mask_len mask.now) x.now row }
+) -> Result<AbtmRowDot, HybitError>
+    ensures { given result ≡ sparse_dot_row (as_store nrows ncols row_word_ptr.now word_indices.now masks.now structural_nnz row_value_ptr.now values.now) (as_mask mask_len mask.now) x.now row }
 {
-    let v = metadata_first_operands::examine_row(
+    metadata_first_operands::examine_row(
         nrows,
         ncols,
         row_word_ptr,
@@ -147,11 +147,8 @@ pub fn sparse_dot_row(
         mask,
         x,
         row,
-    );
-    if let Verdict::Refused(e) = v {
-        return DotAnswer::Refused(e);
-    }
-    DotAnswer::Dot(row_dot(
+    )?;
+    Ok(row_dot(
         nrows,
         ncols,
         row_word_ptr,
@@ -225,7 +222,7 @@ pub fn sparse_dot_rows(
     x: &[f64],
     sums: &mut [f64],
     executed: &mut [u32],
-) -> Verdict
+) -> Result<(), HybitError>
     ensures answer { told result ≡ rows_answer (as_store nrows ncols row_word_ptr.now word_indices.now masks.now structural_nnz row_value_ptr.now values.now) (as_mask mask_len mask.now) x.now (length sums.old) (length executed.old) }
     ensures sums { sums.new ≡ built zero64 (length sums.old) (rows_answer (as_store nrows ncols row_word_ptr.now word_indices.now masks.now structural_nnz row_value_ptr.now values.now) (as_mask mask_len mask.now) x.now (length sums.old) (length executed.old)) (row_sums (as_store nrows ncols row_word_ptr.now word_indices.now masks.now structural_nnz row_value_ptr.now values.now) (as_mask mask_len mask.now) x.now) }
     ensures counts { executed.new ≡ built 0 (length executed.old) (rows_answer (as_store nrows ncols row_word_ptr.now word_indices.now masks.now structural_nnz row_value_ptr.now values.now) (as_mask mask_len mask.now) x.now (length sums.old) (length executed.old)) (row_counts (as_store nrows ncols row_word_ptr.now word_indices.now masks.now structural_nnz row_value_ptr.now values.now) (as_mask mask_len mask.now) x.now) }
@@ -245,10 +242,10 @@ pub fn sparse_dot_rows(
         sums.len(),
         executed.len(),
     );
-    if let Verdict::Refused(e) = v {
-        lent::clear_from_f64(sums, 0);
-        lent::clear_from_u32(executed, 0);
-        return Verdict::Refused(e);
+    if let Err(e) = v {
+        lent::clear_from(sums, 0);
+        lent::clear_from(executed, 0);
+        return Err(e);
     }
     fill_rows(
         nrows,
@@ -265,7 +262,7 @@ pub fn sparse_dot_rows(
         &mut sums[..nrows],
         &mut executed[..nrows],
     );
-    lent::clear_from_f64(sums, nrows);
-    lent::clear_from_u32(executed, nrows);
-    Verdict::Accepted
+    lent::clear_from(sums, nrows);
+    lent::clear_from(executed, nrows);
+    Ok(())
 }

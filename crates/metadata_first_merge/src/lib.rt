@@ -13,7 +13,7 @@ ghost use Rattle.csr32.specs.Window.{Outside};
 ghost use Rattle.metadata_first_merge.specs.Merge.{row_values, merged_finite, merge_answer};
 ghost use Rattle.metadata_first_merge.specs.Window.{sums_finite, window_finite};
 
-use hybit_core::{HybitError, Verdict};
+use hybit_core::HybitError;
 
 // Adds the row's entries of the window, in stored order.
 fn add_window(cols: &[u32], vals: &[f64], base: usize, sums: &mut [f64])
@@ -24,7 +24,7 @@ fn add_window(cols: &[u32], vals: &[f64], base: usize, sums: &mut [f64])
     let width = sums.len();
     let mut k: usize = 0;
     while k < cols.len() {
-        let c = hybit_core::wide(cols[k]);
+        let c = cols[k] as usize;
         let v = vals[k];
         k += 1;
         if base <= c {
@@ -42,7 +42,7 @@ fn sums_hold(cols: &[u32], base: usize, sums: &[f64]) -> bool
 {
     let mut k: usize = 0;
     while k < cols.len() {
-        let c = hybit_core::wide(cols[k]);
+        let c = cols[k] as usize;
         k += 1;
         if base <= c {
             let i = c - base;
@@ -64,7 +64,7 @@ fn clear_window(cols: &[u32], base: usize, sums: &mut [f64])
     let width = sums.len();
     let mut k: usize = 0;
     while k < cols.len() {
-        let c = hybit_core::wide(cols[k]);
+        let c = cols[k] as usize;
         k += 1;
         if base <= c {
             let i = c - base;
@@ -123,8 +123,8 @@ fn rows_hold(
 {
     let mut row: usize = 0;
     while row < nrows {
-        let start = hybit_core::wide(row_ptr[row]);
-        let end = hybit_core::wide(row_ptr[row + 1]);
+        let start = row_ptr[row] as usize;
+        let end = row_ptr[row + 1] as usize;
         if !row_holds(ncols, &col_idx[start..end], &values[start..end], sums) {
             return false;
         }
@@ -155,15 +155,12 @@ pub fn check(
     row_ptr: &[u32],
     col_idx: &[u32],
     values: &[f64],
-) -> Verdict
+) -> Result<(), HybitError>
     ensures { told result ≡ merge_answer (as_csr nrows ncols row_ptr.now col_idx.now values.now) }
 {
-    let v = csr32::check(nrows, ncols, row_ptr, col_idx, values);
-    if let Verdict::Refused(e) = v {
-        return Verdict::Refused(e);
-    }
+    csr32::check(nrows, ncols, row_ptr, col_idx, values)?;
     if !merged_finite(nrows, ncols, row_ptr, col_idx, values) {
-        return Verdict::Refused(HybitError::NotFinite);
+        return Err(HybitError::NotFinite);
     }
-    Verdict::Accepted
+    Ok(())
 }

@@ -8,7 +8,7 @@ ghost use Rattle.metadata_first.specs.Store.{as_store};
 ghost use Rattle.metadata_first.specs.Dot.{operands_answer, dot_answer};
 ghost use Rattle.metadata_first_operands.specs.Checks.{rows_answer};
 
-use hybit_core::{HybitError, Verdict};
+use hybit_core::HybitError;
 
 // The checks that every dot makes.
 pub fn examine_operands(
@@ -23,13 +23,13 @@ pub fn examine_operands(
     mask_len: usize,
     mask: &[u64],
     x: &[f64],
-) -> Verdict
+) -> Result<(), HybitError>
     ensures { told result ≡ operands_answer (as_store nrows ncols row_word_ptr.now word_indices.now masks.now structural_nnz row_value_ptr.now values.now) (as_mask mask_len mask.now) x.now }
 {
     if !hybit_core::dimension_fits(mask_len) {
-        return Verdict::Refused(HybitError::SizeOverflow);
+        return Err(HybitError::SizeOverflow);
     }
-    let v = metadata_first::check(
+    metadata_first::check(
         nrows,
         ncols,
         row_word_ptr,
@@ -38,27 +38,21 @@ pub fn examine_operands(
         structural_nnz,
         row_value_ptr,
         values,
-    );
-    if let Verdict::Refused(e) = v {
-        return Verdict::Refused(e);
-    }
-    let m = mask::check(mask_len, mask);
-    if let Verdict::Refused(e) = m {
-        return Verdict::Refused(e);
-    }
+    )?;
+    mask::check(mask_len, mask)?;
     if mask_len != ncols {
-        return Verdict::Refused(HybitError::DimensionMismatch {
+        return Err(HybitError::DimensionMismatch {
             expected: ncols,
             actual: mask_len,
         });
     }
     if x.len() != ncols {
-        return Verdict::Refused(HybitError::DimensionMismatch {
+        return Err(HybitError::DimensionMismatch {
             expected: ncols,
             actual: x.len(),
         });
     }
-    Verdict::Accepted
+    Ok(())
 }
 
 // Those of a row's dot.
@@ -75,10 +69,10 @@ pub fn examine_row(
     mask: &[u64],
     x: &[f64],
     row: usize,
-) -> Verdict
+) -> Result<(), HybitError>
     ensures { told result ≡ dot_answer (as_store nrows ncols row_word_ptr.now word_indices.now masks.now structural_nnz row_value_ptr.now values.now) (as_mask mask_len mask.now) x.now row }
 {
-    let v = examine_operands(
+    examine_operands(
         nrows,
         ncols,
         row_word_ptr,
@@ -90,14 +84,11 @@ pub fn examine_row(
         mask_len,
         mask,
         x,
-    );
-    if let Verdict::Refused(e) = v {
-        return Verdict::Refused(e);
-    }
+    )?;
     if row >= nrows {
-        return Verdict::Refused(HybitError::NoSuchPlace);
+        return Err(HybitError::NoSuchPlace);
     }
-    Verdict::Accepted
+    Ok(())
 }
 
 // Those of every row's dot, into lists of so many places.
@@ -115,10 +106,10 @@ pub fn examine_rows(
     x: &[f64],
     sums: usize,
     counts: usize,
-) -> Verdict
+) -> Result<(), HybitError>
     ensures { told result ≡ rows_answer (as_store nrows ncols row_word_ptr.now word_indices.now masks.now structural_nnz row_value_ptr.now values.now) (as_mask mask_len mask.now) x.now sums counts }
 {
-    let v = examine_operands(
+    examine_operands(
         nrows,
         ncols,
         row_word_ptr,
@@ -130,15 +121,12 @@ pub fn examine_rows(
         mask_len,
         mask,
         x,
-    );
-    if let Verdict::Refused(e) = v {
-        return Verdict::Refused(e);
-    }
+    )?;
     if sums < nrows {
-        return Verdict::Refused(HybitError::ShortList);
+        return Err(HybitError::ShortList);
     }
     if counts < nrows {
-        return Verdict::Refused(HybitError::ShortList);
+        return Err(HybitError::ShortList);
     }
-    Verdict::Accepted
+    Ok(())
 }

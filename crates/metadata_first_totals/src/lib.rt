@@ -4,16 +4,17 @@
 
 ghost use Rattle.std.specs.Prelude.{List, [], ◌∷◌, ◌++◌, ◌≡◌};
 ghost use Rattle.metadata_first.specs.declared.AbtmRowDot.{AbtmRowDot};
-ghost use Rattle.metadata_first.specs.Dot.{told_totals};
+ghost use Rattle.hybit_core.specs.Table.{given};
 ghost use Rattle.metadata_first_totals.specs.Totals.{totals_over};
 
-use metadata_first::{AbtmProductPruningStats, AbtmRowDot, TotalsAnswer};
+use hybit_core::HybitError;
+use metadata_first::{AbtmProductPruningStats, AbtmRowDot};
 
 // The totals of no report.
-fn start() -> TotalsAnswer
-    ensures { told_totals result ≡ totals_over [] }
+fn start() -> Result<AbtmProductPruningStats, HybitError>
+    ensures { given result ≡ totals_over [] }
 {
-    TotalsAnswer::Totals(AbtmProductPruningStats {
+    Ok(AbtmProductPruningStats {
         candidate_products: 0,
         executed_products: 0,
         skipped_products: 0,
@@ -23,18 +24,21 @@ fn start() -> TotalsAnswer
 }
 
 // The totals with one report more, after whatever list `totals` is of; a refusal stays.
-fn add(totals: TotalsAnswer, report: AbtmRowDot) -> TotalsAnswer
-    ensures { (ds : List AbtmRowDot) → told_totals totals ≡ totals_over ds → told_totals result ≡ totals_over (ds ++ (report ∷ [])) }
+fn add(
+    totals: Result<AbtmProductPruningStats, HybitError>,
+    report: AbtmRowDot,
+) -> Result<AbtmProductPruningStats, HybitError>
+    ensures { (ds : List AbtmRowDot) → given totals ≡ totals_over ds → given result ≡ totals_over (ds ++ (report ∷ [])) }
 {
     match totals {
-        TotalsAnswer::Totals(t) => t.accumulate(report.counts()),
-        TotalsAnswer::Refused(e) => TotalsAnswer::Refused(e),
+        Ok(t) => t.accumulate(report.counts()),
+        Err(e) => Err(e),
     }
 }
 
 // The five totals over a list of reports, or 1 and no totals where one of them exceeds 2^64 − 1.
-pub fn totals(reports: &[AbtmRowDot]) -> TotalsAnswer
-    ensures { told_totals result ≡ totals_over reports.now }
+pub fn totals(reports: &[AbtmRowDot]) -> Result<AbtmProductPruningStats, HybitError>
+    ensures { given result ≡ totals_over reports.now }
 {
     let mut acc = start();
     let mut i: usize = 0;
@@ -46,8 +50,8 @@ pub fn totals(reports: &[AbtmRowDot]) -> TotalsAnswer
 }
 
 // The same for a caller that holds an array of reports by value.
-pub fn totals_of_64(reports: [AbtmRowDot; 64]) -> TotalsAnswer
-    ensures { told_totals result ≡ totals_over reports }
+pub fn totals_of_64(reports: [AbtmRowDot; 64]) -> Result<AbtmProductPruningStats, HybitError>
+    ensures { given result ≡ totals_over reports }
 {
     totals(&reports)
 }

@@ -1,6 +1,5 @@
 -- Document 01's worked plots marked (M), as rows of one table: what the definitions give, and what the document says.
-use Rattle.std.specs.Prelude.{ℕ, Bool, true, false, List, [], ◌∷◌, pos, negsuc, replicate, Float}
-use Rattle.std.proofs.Math.Option.{Option, none, some}
+use Rattle.std.specs.Prelude.{ℕ, Option, Some, None, Bool, true, false, List, [], ◌∷◌, pos, negsuc, replicate, Float}
 use Rattle.std.specs.Float.{fin}
 use Rattle.hybit_core.specs.Answer.{Given, gives, refuses}
 use Rattle.hybit_core.specs.Floats.{zero64}
@@ -34,8 +33,8 @@ of_given (gives n) = number n
 of_given (refuses t) = refusal t.number
 
 abbrev pub of_option : Option ℕ → Cell
-of_option (some n) = place n
-of_option none = nowhere
+of_option (Some n) = place n
+of_option None = nowhere
 
 -- the number, then candidate, executed, skipped, topology words, active words
 abbrev pub of_report : Given AbtmRowDot → Cell

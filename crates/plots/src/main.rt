@@ -3,13 +3,12 @@
 #![tactic(auto)]
 
 use abtm::AbtmConfig;
-use abtm_build::TilesAnswer;
-use demand_tiled::NumberAnswer;
-use hybit_core::{BoolAnswer, CountAnswer, HybitError, Verdict};
-use metadata_first::{AbtmRowDot, DotAnswer, TotalsAnswer};
-use restricted::RestrictAnswer;
-use topology::{SelectAnswer, StatsAnswer, TopologyAnswer};
-use word::{Operation, WordSelect};
+use abtm_build::TilesSize;
+use hybit_core::HybitError;
+use metadata_first::AbtmRowDot;
+use restricted::ColumnRestriction;
+use topology::TopologySize;
+use word::Operation;
 
 fn text(s: &[u8]) {
     io::write_all(1, s);
@@ -26,13 +25,13 @@ fn size(n: usize) {
 
 fn refused(e: HybitError) {
     text(b" refused");
-    number(hybit_core::number(e) as u64);
+    number(e.number() as u64);
 }
 
-fn count_answer(a: CountAnswer) {
+fn count_answer(a: Result<usize, HybitError>) {
     match a {
-        CountAnswer::Count(n) => size(n),
-        CountAnswer::Refused(e) => refused(e),
+        Ok(n) => size(n),
+        Err(e) => refused(e),
     }
 }
 
@@ -44,24 +43,24 @@ fn flag(b: bool) {
     }
 }
 
-fn bool_answer(a: BoolAnswer) {
+fn bool_answer(a: Result<bool, HybitError>) {
     match a {
-        BoolAnswer::Is(b) => flag(b),
-        BoolAnswer::Refused(e) => refused(e),
+        Ok(b) => flag(b),
+        Err(e) => refused(e),
     }
 }
 
-fn verdict(v: Verdict) {
+fn verdict(v: Result<(), HybitError>) {
     match v {
-        Verdict::Accepted => text(b" accepted"),
-        Verdict::Refused(e) => refused(e),
+        Ok(()) => text(b" accepted"),
+        Err(e) => refused(e),
     }
 }
 
 fn select(mask: u64, ordinal: usize) {
     match word::select(mask, ordinal) {
-        WordSelect::At(i) => size(i),
-        WordSelect::Nothing => text(b" Nothing"),
+        Some(i) => size(i),
+        None => text(b" Nothing"),
     }
 }
 
@@ -155,23 +154,25 @@ fn show_mask(plots: &[usize], words: &mut [u64], members: &mut [usize]) {
 fn show_u32(numbers: &[u32]) {
     let mut k: usize = 0;
     while k < numbers.len() {
-        size(hybit_core::wide(numbers[k]));
+        size(numbers[k] as usize);
         k += 1;
     }
 }
 
-fn topology_answer(a: TopologyAnswer) {
+fn topology_answer(a: Result<TopologySize, HybitError>) {
     match a {
-        TopologyAnswer::Built {
-            words,
-            structural_nnz,
-        } => {
+        Ok(
+            TopologySize {
+                words,
+                structural_nnz,
+            },
+        ) => {
             text(b" words");
             size(words);
             text(b", ones");
             size(structural_nnz);
         }
-        TopologyAnswer::Refused(e) => refused(e),
+        Err(e) => refused(e),
     }
 }
 
@@ -218,9 +219,9 @@ fn show_ranks(ptr: &[u32], words: &[u32], masks: &[u64]) {
 
 fn show_select(ptr: &[u32], words: &[u32], masks: &[u64], ordinal: usize) {
     match topology_rows::row_select(1, 70, ptr, words, masks, 3, 0, ordinal) {
-        SelectAnswer::At(c) => size(c),
-        SelectAnswer::Nothing => text(b" Nothing"),
-        SelectAnswer::Refused(e) => refused(e),
+        Ok(Some(c)) => size(c),
+        Ok(None) => text(b" Nothing"),
+        Err(e) => refused(e),
     }
 }
 
@@ -236,8 +237,8 @@ fn show_selects(ptr: &[u32], words: &[u32], masks: &[u64]) {
 fn show_stats(ptr: &[u32], words: &[u32], masks: &[u64]) {
     text(b"metadata_bytes");
     match topology::stats(1, 70, ptr, words, masks, 3) {
-        StatsAnswer::Stats(s) => size(s.metadata_bytes),
-        StatsAnswer::Refused(e) => refused(e),
+        Ok(s) => size(s.metadata_bytes),
+        Err(e) => refused(e),
     }
     text(b"\n");
 }
@@ -349,10 +350,10 @@ fn report(d: AbtmRowDot) {
     size(d.active_words);
 }
 
-fn dot_answer(a: DotAnswer) {
+fn dot_answer(a: Result<AbtmRowDot, HybitError>) {
     match a {
-        DotAnswer::Dot(d) => report(d),
-        DotAnswer::Refused(e) => refused(e),
+        Ok(d) => report(d),
+        Err(e) => refused(e),
     }
 }
 
@@ -454,13 +455,15 @@ fn show_store() {
     );
 }
 
-fn tiles_answer(a: TilesAnswer) {
+fn tiles_answer(a: Result<TilesSize, HybitError>) {
     match a {
-        TilesAnswer::Built {
-            tiles,
-            value_slots,
-            matrix_nnz,
-        } => {
+        Ok(
+            TilesSize {
+                tiles,
+                value_slots,
+                matrix_nnz,
+            },
+        ) => {
             text(b" tiles");
             size(tiles);
             text(b", slots");
@@ -468,7 +471,7 @@ fn tiles_answer(a: TilesAnswer) {
             text(b", values");
             size(matrix_nnz);
         }
-        TilesAnswer::Refused(e) => refused(e),
+        Err(e) => refused(e),
     }
 }
 
@@ -594,15 +597,15 @@ fn show_pair(values: &[f64]) {
     text(b"\n");
 }
 
-fn restrict_answer(a: RestrictAnswer) {
+fn restrict_answer(a: Result<ColumnRestriction, HybitError>) {
     match a {
-        RestrictAnswer::Built(s) => {
+        Ok(s) => {
             text(b" kept");
             size(s.retained_nnz);
             text(b" of");
             size(s.source_nnz);
         }
-        RestrictAnswer::Refused(e) => refused(e),
+        Err(e) => refused(e),
     }
 }
 
@@ -647,10 +650,10 @@ fn show_pairs() {
     show_pair(&cancelling);
 }
 
-fn number_answer(a: NumberAnswer) {
+fn number_answer(a: Result<f64, HybitError>) {
     match a {
-        NumberAnswer::Number(n) => float(n),
-        NumberAnswer::Refused(e) => refused(e),
+        Ok(n) => float(n),
+        Err(e) => refused(e),
     }
 }
 
@@ -779,8 +782,8 @@ fn show_totals(first: AbtmRowDot, last: AbtmRowDot) {
     reports[63] = last;
     text(b"totals:");
     match metadata_first_totals::totals_of_64(reports) {
-        TotalsAnswer::Refused(e) => refused(e),
-        TotalsAnswer::Totals(t) => {
+        Err(e) => refused(e),
+        Ok(t) => {
             size(t.candidate_products);
             size(t.executed_products);
             size(t.skipped_products);

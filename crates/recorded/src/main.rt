@@ -15,7 +15,7 @@ use denimrasp_answers::{
     DenimraspVerdict,
 };
 use dense_block::DenseBlocks;
-use hybit_core::{HybitError, Verdict};
+use hybit_core::HybitError;
 use metadata_first::{AbtmProductPruningStats, AbtmRowDot};
 use restricted::{ColumnRestriction, LocalRegion};
 use topology::AbtmTopologyWord;
@@ -190,6 +190,10 @@ fn refusal(n: u32, expected: usize, actual: usize) {
     size(actual);
 }
 
+fn refused(e: HybitError) {
+    refusal(e.number(), e.expected(), e.actual());
+}
+
 fn verdict(r: DenimraspVerdict) {
     refusal(r.number, r.expected, r.actual);
 }
@@ -317,7 +321,7 @@ fn show_u32(s: &[u32]) {
     size(s.len());
     let mut i: usize = 0;
     while i < s.len() {
-        size(hybit_core::wide(s[i]));
+        size(s[i] as usize);
         i += 1;
     }
 }
@@ -346,6 +350,48 @@ fn show_f64(s: &[f64]) {
     while i < s.len() {
         float(s[i]);
         i += 1;
+    }
+}
+
+// A part of a lent list of u32, or why there is none.
+fn part_u32(part: Result<&[u32], HybitError>) {
+    match part {
+        Ok(p) => {
+            refusal(0, 0, 0);
+            show_u32(p);
+        }
+        Err(e) => {
+            refused(e);
+            show_u32(&[]);
+        }
+    }
+}
+
+// A part of a lent list of u64, or why there is none.
+fn part_u64(part: Result<&[u64], HybitError>) {
+    match part {
+        Ok(p) => {
+            refusal(0, 0, 0);
+            show_u64(p);
+        }
+        Err(e) => {
+            refused(e);
+            show_u64(&[]);
+        }
+    }
+}
+
+// A part of a lent list of f64, or why there is none.
+fn part_f64(part: Result<&[f64], HybitError>) {
+    match part {
+        Ok(p) => {
+            refusal(0, 0, 0);
+            show_f64(p);
+        }
+        Err(e) => {
+            refused(e);
+            show_f64(&[]);
+        }
     }
 }
 
@@ -530,9 +576,7 @@ fn csr32_question(call: u64, f: Frame, row_ptr: &[u32], col_idx: &[u32], values:
         31 => verdict(denimrasp::denimrasp_metadata_first_check_merge(
             m, n, row_ptr, col_idx, values,
         )),
-        _ => count(denimrasp_answers::count(dense_block_counts::structural_slots(
-            m, n, row_ptr, col_idx, values,
-        ))),
+        _ => count(dense_block_counts::structural_slots(m, n, row_ptr, col_idx, values).into()),
     }
 }
 
@@ -842,7 +886,7 @@ fn block_columns(
     let mut out_col_idx_room = [0u32; ROOM];
     let out_row_ptr = read_u32(text, at, &mut out_row_ptr_room);
     let out_col_idx = read_u32(text, at, &mut out_col_idx_room);
-    count(denimrasp_answers::count(dense_block_columns::from_csr32(
+    count(dense_block_columns::from_csr32(
         f.nrows,
         f.ncols,
         row_ptr,
@@ -851,7 +895,8 @@ fn block_columns(
         denimrasp_answers::block_size(six),
         out_row_ptr,
         out_col_idx,
-    )));
+    )
+    .into());
     show_u32(out_row_ptr);
     show_u32(out_col_idx);
 }
@@ -901,7 +946,7 @@ fn topology_question(call: u64, f: Frame, ptr: &[u32], words: &[u32], masks: &[u
     match call {
         17 => verdict(denimrasp::denimrasp_topology_check(m, n, ptr, words, masks, nnz)),
         25 => word_figures(denimrasp::denimrasp_topology_stats(m, n, ptr, words, masks, nnz)),
-        _ => verdict(denimrasp_answers::verdict(topology::check_lists(m, n, ptr, words, masks))),
+        _ => verdict(topology::check_lists(m, n, ptr, words, masks).into()),
     }
 }
 
@@ -941,15 +986,10 @@ fn topology_row_part(
 ) {
     let m = f.nrows;
     let n = f.ncols;
-    let mut no: u32 = 99;
     if call == 246 {
-        let part = topology_rows::row_word_indices(m, n, ptr, words, masks, nnz, row, &mut no);
-        refusal(no, 0, 0);
-        show_u32(part);
+        part_u32(topology_rows::row_word_indices(m, n, ptr, words, masks, nnz, row));
     } else {
-        let part = topology_rows::row_masks(m, n, ptr, words, masks, nnz, row, &mut no);
-        refusal(no, 0, 0);
-        show_u64(part);
+        part_u64(topology_rows::row_masks(m, n, ptr, words, masks, nnz, row));
     }
 }
 
@@ -1243,12 +1283,9 @@ fn store_row_part(
     vals: &[f64],
     row: usize,
 ) {
-    let mut no: u32 = 99;
-    let part = metadata_first::row_values(
-        f.nrows, f.ncols, ptr, words, masks, nnz, value_ptr, vals, row, &mut no,
-    );
-    refusal(no, 0, 0);
-    show_f64(part);
+    part_f64(metadata_first::row_values(
+        f.nrows, f.ncols, ptr, words, masks, nnz, value_ptr, vals, row,
+    ));
 }
 
 fn sparse_dot_row(
@@ -1433,12 +1470,9 @@ fn tile_masks(
     nnz: usize,
     row: usize,
 ) {
-    let mut no: u32 = 99;
-    let part = abtm_rows::row_tile_masks(
-        f.nrows, f.ncols, ptr, masks, offsets, metas, values, nnz, row, &mut no,
-    );
-    refusal(no, 0, 0);
-    show_u64(part);
+    part_u64(abtm_rows::row_tile_masks(
+        f.nrows, f.ncols, ptr, masks, offsets, metas, values, nnz, row,
+    ));
 }
 
 // The row's part of the offsets or of the metas.
@@ -1455,19 +1489,12 @@ fn tile_part(
 ) {
     let m = f.nrows;
     let n = f.ncols;
-    let mut no: u32 = 99;
     if call == 252 {
-        let part = abtm_rows::row_tile_value_offsets(
-            m, n, ptr, masks, offsets, metas, values, nnz, row, &mut no,
-        );
-        refusal(no, 0, 0);
-        show_u32(part);
+        part_u32(abtm_rows::row_tile_value_offsets(
+            m, n, ptr, masks, offsets, metas, values, nnz, row,
+        ));
     } else {
-        let part = abtm_rows::row_tile_metas(
-            m, n, ptr, masks, offsets, metas, values, nnz, row, &mut no,
-        );
-        refusal(no, 0, 0);
-        show_u32(part);
+        part_u32(abtm_rows::row_tile_metas(m, n, ptr, masks, offsets, metas, values, nnz, row));
     }
 }
 
@@ -1826,13 +1853,9 @@ fn core_refusal(text: &[u8], at: &mut usize) {
     let expected = index(text, at);
     let actual = index(text, at);
     let e = error_of(n, expected, actual);
-    refusal(
-        hybit_core::number(e),
-        hybit_core::expected(e),
-        hybit_core::actual(e),
-    );
-    number(hybit_core::verdict_number(Verdict::Refused(e)) as u64);
-    number(hybit_core::verdict_number(Verdict::Accepted) as u64);
+    refused(e);
+    number(e.number() as u64);
+    number(0);
 }
 
 fn core_sizes(text: &[u8], at: &mut usize) {
@@ -1865,22 +1888,22 @@ fn core_is_finite(text: &[u8], at: &mut usize) {
 fn core_narrow(text: &[u8], at: &mut usize) {
     let n = index(text, at);
     refusal(0, 0, 0);
-    size(hybit_core::wide(hybit_core::narrow(n)));
+    size(hybit_core::narrow(n) as usize);
 }
 
 fn core_saturating(text: &[u8], at: &mut usize) {
     let a = index(text, at);
     let b = index(text, at);
     refusal(0, 0, 0);
-    size(hybit_core::saturating_add(a, b));
-    size(hybit_core::saturating_mul(a, b));
+    size(a.saturating_add(b));
+    size(a.saturating_mul(b));
 }
 
 fn clear_from_u32(text: &[u8], at: &mut usize) {
     let mut list_room = [0u32; ROOM];
     let list = read_u32(text, at, &mut list_room);
     let from = index(text, at);
-    lent::clear_from_u32(list, from);
+    lent::clear_from(list, from);
     refusal(0, 0, 0);
     show_u32(list);
 }
@@ -1889,7 +1912,7 @@ fn clear_from_u64(text: &[u8], at: &mut usize) {
     let mut list_room = [0u64; ROOM];
     let list = read_u64(text, at, &mut list_room);
     let from = index(text, at);
-    lent::clear_from_u64(list, from);
+    lent::clear_from(list, from);
     refusal(0, 0, 0);
     show_u64(list);
 }
@@ -1898,7 +1921,7 @@ fn clear_from_usize(text: &[u8], at: &mut usize) {
     let mut list_room = [0usize; ROOM];
     let list = read_usize(text, at, &mut list_room);
     let from = index(text, at);
-    lent::clear_from_usize(list, from);
+    lent::clear_from(list, from);
     refusal(0, 0, 0);
     show_usize(list);
 }
@@ -1907,7 +1930,7 @@ fn clear_from_f64(text: &[u8], at: &mut usize) {
     let mut list_room = [0.0f64; ROOM];
     let list = read_f64(text, at, &mut list_room);
     let from = index(text, at);
-    lent::clear_from_f64(list, from);
+    lent::clear_from(list, from);
     refusal(0, 0, 0);
     show_f64(list);
 }
@@ -1970,8 +1993,8 @@ fn topology_word(text: &[u8], at: &mut usize) {
     let mask = numeral(text, at);
     let n = index(text, at);
     let w = AbtmTopologyWord { word_index, mask };
-    count(denimrasp_answers::count(w.rank(n)));
-    let s = denimrasp_answers::word_selection(w.select(n));
+    count(w.rank(n).into());
+    let s: DenimraspSelect = w.select(n).into();
     truth(s.found);
     size(s.column);
     size(w.base_col());
@@ -2023,10 +2046,10 @@ fn tile_value(text: &[u8], at: &mut usize) {
     let nnz = index(text, at);
     let x = float_of(numeral(text, at));
     refusal(0, 0, 0);
-    size(hybit_core::wide(abtm::word_in(meta)));
-    size(hybit_core::wide(abtm::kind_in(meta)));
+    size(abtm::word_in(meta) as usize);
+    size(abtm::kind_in(meta) as usize);
     size(abtm::slot_count(mask, meta));
-    size(hybit_core::wide(thresholds.kind_of(nnz)));
+    size(thresholds.kind_of(nnz) as usize);
     default_thresholds();
     truth(abtm_values::is_zero(x));
     truth(abtm_values::is_plus_zero(x));

@@ -2,18 +2,15 @@
 use Rattle.std.specs.Prelude.{ℕ, ◌+◌, ◌*◌, Bool, cond, ◌&&◌, List, map, eqb, leb, ltb, length, get_or, Float}
 use Rattle.std.specs.Float.{binary64}
 use Rattle.std.specs.Float.Ieee.{sub}
-use Rattle.hybit_core.specs.Answer.{Answer, Given, gives, refuses, demand, length_is, ◌and_then◌}
+use Rattle.hybit_core.specs.Answer.{Answer, demand, length_is, ◌and_then◌}
 use Rattle.hybit_core.specs.Domain.{few, saturated}
 use Rattle.hybit_core.specs.Floats.{zero64, count_as_float, ratio_of}
-use Rattle.hybit_core.specs.Table.{paper}
 use Rattle.lent.specs.Lists.{every, climbs, spread}
 use Rattle.word.specs.Bits.{below, count}
 use Rattle.mask.specs.Mask.{Mask, active, mask_rules}
 use Rattle.csr32.specs.Csr.{Csr, Entry, csr_sizes, csr_rules, entries, at}
 use Rattle.csr32.specs.Made.{entries_in, csr_of, CsrRoom, fits_csr}
 use Rattle.restricted.specs.declared.LocalRegion.{LocalRegion}
-use Rattle.restricted.specs.declared.LocalAnswer.{LocalAnswer}
-use Rattle.restricted.specs.declared.LocalAnswer.TheVariants as region
 
 -- ---- from CSR
 
@@ -71,10 +68,6 @@ gathered ms x = map (at x) ms
 
 unfoldable pub region_of : Csr → Mask → LocalRegion
 region_of m a = record { global_size = m.rows; local_nodes = length (region_members a); local_nnz = length (local_list m a).val; source_row_nnz = length (region_entries m a) }
-
-abbrev pub told_region : LocalAnswer → Given LocalRegion
-told_region (region.Built s) = gives s
-told_region (region.Refused e) = refuses (paper e)
 
 -- 1.0 − local ÷ source in f64, 0.0 without a source entry
 unfoldable pub boundary_ratio : LocalRegion → Float

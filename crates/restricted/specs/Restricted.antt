@@ -1,9 +1,8 @@
 -- Restricted lists (document 01, "Restricted and local lists"): a plot list cut to the active columns, numbered as before.
 use Rattle.std.specs.Prelude.{ℕ, ◌+◌, ◌*◌, ◌&&◌, length, Float}
-use Rattle.hybit_core.specs.Answer.{Answer, Given, gives, refuses, demand, length_is, ◌and_then◌}
+use Rattle.hybit_core.specs.Answer.{Answer, demand, length_is, ◌and_then◌}
 use Rattle.hybit_core.specs.Domain.{few, many, saturated}
 use Rattle.hybit_core.specs.Floats.{finite, ratio_of}
-use Rattle.hybit_core.specs.Table.{paper}
 use Rattle.lent.specs.Lists.{every}
 use Rattle.word.specs.Bits.{ceil64}
 use Rattle.mask.specs.Mask.{Mask, active, mask_rules}
@@ -11,8 +10,6 @@ use Rattle.csr32.specs.Csr.{Csr, csr_sizes, csr_rules, entries}
 use Rattle.csr32.specs.Made.{entries_in, csr_of, CsrRoom, fits_csr, csr_left}
 use Rattle.abtm.specs.Tiles.{Tiles, tile_sizes, tiles_rules, tile_entries}
 use Rattle.restricted.specs.declared.ColumnRestriction.{ColumnRestriction}
-use Rattle.restricted.specs.declared.RestrictAnswer.{RestrictAnswer}
-use Rattle.restricted.specs.declared.RestrictAnswer.TheVariants as restriction
 
 -- ---- from CSR
 
@@ -61,10 +58,6 @@ restriction_of m a = record { nrows = m.rows; ncols = m.cols; source_nnz = lengt
 
 unfoldable pub tile_restriction_of : Tiles → Mask → ColumnRestriction
 tile_restriction_of t a = record { nrows = t.rows; ncols = t.cols; source_nnz = t.nnz; retained_nnz = length (restricted_tiles t a).val }
-
-abbrev pub told_restriction : RestrictAnswer → Given ColumnRestriction
-told_restriction (restriction.Built s) = gives s
-told_restriction (restriction.Refused e) = refuses (paper e)
 
 -- kept ÷ source in f64, 0.0 without a source entry
 abbrev pub retained_fraction : ColumnRestriction → Float

@@ -18,13 +18,6 @@ pub struct ColumnRestriction {
     pub retained_nnz: usize,
 }
 
-// `Result<PreparedColumnRestrictedCsrOperator, HybitError>`: the lists are the caller's.
-#[derive(Clone, Copy)]
-pub enum RestrictAnswer {
-    Built(ColumnRestriction),
-    Refused(HybitError),
-}
-
 // A list cut to a region: its members, its entries, and the source entries of its rows.
 #[derive(Clone, Copy)]
 pub struct LocalRegion {
@@ -32,13 +25,6 @@ pub struct LocalRegion {
     pub local_nodes: usize,
     pub local_nnz: usize,
     pub source_row_nnz: usize,
-}
-
-// `Result<PreparedLocalCsrOperator, HybitError>`
-#[derive(Clone, Copy)]
-pub enum LocalAnswer {
-    Built(LocalRegion),
-    Refused(HybitError),
 }
 
 // How many words a mask of n columns takes.
@@ -62,10 +48,10 @@ impl ColumnRestriction {
     pub fn storage_bytes(self) -> usize
         ensures { result ≡ restriction_bytes self }
     {
-        let pointers = hybit_core::saturating_mul(4, hybit_core::saturating_add(self.nrows, 1));
-        let entries = hybit_core::saturating_mul(12, self.retained_nnz);
-        let words = hybit_core::saturating_mul(8, words_for(self.ncols));
-        hybit_core::saturating_add(hybit_core::saturating_add(pointers, entries), words)
+        let pointers = 4usize.saturating_mul(self.nrows.saturating_add(1));
+        let entries = 12usize.saturating_mul(self.retained_nnz);
+        let words = 8usize.saturating_mul(words_for(self.ncols));
+        pointers.saturating_add(entries).saturating_add(words)
     }
 }
 
@@ -83,12 +69,9 @@ impl LocalRegion {
     pub fn storage_bytes(self) -> usize
         ensures { result ≡ region_bytes self }
     {
-        let pointers = hybit_core::saturating_mul(
-            4,
-            hybit_core::saturating_add(self.local_nodes, 1),
-        );
-        let entries = hybit_core::saturating_mul(12, self.local_nnz);
-        let members = hybit_core::saturating_mul(4, self.local_nodes);
-        hybit_core::saturating_add(hybit_core::saturating_add(pointers, entries), members)
+        let pointers = 4usize.saturating_mul(self.local_nodes.saturating_add(1));
+        let entries = 12usize.saturating_mul(self.local_nnz);
+        let members = 4usize.saturating_mul(self.local_nodes);
+        pointers.saturating_add(entries).saturating_add(members)
     }
 }

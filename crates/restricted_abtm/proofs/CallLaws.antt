@@ -1,4 +1,5 @@
 -- The checks at each return of the code, and what a call answers. Assumes nothing.
+use Rattle.std.specs.Prelude.{Result, Ok, Err}
 use mathlib.Core.Bool.{Bool, true, false, ◌&&◌}
 use mathlib.Core.List.{List, [], zip}
 use mathlib.Core.Path.{◌≡◌, refl, sym, ap, ◌∙◌}
@@ -13,8 +14,6 @@ use Rattle.hybit_core.specs.Answer.{Answer, accepted, refused, plain, lengths_di
 use Rattle.hybit_core.specs.Domain.{few, many}
 use Rattle.hybit_core.specs.Floats.{finite}
 use Rattle.hybit_core.specs.Table.{paper, told}
-use Rattle.hybit_core.specs.declared.Verdict.{Verdict}
-use Rattle.hybit_core.specs.declared.Verdict.TheVariants.{Accepted, Refused}
 use Rattle.hybit_core.specs.declared.HybitError.{HybitError}
 use Rattle.hybit_core.proofs.BoolLaws.{and_first, and-next, and_left, and_right, is_within, is_above}
 use Rattle.hybit_core.proofs.AnswerLaws.{demand_accepted, then_second, test_fails, test_passes, last_fails, last_passes, last_length_wrong, last_length_right, call_refused, call_accepted, by_records}
@@ -96,17 +95,17 @@ module _ (t : Tiles) (n : ℕ) (ws : List ℕ) where
     unfolding records_answer tiles_answer mask_answer
     records_are = by_records (few n) (tile_sizes t) (mask_rules (as_mask n ws)) (demand (tiles_rules t) 12) size small
 
-    pub tiles_refused : (v : Verdict) (e : HybitError) → told v ≡ tiles_answer t → v ≡ Refused e → refused (paper e) ≡ records_answer t (as_mask n ws)
+    pub tiles_refused : (v : Result Unit HybitError) (e : HybitError) → told v ≡ tiles_answer t → v ≡ Err e → refused (paper e) ≡ records_answer t (as_mask n ws)
     tiles_refused v e h k = call_refused (tiles_answer t) (mask_answer (as_mask n ws) and_then size) v e h k ∙ sym records_are
 
-    module _ (v : Verdict) (h : told v ≡ tiles_answer t) (k : v ≡ Accepted) where
+    module _ (v : Result Unit HybitError) (h : told v ≡ tiles_answer t) (k : v ≡ Ok tt) where
       by_mask : (a : Answer) → a ≡ mask_answer (as_mask n ws) and_then size → a ≡ records_answer t (as_mask n ws)
       by_mask a e = call_accepted (tiles_answer t) (mask_answer (as_mask n ws) and_then size) a v h k e ∙ sym records_are
 
-      pub mask_refused : (m : Verdict) (e : HybitError) → told m ≡ mask_answer (as_mask n ws) → m ≡ Refused e → refused (paper e) ≡ records_answer t (as_mask n ws)
+      pub mask_refused : (m : Result Unit HybitError) (e : HybitError) → told m ≡ mask_answer (as_mask n ws) → m ≡ Err e → refused (paper e) ≡ records_answer t (as_mask n ws)
       mask_refused m e hm km = by_mask (refused (paper e)) (call_refused (mask_answer (as_mask n ws)) size m e hm km)
 
-      module _ (m : Verdict) (hm : told m ≡ mask_answer (as_mask n ws)) (km : m ≡ Accepted) where
+      module _ (m : Result Unit HybitError) (hm : told m ≡ mask_answer (as_mask n ws)) (km : m ≡ Ok tt) where
         pub wrong_size : (n ≡ t.cols → ⊥) → refused (lengths_differ t.cols n) ≡ records_answer t (as_mask n ws)
         wrong_size l = by_mask _ (call_accepted (mask_answer (as_mask n ws)) size _ m hm km (last_length_wrong t.cols n l))
 
@@ -224,10 +223,10 @@ module _ (t : Tiles) (a : Mask) (room : CsrRoom) where
       parts accepted (refused t) c d e = refl
       parts (refused t) b c d e = refl
 
-  pub records_refuse : (v : Verdict) (e : HybitError) → told v ≡ records_answer t a → v ≡ Refused e → told v ≡ restrict_tiles_answer t a room
+  pub records_refuse : (v : Result Unit HybitError) (e : HybitError) → told v ≡ records_answer t a → v ≡ Err e → told v ≡ restrict_tiles_answer t a room
   records_refuse v e h k = ap told k ∙ call_refused (records_answer t a) (last_answer t a room) v e h k ∙ sym whole_is
 
-  pub last_decides : (v w : Verdict) → told v ≡ records_answer t a → v ≡ Accepted → told w ≡ last_answer t a room → told w ≡ restrict_tiles_answer t a room
+  pub last_decides : (v w : Result Unit HybitError) → told v ≡ records_answer t a → v ≡ Ok tt → told w ≡ last_answer t a room → told w ≡ restrict_tiles_answer t a room
   last_decides v w h k l = call_accepted (records_answer t a) (last_answer t a room) (told w) v h k l ∙ sym whole_is
 
 -- lists that a refused call has written to, cleared

@@ -7,7 +7,7 @@ ghost use mathlib.Core.List.{map, zip};
 ghost use Rattle.hybit_core.specs.Answer.{accepted, answers, demand, ◌and_then◌};
 ghost use Rattle.hybit_core.specs.Domain.{many};
 ghost use Rattle.hybit_core.specs.Floats.{zero64, finite};
-ghost use Rattle.hybit_core.specs.Table.{told};
+ghost use Rattle.hybit_core.specs.Table.{told, given};
 ghost use Rattle.lent.specs.Lists.{every};
 ghost use Rattle.lent.specs.Lent.{Appended, built, padded};
 ghost use Rattle.word.specs.Bits.{members};
@@ -15,11 +15,11 @@ ghost use Rattle.mask.specs.Mask.{as_mask};
 ghost use Rattle.csr32.specs.Csr.{Entry};
 ghost use Rattle.csr32.specs.Made.{as_csr_room};
 ghost use Rattle.abtm.specs.Tiles.{as_tiles, word_in};
-ghost use Rattle.restricted.specs.Restricted.{restricted_tiles, restrict_tiles_answer, tile_restriction_of, told_restriction};
+ghost use Rattle.restricted.specs.Restricted.{restricted_tiles, restrict_tiles_answer, tile_restriction_of};
 ghost use Rattle.restricted_abtm.specs.Kept.{place_in, value_in, kept_all, kept_count, kept_answer, bits_inside, tile_ready, records_answer, last_answer, Restriction};
 
-use hybit_core::{HybitError, Verdict};
-use restricted::{ColumnRestriction, RestrictAnswer};
+use hybit_core::HybitError;
+use restricted::ColumnRestriction;
 
 // The place of a tile's column among its values: the column's own in a Dense tile, its rank among the tile's columns in any other.
 fn place_in(meta: u32, mask: u64, bit: usize) -> usize
@@ -52,7 +52,7 @@ fn keep_tile(
     ensures columns { result ≤ room → Appended (map (λ i. 64 * word_in meta + i) (members bits)) from result out_col_idx.old out_col_idx.new }
     ensures values { result ≤ room → Appended (map (value_in values.now mask offset meta) (members bits)) from result out_values.old out_values.new }
 {
-    let base = 64 * hybit_core::wide(abtm::word_in(meta));
+    let base = 64 * abtm::word_in(meta) as usize;
     let mut next = from;
     let mut rest = bits;
     while rest != 0 {
@@ -94,12 +94,12 @@ fn keep_row(
     let mut at = from;
     let mut k: usize = 0;
     while k < masks.len() {
-        let word = hybit_core::wide(abtm::word_in(metas[k]));
+        let word = abtm::word_in(metas[k]) as usize;
         let bits = word::intersection(masks[k], mask[word]);
         at = keep_tile(
             bits,
             masks[k],
-            hybit_core::wide(value_offsets[k]),
+            value_offsets[k] as usize,
             metas[k],
             values,
             at,
@@ -141,8 +141,8 @@ fn fill_rows(
     let mut row: usize = 0;
     while row < nrows {
         out_row_ptr[row] = hybit_core::narrow(at);
-        let start = hybit_core::wide(row_tile_ptr[row]);
-        let end = hybit_core::wide(row_tile_ptr[row + 1]);
+        let start = row_tile_ptr[row] as usize;
+        let end = row_tile_ptr[row + 1] as usize;
         at = keep_row(
             &masks[start..end],
             &value_offsets[start..end],
@@ -190,12 +190,12 @@ fn active_finite(
 {
     let mut k: usize = 0;
     while k < masks.len() {
-        let word = hybit_core::wide(abtm::word_in(metas[k]));
+        let word = abtm::word_in(metas[k]) as usize;
         let tested = word::intersection(masks[k], mask[word]);
         if !tile_finite(
             tested,
             masks[k],
-            hybit_core::wide(value_offsets[k]),
+            value_offsets[k] as usize,
             metas[k],
             values,
         ) {
@@ -234,7 +234,7 @@ fn count_kept(masks: &[u64], metas: &[u32], mask: &[u64]) -> usize
     let mut kept: usize = 0;
     let mut k: usize = 0;
     while k < masks.len() {
-        let word = hybit_core::wide(abtm::word_in(metas[k]));
+        let word = abtm::word_in(metas[k]) as usize;
         kept += word::popcount(word::intersection(masks[k], mask[word]));
         k += 1;
     }
@@ -252,29 +252,29 @@ fn examine_kept(
     pointer_room: usize,
     column_room: usize,
     value_room: usize,
-) -> Verdict
+) -> Result<(), HybitError>
     requires fact_1 { (length value_offsets.now ≡ length masks.now) × (length metas.now ≡ length masks.now) }
     requires fact_2 { every (tile_ready (length values.now) (length mask.now)) (zip masks.now (zip value_offsets.now metas.now)) ≡ true }
     requires fact_3 { length masks.now ≤ 2 ^ 24 }
     ensures { told result ≡ kept_answer nrows (kept_all values.now mask.now (zip masks.now (zip value_offsets.now metas.now))) (as_csr_room pointer_room column_room value_room) }
 {
     if !kept_finite(masks, value_offsets, metas, values, mask) {
-        return Verdict::Refused(HybitError::NotFinite);
+        return Err(HybitError::NotFinite);
     }
     let kept = count_kept(masks, metas, mask);
     if !hybit_core::entries_fit(kept) {
-        return Verdict::Refused(HybitError::SizeOverflow);
+        return Err(HybitError::SizeOverflow);
     }
     if pointer_room <= nrows {
-        return Verdict::Refused(HybitError::ShortList);
+        return Err(HybitError::ShortList);
     }
     if column_room < kept {
-        return Verdict::Refused(HybitError::ShortList);
+        return Err(HybitError::ShortList);
     }
     if value_room < kept {
-        return Verdict::Refused(HybitError::ShortList);
+        return Err(HybitError::ShortList);
     }
-    Verdict::Accepted
+    Ok(())
 }
 
 // The checks of the records and of their lengths: 1; 12; 5; 6.
@@ -289,13 +289,13 @@ fn examine(
     matrix_nnz: usize,
     mask_len: usize,
     mask: &[u64],
-) -> Verdict
+) -> Result<(), HybitError>
     ensures { told result ≡ records_answer (as_tiles nrows ncols row_tile_ptr.now masks.now value_offsets.now metas.now values.now matrix_nnz) (as_mask mask_len mask.now) }
 {
     if !hybit_core::dimension_fits(mask_len) {
-        return Verdict::Refused(HybitError::SizeOverflow);
+        return Err(HybitError::SizeOverflow);
     }
-    let v = abtm_check::check(
+    abtm_check::check(
         nrows,
         ncols,
         row_tile_ptr,
@@ -304,41 +304,35 @@ fn examine(
         metas,
         values,
         matrix_nnz,
-    );
-    if let Verdict::Refused(e) = v {
-        return Verdict::Refused(e);
-    }
-    let m = mask::check(mask_len, mask);
-    if let Verdict::Refused(e) = m {
-        return Verdict::Refused(e);
-    }
+    )?;
+    mask::check(mask_len, mask)?;
     if mask_len != ncols {
-        return Verdict::Refused(HybitError::DimensionMismatch {
+        return Err(HybitError::DimensionMismatch {
             expected: ncols,
             actual: mask_len,
         });
     }
-    Verdict::Accepted
+    Ok(())
 }
 
 // What a build leaves, and how many entries it keeps.
 #[derive(Clone, Copy)]
 struct Filled {
-    verdict: Verdict,
+    verdict: Result<(), HybitError>,
     kept: usize,
 }
 
 // The tests of entries that have all been written: 4, 1.
-fn examine_written(written: &[f64]) -> Verdict
+fn examine_written(written: &[f64]) -> Result<(), HybitError>
     ensures { told result ≡ demand (every finite written.now) 4 and_then demand (many (length written.now)) 1 }
 {
     if !csr32::all_finite(written) {
-        return Verdict::Refused(HybitError::NotFinite);
+        return Err(HybitError::NotFinite);
     }
     if !hybit_core::entries_fit(written.len()) {
-        return Verdict::Refused(HybitError::SizeOverflow);
+        return Err(HybitError::SizeOverflow);
     }
-    Verdict::Accepted
+    Ok(())
 }
 
 // Writes the entries of accepted tiles and mask. Where all of them fit, the values that were written are tested; where they don't, the
@@ -379,7 +373,7 @@ fn fill(
             kept: 0,
         };
     }
-    let room = hybit_core::smaller(out_col_idx.len(), out_values.len());
+    let room = out_col_idx.len().min(out_values.len());
     let kept = fill_rows(
         nrows,
         ncols,
@@ -431,9 +425,9 @@ fn clear_lists(
     ensures columns { out_col_idx.new ≡ padded 0 (length out_col_idx.old) (take entries out_col_idx.old) }
     ensures values { out_values.new ≡ padded zero64 (length out_values.old) (take entries out_values.old) }
 {
-    lent::clear_from_u32(out_row_ptr, pointers);
-    lent::clear_from_u32(out_col_idx, entries);
-    lent::clear_from_f64(out_values, entries);
+    lent::clear_from(out_row_ptr, pointers);
+    lent::clear_from(out_col_idx, entries);
+    lent::clear_from(out_values, entries);
 }
 
 // The entries of accepted tiles in active columns, in `out_row_ptr`, `out_col_idx` and `out_values`: the used parts are nrows + 1
@@ -452,8 +446,8 @@ pub fn from_abtm(
     out_row_ptr: &mut [u32],
     out_col_idx: &mut [u32],
     out_values: &mut [f64],
-) -> RestrictAnswer
-    ensures answer { told_restriction result ≡ answers (restrict_tiles_answer (as_tiles nrows ncols row_tile_ptr.now masks.now value_offsets.now metas.now values.now matrix_nnz) (as_mask mask_len mask.now) (as_csr_room (length out_row_ptr.old) (length out_col_idx.old) (length out_values.old))) (tile_restriction_of (as_tiles nrows ncols row_tile_ptr.now masks.now value_offsets.now metas.now values.now matrix_nnz) (as_mask mask_len mask.now)) }
+) -> Result<ColumnRestriction, HybitError>
+    ensures answer { given result ≡ answers (restrict_tiles_answer (as_tiles nrows ncols row_tile_ptr.now masks.now value_offsets.now metas.now values.now matrix_nnz) (as_mask mask_len mask.now) (as_csr_room (length out_row_ptr.old) (length out_col_idx.old) (length out_values.old))) (tile_restriction_of (as_tiles nrows ncols row_tile_ptr.now masks.now value_offsets.now metas.now values.now matrix_nnz) (as_mask mask_len mask.now)) }
     ensures pointers { out_row_ptr.new ≡ built 0 (length out_row_ptr.old) (restrict_tiles_answer (as_tiles nrows ncols row_tile_ptr.now masks.now value_offsets.now metas.now values.now matrix_nnz) (as_mask mask_len mask.now) (as_csr_room (length out_row_ptr.old) (length out_col_idx.old) (length out_values.old))) (restricted_tiles (as_tiles nrows ncols row_tile_ptr.now masks.now value_offsets.now metas.now values.now matrix_nnz) (as_mask mask_len mask.now)).ptr }
     ensures columns { out_col_idx.new ≡ built 0 (length out_col_idx.old) (restrict_tiles_answer (as_tiles nrows ncols row_tile_ptr.now masks.now value_offsets.now metas.now values.now matrix_nnz) (as_mask mask_len mask.now) (as_csr_room (length out_row_ptr.old) (length out_col_idx.old) (length out_values.old))) (restricted_tiles (as_tiles nrows ncols row_tile_ptr.now masks.now value_offsets.now metas.now values.now matrix_nnz) (as_mask mask_len mask.now)).col }
     ensures values { out_values.new ≡ built zero64 (length out_values.old) (restrict_tiles_answer (as_tiles nrows ncols row_tile_ptr.now masks.now value_offsets.now metas.now values.now matrix_nnz) (as_mask mask_len mask.now) (as_csr_room (length out_row_ptr.old) (length out_col_idx.old) (length out_values.old))) (restricted_tiles (as_tiles nrows ncols row_tile_ptr.now masks.now value_offsets.now metas.now values.now matrix_nnz) (as_mask mask_len mask.now)).val }
@@ -470,9 +464,9 @@ pub fn from_abtm(
         mask_len,
         mask,
     );
-    if let Verdict::Refused(e) = v {
+    if let Err(e) = v {
         clear_lists(out_row_ptr, out_col_idx, out_values, 0, 0);
-        return RestrictAnswer::Refused(e);
+        return Err(e);
     }
     let f = fill(
         nrows,
@@ -490,12 +484,12 @@ pub fn from_abtm(
         out_values,
     );
     let w = f.verdict;
-    if let Verdict::Refused(e) = w {
+    if let Err(e) = w {
         clear_lists(out_row_ptr, out_col_idx, out_values, 0, 0);
-        return RestrictAnswer::Refused(e);
+        return Err(e);
     }
     clear_lists(out_row_ptr, out_col_idx, out_values, nrows + 1, f.kept);
-    RestrictAnswer::Built(ColumnRestriction {
+    Ok(ColumnRestriction {
         nrows: nrows,
         ncols: ncols,
         source_nnz: matrix_nnz,

@@ -1,4 +1,5 @@
 -- The checks of a restriction at each return of the code, and what an accepted one leaves. Assumes nothing.
+use Rattle.std.specs.Prelude.{Result, Ok, Err}
 use mathlib.Core.Bool.{Bool, true, false, ◌&&◌}
 use mathlib.Core.Path.{◌≡◌, refl, sym, ap, ◌∙◌}
 use Prim.Native.Nat.{ℕ, suc, ◌≤◌, ◌<◌}
@@ -8,8 +9,6 @@ use lib.ListN.{length}
 use Rattle.hybit_core.specs.Answer.{Answer, accepted, refused, plain, lengths_differ, demand, length_is, ◌and_then◌}
 use Rattle.hybit_core.specs.Domain.{few}
 use Rattle.hybit_core.specs.Table.{paper, told}
-use Rattle.hybit_core.specs.declared.Verdict.{Verdict}
-use Rattle.hybit_core.specs.declared.Verdict.TheVariants.{Accepted, Refused}
 use Rattle.hybit_core.specs.declared.HybitError.{HybitError}
 use Rattle.hybit_core.proofs.BoolLaws.{and_first, is_within, is_above}
 use Rattle.hybit_core.proofs.AnswerLaws.{test_fails, last_fails, last_passes, length_wrong, length_right, call_refused, call_accepted, by_records}
@@ -52,16 +51,16 @@ module _ (m : Csr) (a : Mask) (room : CsrRoom) where
     unfolding restrict_answer csr_answer mask_answer
     restrict_is = by_records (few a.size) (csr_sizes m) (mask_rules a) (csr_rules m) (own_checks m a room) small
 
-    pub list_refused : (v : Verdict) (e : HybitError) → told v ≡ csr_answer m → v ≡ Refused e → refused (paper e) ≡ restrict_answer m a room
+    pub list_refused : (v : Result Unit HybitError) (e : HybitError) → told v ≡ csr_answer m → v ≡ Err e → refused (paper e) ≡ restrict_answer m a room
     list_refused v e h k = call_refused (csr_answer m) (mask_answer a and_then own_checks m a room) v e h k ∙ sym restrict_is
 
-    module _ (v : Verdict) (h : told v ≡ csr_answer m) (k : v ≡ Accepted) where
-      pub mask_refused : (u : Verdict) (e : HybitError) → told u ≡ mask_answer a → u ≡ Refused e → refused (paper e) ≡ restrict_answer m a room
+    module _ (v : Result Unit HybitError) (h : told v ≡ csr_answer m) (k : v ≡ Ok tt) where
+      pub mask_refused : (u : Result Unit HybitError) (e : HybitError) → told u ≡ mask_answer a → u ≡ Err e → refused (paper e) ≡ restrict_answer m a room
       mask_refused u e hm km =
           call_accepted (csr_answer m) (mask_answer a and_then own_checks m a room) (refused (paper e)) v h k
           (call_refused (mask_answer a) (own_checks m a room) u e hm km) ∙ sym restrict_is
 
-      module _ (u : Verdict) (hm : told u ≡ mask_answer a) (km : u ≡ Accepted) where
+      module _ (u : Result Unit HybitError) (hm : told u ≡ mask_answer a) (km : u ≡ Ok tt) where
         by_own : (b : Answer) → b ≡ own_checks m a room → b ≡ restrict_answer m a room
         by_own b e =
             call_accepted (csr_answer m) (mask_answer a and_then own_checks m a room) b v h k

@@ -6,16 +6,16 @@ ghost use Rattle.std.specs.Prelude.{◌≡◌, ◌+◌, ◌≤◌, length};
 ghost use mathlib.Core.List.{map, zip};
 ghost use Rattle.hybit_core.specs.Answer.{accepted, answers};
 ghost use Rattle.hybit_core.specs.Floats.{zero64};
-ghost use Rattle.hybit_core.specs.Table.{told};
+ghost use Rattle.hybit_core.specs.Table.{told, given};
 ghost use Rattle.lent.specs.Lists.{only};
 ghost use Rattle.lent.specs.Lent.{Appended, built};
 ghost use Rattle.mask.specs.Mask.{as_mask, active};
 ghost use Rattle.csr32.specs.Csr.{as_csr, Entry};
 ghost use Rattle.csr32.specs.Made.{entries_in, as_csr_room};
-ghost use Rattle.restricted.specs.Restricted.{restricted, restrict_answer, restriction_of, told_restriction};
+ghost use Rattle.restricted.specs.Restricted.{restricted, restrict_answer, restriction_of};
 
-use hybit_core::{HybitError, Verdict};
-use restricted::{ColumnRestriction, RestrictAnswer};
+use hybit_core::HybitError;
+use restricted::ColumnRestriction;
 
 // How many of the columns are active.
 fn count_active(col_idx: &[u32], mask_len: usize, mask: &[u64]) -> usize
@@ -24,7 +24,7 @@ fn count_active(col_idx: &[u32], mask_len: usize, mask: &[u64]) -> usize
     let mut kept: usize = 0;
     let mut p: usize = 0;
     while p < col_idx.len() {
-        kept += hybit_core::one_if(mask::is_member(mask_len, mask, hybit_core::wide(col_idx[p])));
+        kept += usize::from(mask::is_member(mask_len, mask, col_idx[p] as usize));
         p += 1;
     }
     kept
@@ -51,7 +51,7 @@ fn keep_row(
     while next < cols.len() {
         let p = next;
         next += 1;
-        if mask::is_member(mask_len, mask, hybit_core::wide(cols[p])) {
+        if mask::is_member(mask_len, mask, cols[p] as usize) {
             out_col_idx[at] = cols[p];
             out_values[at] = vals[p];
             at += 1;
@@ -84,8 +84,8 @@ fn fill_rows(
     while row < nrows {
         let next = row + 1;
         out_row_ptr[row] = hybit_core::narrow(at);
-        let start = hybit_core::wide(row_ptr[row]);
-        let end = hybit_core::wide(row_ptr[next]);
+        let start = row_ptr[row] as usize;
+        let end = row_ptr[next] as usize;
         at = keep_row(
             &col_idx[start..end],
             &values[start..end],
@@ -112,37 +112,31 @@ fn examine(
     pointer_room: usize,
     column_room: usize,
     value_room: usize,
-) -> Verdict
+) -> Result<(), HybitError>
     ensures { told result ≡ restrict_answer (as_csr nrows ncols row_ptr.now col_idx.now values.now) (as_mask mask_len mask.now) (as_csr_room pointer_room column_room value_room) }
 {
     if !hybit_core::dimension_fits(mask_len) {
-        return Verdict::Refused(HybitError::SizeOverflow);
+        return Err(HybitError::SizeOverflow);
     }
-    let c = csr32::check(nrows, ncols, row_ptr, col_idx, values);
-    if let Verdict::Refused(e) = c {
-        return Verdict::Refused(e);
-    }
-    let m = mask::check(mask_len, mask);
-    if let Verdict::Refused(e) = m {
-        return Verdict::Refused(e);
-    }
+    csr32::check(nrows, ncols, row_ptr, col_idx, values)?;
+    mask::check(mask_len, mask)?;
     if mask_len != ncols {
-        return Verdict::Refused(HybitError::DimensionMismatch {
+        return Err(HybitError::DimensionMismatch {
             expected: ncols,
             actual: mask_len,
         });
     }
     let kept = count_active(col_idx, mask_len, mask);
     if pointer_room <= nrows {
-        return Verdict::Refused(HybitError::ShortList);
+        return Err(HybitError::ShortList);
     }
     if column_room < kept {
-        return Verdict::Refused(HybitError::ShortList);
+        return Err(HybitError::ShortList);
     }
     if value_room < kept {
-        return Verdict::Refused(HybitError::ShortList);
+        return Err(HybitError::ShortList);
     }
-    Verdict::Accepted
+    Ok(())
 }
 
 // The entries in active columns, in `out_row_ptr`, `out_col_idx` and `out_values`: the used parts are nrows + 1 pointers and as many
@@ -158,8 +152,8 @@ pub fn from_csr32(
     out_row_ptr: &mut [u32],
     out_col_idx: &mut [u32],
     out_values: &mut [f64],
-) -> RestrictAnswer
-    ensures answer { told_restriction result ≡ answers (restrict_answer (as_csr nrows ncols row_ptr.now col_idx.now values.now) (as_mask mask_len mask.now) (as_csr_room (length out_row_ptr.old) (length out_col_idx.old) (length out_values.old))) (restriction_of (as_csr nrows ncols row_ptr.now col_idx.now values.now) (as_mask mask_len mask.now)) }
+) -> Result<ColumnRestriction, HybitError>
+    ensures answer { given result ≡ answers (restrict_answer (as_csr nrows ncols row_ptr.now col_idx.now values.now) (as_mask mask_len mask.now) (as_csr_room (length out_row_ptr.old) (length out_col_idx.old) (length out_values.old))) (restriction_of (as_csr nrows ncols row_ptr.now col_idx.now values.now) (as_mask mask_len mask.now)) }
     ensures pointers { out_row_ptr.new ≡ built 0 (length out_row_ptr.old) (restrict_answer (as_csr nrows ncols row_ptr.now col_idx.now values.now) (as_mask mask_len mask.now) (as_csr_room (length out_row_ptr.old) (length out_col_idx.old) (length out_values.old))) (restricted (as_csr nrows ncols row_ptr.now col_idx.now values.now) (as_mask mask_len mask.now)).ptr }
     ensures columns { out_col_idx.new ≡ built 0 (length out_col_idx.old) (restrict_answer (as_csr nrows ncols row_ptr.now col_idx.now values.now) (as_mask mask_len mask.now) (as_csr_room (length out_row_ptr.old) (length out_col_idx.old) (length out_values.old))) (restricted (as_csr nrows ncols row_ptr.now col_idx.now values.now) (as_mask mask_len mask.now)).col }
     ensures values { out_values.new ≡ built zero64 (length out_values.old) (restrict_answer (as_csr nrows ncols row_ptr.now col_idx.now values.now) (as_mask mask_len mask.now) (as_csr_room (length out_row_ptr.old) (length out_col_idx.old) (length out_values.old))) (restricted (as_csr nrows ncols row_ptr.now col_idx.now values.now) (as_mask mask_len mask.now)).val }
@@ -176,11 +170,11 @@ pub fn from_csr32(
         out_col_idx.len(),
         out_values.len(),
     );
-    if let Verdict::Refused(e) = v {
-        lent::clear_from_u32(out_row_ptr, 0);
-        lent::clear_from_u32(out_col_idx, 0);
-        lent::clear_from_f64(out_values, 0);
-        return RestrictAnswer::Refused(e);
+    if let Err(e) = v {
+        lent::clear_from(out_row_ptr, 0);
+        lent::clear_from(out_col_idx, 0);
+        lent::clear_from(out_values, 0);
+        return Err(e);
     }
     let kept = fill_rows(
         nrows,
@@ -194,10 +188,10 @@ pub fn from_csr32(
         out_col_idx,
         out_values,
     );
-    lent::clear_from_u32(out_row_ptr, nrows + 1);
-    lent::clear_from_u32(out_col_idx, kept);
-    lent::clear_from_f64(out_values, kept);
-    RestrictAnswer::Built(ColumnRestriction {
+    lent::clear_from(out_row_ptr, nrows + 1);
+    lent::clear_from(out_col_idx, kept);
+    lent::clear_from(out_values, kept);
+    Ok(ColumnRestriction {
         nrows: nrows,
         ncols: ncols,
         source_nnz: values.len(),

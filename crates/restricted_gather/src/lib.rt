@@ -8,7 +8,7 @@ ghost use Rattle.lent.specs.Lists.{every};
 ghost use Rattle.lent.specs.Lent.{kept};
 ghost use Rattle.restricted.specs.Local.{member_rules, members_answer, gather_answer, gathered};
 
-use hybit_core::{HybitError, Verdict};
+use hybit_core::HybitError;
 
 // Whether the members rise and lie below the global size.
 fn members_hold(global_size: usize, members: &[u32]) -> bool
@@ -17,7 +17,7 @@ fn members_hold(global_size: usize, members: &[u32]) -> bool
     let mut least: usize = 0;
     let mut i: usize = 0;
     while i < members.len() {
-        let g = hybit_core::wide(members[i]);
+        let g = members[i] as usize;
         if g < least {
             return false;
         }
@@ -31,38 +31,40 @@ fn members_hold(global_size: usize, members: &[u32]) -> bool
 }
 
 // Whether these are members of a region of `global_size` rows: rising, and below that size.
-pub fn check(global_size: usize, members: &[u32]) -> Verdict
+pub fn check(global_size: usize, members: &[u32]) -> Result<(), HybitError>
     ensures { told result ≡ members_answer global_size members.now }
 {
     if !hybit_core::dimension_fits(global_size) {
-        return Verdict::Refused(HybitError::SizeOverflow);
+        return Err(HybitError::SizeOverflow);
     }
     if !members_hold(global_size, members) {
-        return Verdict::Refused(HybitError::BadStore);
+        return Err(HybitError::BadStore);
     }
-    Verdict::Accepted
+    Ok(())
 }
 
-fn examine_gather(global_size: usize, members: &[u32], global: &[f64], local_len: usize) -> Verdict
+fn examine_gather(
+    global_size: usize,
+    members: &[u32],
+    global: &[f64],
+    local_len: usize,
+) -> Result<(), HybitError>
     ensures { told result ≡ gather_answer global_size members.now global.now local_len }
 {
-    let v = check(global_size, members);
-    if let Verdict::Refused(e) = v {
-        return Verdict::Refused(e);
-    }
+    check(global_size, members)?;
     if global.len() != global_size {
-        return Verdict::Refused(HybitError::DimensionMismatch {
+        return Err(HybitError::DimensionMismatch {
             expected: global_size,
             actual: global.len(),
         });
     }
     if local_len != members.len() {
-        return Verdict::Refused(HybitError::DimensionMismatch {
+        return Err(HybitError::DimensionMismatch {
             expected: members.len(),
             actual: local_len,
         });
     }
-    Verdict::Accepted
+    Ok(())
 }
 
 // Reads the members' numbers.
@@ -73,7 +75,7 @@ fn gather(members: &[u32], global: &[f64], local: &mut [f64])
     let n = members.len();
     let mut i: usize = 0;
     while i < n {
-        let g = hybit_core::wide(members[i]);
+        let g = members[i] as usize;
         local[i] = global[g];
         i += 1;
     }
@@ -85,14 +87,11 @@ pub fn gather_input(
     members: &[u32],
     global: &[f64],
     local: &mut [f64],
-) -> Verdict
+) -> Result<(), HybitError>
     ensures answer { told result ≡ gather_answer global_size members.now global.now (length local.old) }
     ensures list { local.new ≡ kept (gather_answer global_size members.now global.now (length local.old)) (gathered members.now global.now) local.old }
 {
-    let v = examine_gather(global_size, members, global, local.len());
-    if let Verdict::Refused(e) = v {
-        return Verdict::Refused(e);
-    }
+    examine_gather(global_size, members, global, local.len())?;
     gather(members, global, local);
-    Verdict::Accepted
+    Ok(())
 }

@@ -1,4 +1,5 @@
 -- The checks of from_csr32, one after the other, and what an accepted build and a refused one leave. Assumes nothing.
+use Rattle.std.specs.Prelude.{Result, Ok, Err}
 use mathlib.Core.Bool.{Bool, true, false, not, ◌&&◌}
 use mathlib.Core.List.{List, []}
 use mathlib.Core.Path.{◌≡◌, refl, sym, ap, ◌∙◌}
@@ -10,9 +11,7 @@ use lib.Seq.{take_at}
 use borrow.Author.Tests.{not-false, eqb-true}
 use Rattle.hybit_core.specs.Answer.{plain, Answer, accepted, refused, demand, length_is, ◌and_then◌, gives, refuses, answers}
 use Rattle.hybit_core.specs.Domain.{few}
-use Rattle.hybit_core.specs.Table.{paper, told}
-use Rattle.hybit_core.specs.declared.Verdict.{Verdict}
-use Rattle.hybit_core.specs.declared.Verdict.TheVariants.{Accepted, Refused}
+use Rattle.hybit_core.specs.Table.{given, paper, told}
 use Rattle.hybit_core.specs.declared.HybitError.{HybitError}
 use Rattle.hybit_core.proofs.BoolLaws.{and_left, and_right}
 use Rattle.hybit_core.proofs.AnswerLaws.{demand_accepted, then_first, then_second, length_accepted, accepted_by, refused_by, call_refused, call_accepted}
@@ -20,10 +19,8 @@ use Rattle.lent.specs.Lent.{padded, built}
 use Rattle.mask.specs.Mask.{Mask, mask_rules, mask_answer}
 use Rattle.csr32.specs.Csr.{Csr, csr_sizes, csr_rules, csr_answer}
 use Rattle.csr32.specs.Made.{CsrRoom}
-use Rattle.restricted.specs.Local.{fits_local, local_answer, region_of, told_region}
+use Rattle.restricted.specs.Local.{fits_local, local_answer, region_of}
 use Rattle.restricted.specs.declared.LocalRegion.{LocalRegion}
-use Rattle.restricted.specs.declared.LocalAnswer.{LocalAnswer}
-use Rattle.restricted.specs.declared.LocalAnswer.TheVariants as region
 use Rattle.restricted_local.specs.Region.{region_checks, region_answer, Region}
 
 then_assoc : (a b c : Answer) → (a and_then b) and_then c ≡ a and_then (b and_then c)
@@ -52,18 +49,18 @@ module _ (m : Csr) (a : Mask) where
     unfolding region_checks csr_answer
     list_first = rw (← long) (then_assoc (demand (csr_sizes m) 1) (csr_rules m) after_list)
 
-    pub region_list : (v : Verdict) (e : HybitError) → told v ≡ csr_answer m → v ≡ Refused e → refused (paper e) ≡ region_checks m a
+    pub region_list : (v : Result Unit HybitError) (e : HybitError) → told v ≡ csr_answer m → v ≡ Err e → refused (paper e) ≡ region_checks m a
     region_list v e h k = call_refused (csr_answer m) after_list v e h k ∙ list_first
 
-    module _ (v : Verdict) (h : told v ≡ csr_answer m) (k : v ≡ Accepted) (w : Verdict) (g : told w ≡ mask_answer a) where
+    module _ (v : Result Unit HybitError) (h : told v ≡ csr_answer m) (k : v ≡ Ok tt) (w : Result Unit HybitError) (g : told w ≡ mask_answer a) where
       mask_rules_lem : told w ≡ demand (mask_rules a) 5
       unfolding mask_answer
       mask_rules_lem = g ∙ rw (← long)
 
-      pub region_mask : (e : HybitError) → w ≡ Refused e → refused (paper e) ≡ region_checks m a
+      pub region_mask : (e : HybitError) → w ≡ Err e → refused (paper e) ≡ region_checks m a
       region_mask e l = call_accepted (csr_answer m) after_list (refused (paper e)) v h k (call_refused (demand (mask_rules a) 5) after_mask w e mask_rules_lem l) ∙ list_first
 
-      pub region_rest : (x : Answer) → w ≡ Accepted → x ≡ demand (eqb m.rows m.cols) 10 and_then length_is m.rows a.size → x ≡ region_checks m a
+      pub region_rest : (x : Answer) → w ≡ Ok tt → x ≡ demand (eqb m.rows m.cols) 10 and_then length_is m.rows a.size → x ≡ region_checks m a
       region_rest x l r = call_accepted (csr_answer m) after_list x v h k (call_accepted (demand (mask_rules a) 5) after_mask x w mask_rules_lem l r) ∙ list_first
 
   pub region_facts : region_checks m a ≡ accepted → Region m a
@@ -106,12 +103,12 @@ module _ (m : Csr) (a : Mask) where
         (region_facts (then_first (region_checks m a) (demand (fits_local m a places room) 13) all), demand_accepted (fits_local m a places room) 13 (then_second (region_checks m a) (demand (fits_local m a places room) 13) all))
 
     -- v is the verdict of the checks before 13
-    module _ (v : Verdict) (h : told v ≡ region_checks m a) where
-      pub local_refused : (e : HybitError) → v ≡ Refused e → refuses (paper e) ≡ region_answer m a places room
+    module _ (v : Result Unit HybitError) (h : told v ≡ region_checks m a) where
+      pub local_refused : (e : HybitError) → v ≡ Err e → refuses (paper e) ≡ region_answer m a places room
       unfolding region_answer
       local_refused e k = let r : region_checks m a ≡ refused (paper e) = refused_by (region_checks m a) v e h k in rw (local_chain, r)
 
-      module _ (k : v ≡ Accepted) where
+      module _ (k : v ≡ Ok tt) where
         pub local_region : Region m a
         local_region = region_facts (accepted_by (region_checks m a) v h k)
 
@@ -125,20 +122,20 @@ module _ (m : Csr) (a : Mask) where
 
 -- ---- what the answer of a build says of its checks and of a lent list
 
-module _ (m : Csr) (a : Mask) (places : ℕ) (room : CsrRoom) (v : LocalAnswer) (h : told_region v ≡ region_answer m a places room) where
-  pub built_accepts : (t : LocalRegion) → v ≡ region.Built t → local_answer m a places room ≡ accepted
+module _ (m : Csr) (a : Mask) (places : ℕ) (room : CsrRoom) (v : Result LocalRegion HybitError) (h : given v ≡ region_answer m a places room) where
+  pub built_accepts : (t : LocalRegion) → v ≡ Ok t → local_answer m a places room ≡ accepted
   unfolding region_answer
-  built_accepts t k = go (local_answer m a places room) (sym (ap told_region k) ∙ h)
+  built_accepts t k = go (local_answer m a places room) (sym (ap given k) ∙ h)
     where
       go : (y : Answer) → gives t ≡ answers y (region_of m a) → y ≡ accepted
       go accepted e = refl
       go (refused r) e = cc
 
-  pub built_answer : (e : HybitError) → v ≡ region.Refused e → refuses (paper e) ≡ answers (local_answer m a places room) (region_of m a)
+  pub built_answer : (e : HybitError) → v ≡ Err e → refuses (paper e) ≡ answers (local_answer m a places room) (region_of m a)
   unfolding region_answer
-  built_answer e k = sym (ap told_region k) ∙ h
+  built_answer e k = sym (ap given k) ∙ h
 
-  pub built_nothing : {A : Type 0} (e : HybitError) (z : A) (n : ℕ) (new out : List A) → v ≡ region.Refused e → out ≡ padded z n [] → out ≡ built z n (local_answer m a places room) new
+  pub built_nothing : {A : Type 0} (e : HybitError) (z : A) (n : ℕ) (new out : List A) → v ≡ Err e → out ≡ padded z n [] → out ≡ built z n (local_answer m a places room) new
   built_nothing {A} e z n new out k q = go (local_answer m a places room) (built_answer e k)
     where
       go : (y : Answer) → refuses (paper e) ≡ answers y (region_of m a) → out ≡ built z n y new

@@ -7,18 +7,18 @@ ghost use Rattle.std.specs.Prelude.{◌≡◌, true, ◌+◌, ◌*◌, ◌^◌, 
 ghost use mathlib.Core.List.{map, zip};
 ghost use Rattle.hybit_core.specs.Answer.{answers};
 ghost use Rattle.hybit_core.specs.Floats.{zero64};
-ghost use Rattle.hybit_core.specs.Table.{told};
+ghost use Rattle.hybit_core.specs.Table.{told, given};
 ghost use Rattle.lent.specs.Lists.{each, every, only};
 ghost use Rattle.lent.specs.Lent.{Appended, padded, built};
 ghost use Rattle.word.specs.Bits.{count};
 ghost use Rattle.mask.specs.Mask.{as_mask, active, bit_at};
 ghost use Rattle.csr32.specs.Csr.{as_csr, Entry};
 ghost use Rattle.csr32.specs.Made.{entries_in, as_csr_room, fits_csr};
-ghost use Rattle.restricted.specs.Local.{region_members, renumbered, local_list, local_answer, region_of, told_region};
+ghost use Rattle.restricted.specs.Local.{region_members, renumbered, local_list, local_answer, region_of};
 ghost use Rattle.restricted_local.specs.Region.{region_checks, region_answer, Region, Numbered};
 
-use hybit_core::{HybitError, Verdict};
-use restricted::{LocalAnswer, LocalRegion};
+use hybit_core::HybitError;
+use restricted::LocalRegion;
 
 // How many of the columns lie in the region.
 fn count_row(cols: &[u32], region_len: usize, region: &[u64]) -> usize
@@ -28,7 +28,7 @@ fn count_row(cols: &[u32], region_len: usize, region: &[u64]) -> usize
     let mut kept: usize = 0;
     let mut p: usize = 0;
     while p < cols.len() {
-        kept += hybit_core::one_if(mask::is_member(region_len, region, hybit_core::wide(cols[p])));
+        kept += usize::from(mask::is_member(region_len, region, cols[p] as usize));
         p += 1;
     }
     kept
@@ -55,8 +55,8 @@ fn count_region(
         let row = next;
         next += 1;
         if mask::is_member(region_len, region, row) {
-            let start = hybit_core::wide(row_ptr[row]);
-            let end = hybit_core::wide(row_ptr[row + 1]);
+            let start = row_ptr[row] as usize;
+            let end = row_ptr[row + 1] as usize;
             nodes += 1;
             kept += count_row(&col_idx[start..end], region_len, region);
             source += end - start;
@@ -78,30 +78,24 @@ fn examine_region(
     values: &[f64],
     region_len: usize,
     region: &[u64],
-) -> Verdict
+) -> Result<(), HybitError>
     ensures { told result ≡ region_checks (as_csr nrows ncols row_ptr.now col_idx.now values.now) (as_mask region_len region.now) }
 {
     if !hybit_core::dimension_fits(region_len) {
-        return Verdict::Refused(HybitError::SizeOverflow);
+        return Err(HybitError::SizeOverflow);
     }
-    let c = csr32::check(nrows, ncols, row_ptr, col_idx, values);
-    if let Verdict::Refused(e) = c {
-        return Verdict::Refused(e);
-    }
-    let m = mask::check(region_len, region);
-    if let Verdict::Refused(e) = m {
-        return Verdict::Refused(e);
-    }
+    csr32::check(nrows, ncols, row_ptr, col_idx, values)?;
+    mask::check(region_len, region)?;
     if nrows != ncols {
-        return Verdict::Refused(HybitError::NotSquare);
+        return Err(HybitError::NotSquare);
     }
     if region_len != nrows {
-        return Verdict::Refused(HybitError::DimensionMismatch {
+        return Err(HybitError::DimensionMismatch {
             expected: nrows,
             actual: region_len,
         });
     }
-    Verdict::Accepted
+    Ok(())
 }
 
 // All checks, and the region's numbers where they find nothing: 13 is known before anything is written.
@@ -117,27 +111,24 @@ fn examine(
     pointer_room: usize,
     column_room: usize,
     value_room: usize,
-) -> LocalAnswer
-    ensures { told_region result ≡ region_answer (as_csr nrows ncols row_ptr.now col_idx.now values.now) (as_mask region_len region.now) member_room (as_csr_room pointer_room column_room value_room) }
+) -> Result<LocalRegion, HybitError>
+    ensures { given result ≡ region_answer (as_csr nrows ncols row_ptr.now col_idx.now values.now) (as_mask region_len region.now) member_room (as_csr_room pointer_room column_room value_room) }
 {
-    let v = examine_region(nrows, ncols, row_ptr, col_idx, values, region_len, region);
-    if let Verdict::Refused(e) = v {
-        return LocalAnswer::Refused(e);
-    }
+    examine_region(nrows, ncols, row_ptr, col_idx, values, region_len, region)?;
     let s = count_region(nrows, ncols, row_ptr, col_idx, values, region_len, region);
     if member_room < s.local_nodes {
-        return LocalAnswer::Refused(HybitError::ShortList);
+        return Err(HybitError::ShortList);
     }
     if pointer_room <= s.local_nodes {
-        return LocalAnswer::Refused(HybitError::ShortList);
+        return Err(HybitError::ShortList);
     }
     if column_room < s.local_nnz {
-        return LocalAnswer::Refused(HybitError::ShortList);
+        return Err(HybitError::ShortList);
     }
     if value_room < s.local_nnz {
-        return LocalAnswer::Refused(HybitError::ShortList);
+        return Err(HybitError::ShortList);
     }
-    LocalAnswer::Built(s)
+    Ok(s)
 }
 
 // Writes the members, ascending; answers how many.
@@ -165,7 +156,7 @@ fn write_members(region_len: usize, region: &[u64], members: &mut [u32]) -> usiz
     ensures list { members.new ≡ padded 0 (length members.old) (region_members (as_mask region_len region.now)) }
 {
     let nodes = put_members(region_len, region, members);
-    lent::clear_from_u32(members, nodes);
+    lent::clear_from(members, nodes);
     nodes
 }
 
@@ -191,7 +182,7 @@ fn local_number(region_len: usize, region: &[u64], counts: &[u32], c: usize) -> 
     ensures { result ≡ count (active (as_mask region_len region.now)) c }
 {
     let w = c / 64;
-    let before = hybit_core::wide(counts[w]);
+    let before = counts[w] as usize;
     hybit_core::narrow(before + word::ones_below(region[w], c % 64))
 }
 
@@ -219,7 +210,7 @@ fn keep_row(
     while next < cols.len() {
         let p = next;
         next += 1;
-        let c = hybit_core::wide(cols[p]);
+        let c = cols[p] as usize;
         if mask::is_member(region_len, region, c) {
             out_col_idx[at] = local_number(region_len, region, counts, c);
             out_values[at] = vals[p];
@@ -257,9 +248,9 @@ fn fill_rows(
     let mut i: usize = 0;
     while i < nodes {
         out_row_ptr[i] = hybit_core::narrow(at);
-        let row = hybit_core::wide(rows[i]);
-        let start = hybit_core::wide(row_ptr[row]);
-        let end = hybit_core::wide(row_ptr[row + 1]);
+        let row = rows[i] as usize;
+        let start = row_ptr[row] as usize;
+        let end = row_ptr[row + 1] as usize;
         at = keep_row(
             &col_idx[start..end],
             &values[start..end],
@@ -314,9 +305,9 @@ fn fill(
         out_col_idx,
         out_values,
     );
-    lent::clear_from_u32(out_row_ptr, rows.len() + 1);
-    lent::clear_from_u32(out_col_idx, kept);
-    lent::clear_from_f64(out_values, kept);
+    lent::clear_from(out_row_ptr, rows.len() + 1);
+    lent::clear_from(out_col_idx, kept);
+    lent::clear_from(out_values, kept);
 }
 
 // The same, with the room for 2^20 columns in 64s.
@@ -371,8 +362,8 @@ pub fn from_csr32(
     out_row_ptr: &mut [u32],
     out_col_idx: &mut [u32],
     out_values: &mut [f64],
-) -> LocalAnswer
-    ensures answer { told_region result ≡ answers (local_answer (as_csr nrows ncols row_ptr.now col_idx.now values.now) (as_mask region_len region.now) (length members.old) (as_csr_room (length out_row_ptr.old) (length out_col_idx.old) (length out_values.old))) (region_of (as_csr nrows ncols row_ptr.now col_idx.now values.now) (as_mask region_len region.now)) }
+) -> Result<LocalRegion, HybitError>
+    ensures answer { given result ≡ answers (local_answer (as_csr nrows ncols row_ptr.now col_idx.now values.now) (as_mask region_len region.now) (length members.old) (as_csr_room (length out_row_ptr.old) (length out_col_idx.old) (length out_values.old))) (region_of (as_csr nrows ncols row_ptr.now col_idx.now values.now) (as_mask region_len region.now)) }
     ensures members { members.new ≡ built 0 (length members.old) (local_answer (as_csr nrows ncols row_ptr.now col_idx.now values.now) (as_mask region_len region.now) (length members.old) (as_csr_room (length out_row_ptr.old) (length out_col_idx.old) (length out_values.old))) (region_members (as_mask region_len region.now)) }
     ensures pointers { out_row_ptr.new ≡ built 0 (length out_row_ptr.old) (local_answer (as_csr nrows ncols row_ptr.now col_idx.now values.now) (as_mask region_len region.now) (length members.old) (as_csr_room (length out_row_ptr.old) (length out_col_idx.old) (length out_values.old))) (local_list (as_csr nrows ncols row_ptr.now col_idx.now values.now) (as_mask region_len region.now)).ptr }
     ensures columns { out_col_idx.new ≡ built 0 (length out_col_idx.old) (local_answer (as_csr nrows ncols row_ptr.now col_idx.now values.now) (as_mask region_len region.now) (length members.old) (as_csr_room (length out_row_ptr.old) (length out_col_idx.old) (length out_values.old))) (local_list (as_csr nrows ncols row_ptr.now col_idx.now values.now) (as_mask region_len region.now)).col }
@@ -391,12 +382,12 @@ pub fn from_csr32(
         out_col_idx.len(),
         out_values.len(),
     );
-    if let LocalAnswer::Refused(e) = v {
-        lent::clear_from_u32(members, 0);
-        lent::clear_from_u32(out_row_ptr, 0);
-        lent::clear_from_u32(out_col_idx, 0);
-        lent::clear_from_f64(out_values, 0);
-        return LocalAnswer::Refused(e);
+    if let Err(e) = v {
+        lent::clear_from(members, 0);
+        lent::clear_from(out_row_ptr, 0);
+        lent::clear_from(out_col_idx, 0);
+        lent::clear_from(out_values, 0);
+        return Err(e);
     }
     let nodes = write_members(region_len, region, members);
     write_lists(

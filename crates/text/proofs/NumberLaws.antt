@@ -1,4 +1,5 @@
 -- Laws of numbers as text: digits read one after the other, and the place of a byte. Assumes nothing.
+use Rattle.std.specs.Prelude.{Option, Some, None}
 use Prim.Native.Nat.{ℕ, suc, ◌+◌, ◌-◌, ◌*◌, ◌^◌, ◌≤◌, ◌<◌}
 use mathlib.Core.Bool.{Bool, true, false, cond, ◌&&◌}
 use mathlib.Core.List.{List, [], ◌∷◌, foldl}
@@ -14,8 +15,6 @@ use Rattle.hybit_core.proofs.BoolLaws.{and_left, and_right, and_both}
 use Rattle.lent.specs.Lists.{every}
 use Rattle.lent.proofs.ListLaws.{every_more, every_fails, every_done}
 use Rattle.text.specs.Numbers.{digit, tens, numeral, whole_of, place_of}
-use Rattle.text.specs.declared.Whole.{Whole}
-use Rattle.text.specs.declared.Whole.TheVariants as whole
 
 -- ---- powers of ten
 
@@ -58,11 +57,11 @@ from-small v p (b ∷ w) h e =
 
 -- ---- what is read of a word as a whole number
 
-whole_bad : (w : List ℕ) → numeral w ≡ false → whole.Bad ≡ whole_of w
+whole_bad : (w : List ℕ) → numeral w ≡ false → None ≡ whole_of w
 unfolding whole_of
 whole_bad w e = rw e
 
-whole-good : (w : List ℕ) → numeral w ≡ true → whole.Value (tens w) ≡ whole_of w
+whole-good : (w : List ℕ) → numeral w ≡ true → Some (tens w) ≡ whole_of w
 unfolding whole_of
 whole-good w e = rw e
 
@@ -70,28 +69,28 @@ pub and_last : (s t : Bool) → t ≡ false → (s && t) ≡ false
 and_last true t e = e
 and_last false t e = refl
 
-pub whole-none : (w : List ℕ) → length w ≡ 0 → whole.Bad ≡ whole_of w
+pub whole-none : (w : List ℕ) → length w ≡ 0 → None ≡ whole_of w
 unfolding numeral
 whole-none w h = whole_bad w (rw h)
 
-pub whole_long : (w : List ℕ) → 15 < length w → whole.Bad ≡ whole_of w
+pub whole_long : (w : List ℕ) → 15 < length w → None ≡ whole_of w
 unfolding numeral
 whole_long w h = whole_bad w (rw (lt-leb (length w) 15 h, le-leb 1 (length w) (omega arith)))
 
 -- what a call of read_whole on w said
-pub whole_is : (w : List ℕ) (r : Whole) (v : ℕ) → r ≡ whole_of w → r ≡ whole.Value v → (numeral w ≡ true) × (tens w ≡ v)
+pub whole_is : (w : List ℕ) (r : (Option ℕ)) (v : ℕ) → r ≡ whole_of w → r ≡ Some v → (numeral w ≡ true) × (tens w ≡ v)
 unfolding whole_of
 whole_is w r v e q = go (numeral w) refl (sym e ∙ q)
   where
-    go : (t : Bool) → numeral w ≡ t → cond t (whole.Value (tens w)) whole.Bad ≡ whole.Value v → (numeral w ≡ true) × (tens w ≡ v)
+    go : (t : Bool) → numeral w ≡ t → cond t (Some (tens w)) None ≡ Some v → (numeral w ≡ true) × (tens w ≡ v)
     go true x y = (x, cc)
     go false x y = let z : ◌≡◌ {A = ℕ} 0 1 = cc in absurd (omega arith)
 
-pub whole-not : (w : List ℕ) (r : Whole) → r ≡ whole_of w → r ≡ whole.Bad → numeral w ≡ false
+pub whole-not : (w : List ℕ) (r : (Option ℕ)) → r ≡ whole_of w → r ≡ None → numeral w ≡ false
 unfolding whole_of
 whole-not w r e q = go (numeral w) refl (sym e ∙ q)
   where
-    go : (t : Bool) → numeral w ≡ t → cond t (whole.Value (tens w)) whole.Bad ≡ whole.Bad → numeral w ≡ false
+    go : (t : Bool) → numeral w ≡ t → cond t (Some (tens w)) None ≡ None → numeral w ≡ false
     go true x y = let z : ◌≡◌ {A = ℕ} 0 1 = cc in absurd (omega arith)
     go false x y = x
 
@@ -125,16 +124,16 @@ module _ (w : List ℕ) where
       small = rw (add-one, pow-succ' 10 i) (digit_more value (10 ^ i) (get_or w i 0) inv.small e);
     }
 
-    pub reading_fails : i < length w → false ≡ digit (get_or w i 0) → whole.Bad ≡ whole_of w
+    pub reading_fails : i < length w → false ≡ digit (get_or w i 0) → None ≡ whole_of w
     unfolding numeral
     reading_fails h e = whole_bad w (and_last (leb 1 (length w) && leb (length w) 15) (every digit w) (sym (every_fails digit w i inv.digits 0 h e)))
 
-    pub reading_done : length w ≤ i → (length w ≡ 0 → ⊥) → length w ≤ 15 → whole.Value value ≡ whole_of w
+    pub reading_done : length w ≤ i → (length w ≡ 0 → ⊥) → length w ≤ 15 → Some value ≡ whole_of w
     unfolding numeral
     reading_done h z l =
         let all : numeral w ≡ true = and_both (leb 1 (length w) && leb (length w) 15) (every digit w) (and_both (leb 1 (length w)) (leb (length w) 15) (le-leb 1 (length w) (omega arith)) (le-leb (length w) 15 l)) (sym (every_done digit w i inv.digits h)) in
         let same : tens w ≡ value = inv.rest ∙ rw drop_of_length-le in
-        ap whole.Value (sym same) ∙ whole-good w all
+        ap Some (sym same) ∙ whole-good w all
 
 -- ---- the place of a byte b, looked for up to place i
 

@@ -2,19 +2,7 @@
 #![tactic(auto)]
 
 ghost use Rattle.std.specs.Prelude.{◌≡◌, ◌≤◌, ◌^◌};
-ghost use Rattle.text.specs.Numbers.{digit, whole_of, place_of, alone, parts, unsigned_of, negated, real_of};
-
-#[derive(Clone, Copy)]
-pub enum Whole {
-    Value(usize),
-    Bad,
-}
-
-#[derive(Clone, Copy)]
-pub enum Real {
-    Value(f64),
-    Bad,
-}
+ghost use Rattle.text.specs.Numbers.{digit, whole_of, place_of, alone, parts, unsigned_of, real_of};
 
 fn is_digit(b: u8) -> bool
     ensures { result ≡ digit b }
@@ -26,26 +14,26 @@ fn is_digit(b: u8) -> bool
 }
 
 // A whole number of one to fifteen digits.
-pub fn read_whole(word: &[u8]) -> Whole
+pub fn read_whole(word: &[u8]) -> Option<usize>
     ensures { result ≡ whole_of word.now }
 {
     if word.len() == 0 {
-        return Whole::Bad;
+        return None;
     }
     if word.len() > 15 {
-        return Whole::Bad;
+        return None;
     }
     let mut value: usize = 0;
     let mut i: usize = 0;
     while i < word.len() {
         let b = word[i];
         if !is_digit(b) {
-            return Whole::Bad;
+            return None;
         }
         value = 10 * value + (b - 48) as usize;
         i += 1;
     }
-    Whole::Value(value)
+    Some(value)
 }
 
 fn power_of_ten(k: usize) -> usize
@@ -76,33 +64,27 @@ fn place_of(b: u8, word: &[u8]) -> usize
 }
 
 // Digits without a point.
-fn without_point(word: &[u8]) -> Real
+fn without_point(word: &[u8]) -> Option<f64>
     ensures { result ≡ alone word.now }
 {
-    let Whole::Value(v) = read_whole(word) else {
-        return Real::Bad;
-    };
-    Real::Value(hybit_core::ratio(v as u64, 1))
+    let v = read_whole(word)?;
+    Some(hybit_core::ratio(v as u64, 1))
 }
 
 // Digits before and behind a point: one division rounds once, since both numbers are below 2^53.
-fn with_point(before: &[u8], behind: &[u8]) -> Real
+fn with_point(before: &[u8], behind: &[u8]) -> Option<f64>
     ensures { result ≡ parts before.now behind.now }
 {
-    let Whole::Value(a) = read_whole(before) else {
-        return Real::Bad;
-    };
-    let Whole::Value(b) = read_whole(behind) else {
-        return Real::Bad;
-    };
+    let a = read_whole(before)?;
+    let b = read_whole(behind)?;
     if before.len() + behind.len() > 15 {
-        return Real::Bad;
+        return None;
     }
     let power = power_of_ten(behind.len());
-    Real::Value(hybit_core::ratio((a * power + b) as u64, power as u64))
+    Some(hybit_core::ratio((a * power + b) as u64, power as u64))
 }
 
-fn unsigned(word: &[u8]) -> Real
+fn unsigned(word: &[u8]) -> Option<f64>
     ensures { result ≡ unsigned_of word.now }
 {
     let point = place_of(b'.', word);
@@ -112,24 +94,16 @@ fn unsigned(word: &[u8]) -> Real
     with_point(&word[..point], &word[point + 1..])
 }
 
-fn minus(a: Real) -> Real
-    ensures { result ≡ negated a }
-{
-    match a {
-        Real::Value(v) => Real::Value(-v),
-        Real::Bad => Real::Bad,
-    }
-}
-
 // A decimal: perhaps a minus sign, digits, perhaps a point and digits behind it; at most fifteen digits.
-pub fn read_real(word: &[u8]) -> Real
+pub fn read_real(word: &[u8]) -> Option<f64>
     ensures { result ≡ real_of word.now }
 {
     if word.len() == 0 {
-        return Real::Bad;
+        return None;
     }
     if word[0] == b'-' {
-        return minus(unsigned(&word[1..]));
+        let v = unsigned(&word[1..])?;
+        return Some(-v);
     }
     unsigned(word)
 }

@@ -1,12 +1,10 @@
 -- What the calls on words know once their checks have accepted, and what their answers then are. Assumes nothing but masks of 64 bits.
+use Rattle.std.specs.Prelude.{Result, Ok, Err, Option}
 use Rattle.std.proofs.Common.{◌≡◌, ℕ, ◌*◌, ◌%◌, ◌^◌, ◌<◌, ◌≤◌, Bool, true, false, ◌&&◌, eqb, ltb, leb, List, [], ◌∷◌, length, sym, refl, ap, ◌∙◌, ap₂, arith, ltb-true, le-ltb, eq-eqb, leb-true}
 use mathlib.Core.Bool.{and-true}
-use mathlib.Core.Option.{Option}
 use Rattle.hybit_core.specs.Answer.{accepted, refused, plain, demand, ◌and_then◌}
 use Rattle.hybit_core.specs.Table.{told, paper}
 use Rattle.hybit_core.specs.declared.HybitError.{HybitError}
-use Rattle.hybit_core.specs.declared.Verdict.{Verdict}
-use Rattle.hybit_core.specs.declared.Verdict.TheVariants as verdict
 use Rattle.hybit_core.proofs.BoolLaws.{is_equal, is_unequal}
 use Rattle.hybit_core.proofs.AnswerLaws.{demand_accepted, then_first, then_second, accepted_by, refused_by, last_fails, last_passes}
 use Rattle.lent.specs.Lists.{part, spread}
@@ -45,7 +43,7 @@ module _ (n m : ℕ) (ps ws ms : List ℕ) where
       h ∙ sym (and-true (row_rules (as_words n m ps ws ms t)))
       ∙ ap₂ (λ (f q : Bool). f && row_rules (as_words n m ps ws ms t) && q) e (sym (eq-eqb (set_bits ms) (set_bits ms) refl))
 
-  pub lists_refused : (t : ℕ) (v : Verdict) (x : HybitError) → told v ≡ word_answer (as_words n m ps ws ms (set_bits ms)) → v ≡ verdict.Refused x → refused (paper x) ≡ word_answer (as_words n m ps ws ms t)
+  pub lists_refused : (t : ℕ) (v : Result Unit HybitError) (x : HybitError) → told v ≡ word_answer (as_words n m ps ws ms (set_bits ms)) → v ≡ Err x → refused (paper x) ≡ word_answer (as_words n m ps ws ms t)
   unfolding word_answer word_rules row_rules
   lists_refused t v x e h =
       go (word_sizes (as_words n m ps ws ms t)) (framed_lists n ps (length ws) (length ms) && row_rules (as_words n m ps ws ms t)) (eqb t (set_bits ms))
@@ -79,7 +77,7 @@ module _ (n m : ℕ) (ps ws ms : List ℕ) where
 
 -- ---- a record that `check` accepted
 
-pub checked : (t : Words) (v : Verdict) → told v ≡ word_answer t → v ≡ verdict.Accepted → Accepted t
+pub checked : (t : Words) (v : Result Unit HybitError) → told v ≡ word_answer t → v ≡ Ok tt → Accepted t
 checked t v e a = accepted_facts t (accepted_by (word_answer t) v e a)
 
 -- ---- a row whose question the checks accept
@@ -103,11 +101,11 @@ module _ (t : Words) (r : ℕ) where
         right = row_right t.rows t.ptr (length t.word) (length t.mask) k.lists r h;
       }
 
-  pub row_checked : (v : Verdict) → told v ≡ row_answer t r → v ≡ verdict.Accepted → RowOk
+  pub row_checked : (v : Result Unit HybitError) → told v ≡ row_answer t r → v ≡ Ok tt → RowOk
   row_checked v e a = row_ok (accepted_by (row_answer t r) v e a)
 
   -- a rank asks for its column too
-  module _ (c : ℕ) (v : Verdict) (e : told v ≡ (row_answer t r and_then demand (leb c t.cols) 7)) (a : v ≡ verdict.Accepted) where
+  module _ (c : ℕ) (v : Result Unit HybitError) (e : told v ≡ (row_answer t r and_then demand (leb c t.cols) 7)) (a : v ≡ Ok tt) where
     pub rank_checked : RowOk
     rank_checked = row_ok (then_first (row_answer t r) (demand (leb c t.cols) 7) (accepted_by (row_answer t r and_then demand (leb c t.cols) 7) v e a))
 

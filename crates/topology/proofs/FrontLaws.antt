@@ -1,11 +1,12 @@
 -- A loop over the words of a row: the first i words are those below word f. What lies between, and the columns below it. Assumes nothing.
-use Rattle.std.proofs.Common.{◌≡◌, ℕ, suc, ◌+◌, ◌-◌, ◌*◌, ◌/◌, ◌%◌, ◌<◌, ◌≤◌, Bool, true, false, ltb, List, length, get_or, sym, refl, ap, ◌∙◌, ap₂, true≢false, add-zero, add-one, arith, ltb-true}
-use mathlib.Core.Option.{Option, none, some}
+use Rattle.std.proofs.Common.{◌≡◌, ℕ, suc, ◌+◌, ◌-◌, ◌*◌, ◌/◌, ◌%◌, ◌<◌, ◌≤◌, Bool, true, false, ltb, List, length, get_or, sym, refl, ap, ◌∙◌, ap₂, add-zero, add-one, arith, ltb-true}
+use Rattle.std.specs.Prelude.{None, Some}
+use Rattle.std.proofs.lemmas.Option.{none-some, same_Some}
 use native.Mathlib.Decide.{dec_lt, le_ind}
 use mir.Val.{bool_byte}
 use Rattle.hybit_core.proofs.BoolLaws.{and_left, and_right}
 use Rattle.word.specs.Bits.{has, below, count, selected, within, mask_of, hit, ceil64, words_of}
-use Rattle.word.proofs.BelowLaws.{below-zero, below_cong, length-below-suc, length_below_mono, length-below-le, rank_lt, Selects, selects, length_block, below_trim, selected_finds, selected_nothing, selected_of_rank, some_is}
+use Rattle.word.proofs.BelowLaws.{below-zero, below_cong, length-below-suc, length_below_mono, length-below-le, rank_lt, Selects, selects, length_block, below_trim, selected_finds, selected_nothing, selected_of_rank}
 use Rattle.word.proofs.LowestLaws.{none as none_in}
 use Rattle.word.proofs.BitLaws.{within_in, has-mask_of}
 use Rattle.word.proofs.WordLaws.{mask-none}
@@ -192,10 +193,10 @@ module _ (p : ℕ → Bool) (n : ℕ) where
             let z : count (within n p) (64 * (w + 1)) ≡ count (within n p) (64 * w) + count (has m) 64 = ap (count (within n p)) q ∙ count_in w 64 (omega arith) ∙ ap (λ (j : ℕ). count (within n p) (64 * w) + count (has j) 64) (sym x.mask) in
             record { at = w + 1; front = here.front; is = omega (arith, z, start, h) }
 
-        pub selecting_at : (o : ℕ) → some o ≡ selected (has m) 64 left → left < count (has m) 64 → some (64 * w + o) ≡ selected p n k
+        pub selecting_at : (o : ℕ) → Some o ≡ selected (has m) 64 left → left < count (has m) 64 → Some (64 * w + o) ≡ selected p n k
         selecting_at o e h =
             let f = selected_finds (has m) 64 left h in
-            let same : o ≡ f.0 = some_is o f.0 (e ∙ f.1) in
+            let same : o ≡ f.0 = same_Some o f.0 (e ∙ f.1) in
             let y : Selects (has m) 64 left o = rw same f.2 in
             let b : within n p (64 * w + o) ≡ true = sym (has-mask_of p n w o y.bound) ∙ ap (λ (j : ℕ). has j o) (sym x.mask) ∙ y.member in
             let inside : 64 * w + o < n = ltb-true (64 * w + o) n (and_left (ltb (64 * w + o) n) (p (64 * w + o)) b) in
@@ -205,17 +206,10 @@ module _ (p : ℕ → Bool) (n : ℕ) where
             sym (ap (selected p n) (sym r) ∙ selected_of_rank p n (64 * w + o) inside (and_right (ltb (64 * w + o) n) (p (64 * w + o)) b))
 
         -- a word with more ones than are left has one to give
-        pub selecting_gives : {A : Type 0} → none ≡ selected (has m) 64 left → left < count (has m) 64 → A
-        selecting_gives e h = let f = selected_finds (has m) 64 left h in let z : ◌≡◌ {A = Option ℕ} none (some f.0) = e ∙ f.1 in absurd (no_some f.0 z)
-          where
-            is_none : Option ℕ → Bool
-            is_none none = true
-            is_none (some a) = false
+        pub selecting_gives : {A : Type 0} → None ≡ selected (has m) 64 left → left < count (has m) 64 → A
+        selecting_gives e h = let f = selected_finds (has m) 64 left h in absurd (none-some f.0 (e ∙ f.1))
 
-            no_some : (a : ℕ) → ◌≡◌ {A = Option ℕ} none (some a) → ⊥
-            no_some a z = true≢false (ap is_none z)
-
-      pub selecting_done : length (words_of p n) ≤ i → none ≡ selected p n k
+      pub selecting_done : length (words_of p n) ≤ i → None ≡ selected p n k
       selecting_done l =
           let q : n ≤ 64 * ceil64 n = omega arith in
           let c : count (within n p) (64 * ceil64 n) ≡ count (within n p) (64 * s.at) = count_skip s.at (ceil64 n) s.front.inside (ended i s.at s.front l) in

@@ -1,20 +1,12 @@
 -- What the calls on words ask of their input, in order, and what they answer.
-use Rattle.std.specs.Prelude.{ℕ, ◌+◌, ◌*◌, Bool, ◌&&◌, List, [], length, nat_le, nat_lt, Float}
-use Rattle.std.proofs.Math.Option.{Option, none, some}
+use Rattle.std.specs.Prelude.{Option, ℕ, ◌+◌, ◌*◌, Bool, ◌&&◌, length, nat_le, nat_lt, Float}
 use Rattle.std.specs.Float.{binary64}
 use Rattle.std.specs.Float.Ieee.{div}
-use Rattle.hybit_core.specs.Answer.{Answer, Given, gives, refuses, demand, answers, ◌and_then◌}
+use Rattle.hybit_core.specs.Answer.{Answer, Given, demand, answers, ◌and_then◌}
 use Rattle.hybit_core.specs.Floats.{count_as_float, ratio_of}
-use Rattle.hybit_core.specs.Table.{paper}
-use Rattle.lent.specs.Lent.{kept}
 use Rattle.word.specs.Bits.{count, selected}
-use Rattle.topology.specs.declared.SelectAnswer.{SelectAnswer}
-use Rattle.topology.specs.declared.SelectAnswer.TheVariants as selection
-use Rattle.topology.specs.declared.TopologyAnswer.{TopologyAnswer}
-use Rattle.topology.specs.declared.TopologyAnswer.TheVariants as build
-use Rattle.topology.specs.declared.StatsAnswer.{StatsAnswer}
-use Rattle.topology.specs.declared.StatsAnswer.TheVariants as statistics
 use Rattle.topology.specs.declared.AbtmTopologyStats.{AbtmTopologyStats}
+use Rattle.topology.specs.declared.TopologySize.{TopologySize}
 use Rattle.topology.specs.Words.{Words, member, word_answer}
 
 -- ---- a row
@@ -22,10 +14,6 @@ use Rattle.topology.specs.Words.{Words, member, word_answer}
 -- a question to row r: 1; 11; 7
 unfoldable pub row_answer : Words → ℕ → Answer
 row_answer t r = word_answer t and_then demand (nat_lt r t.rows) 7
-
--- a part of a list as an answer: empty where the call is refused
-abbrev pub part_given : {A : Type 0} → Answer → List A → List A
-part_given a l = kept a l []
 
 -- how many present columns lie below c
 abbrev pub rank : Words → ℕ → ℕ → ℕ
@@ -39,11 +27,6 @@ select t r k = selected (member t r) t.cols k
 unfoldable pub rank_answer : Words → ℕ → ℕ → Given ℕ
 rank_answer t r c = answers (row_answer t r and_then demand (nat_le c t.cols) 7) (rank t r c)
 
-abbrev pub told_selection : SelectAnswer → Given (Option ℕ)
-told_selection (selection.At c) = gives (some c)
-told_selection selection.Nothing = gives none
-told_selection (selection.Refused e) = refuses (paper e)
-
 -- ---- the figures of a record
 
 -- 4 × (rows + 1) + 12 × words
@@ -52,10 +35,6 @@ metadata_bytes t = 4 * (t.rows + 1) + 12 * length t.word
 
 unfoldable pub stats_of : Words → AbtmTopologyStats
 stats_of t = record { nrows = t.rows; ncols = t.cols; structural_nnz = t.total; nonempty_words = length t.word; metadata_bytes = metadata_bytes t }
-
-abbrev pub told_stats : StatsAnswer → Given AbtmTopologyStats
-told_stats (statistics.Stats s) = gives s
-told_stats (statistics.Refused e) = refuses (paper e)
 
 -- ones ÷ words; that ÷ 64; bytes ÷ ones: in f64, 0.0 where there is nothing to divide by
 abbrev pub average_word : AbtmTopologyStats → Float
@@ -82,10 +61,9 @@ as_room p w m = record { ptr = p; word = w; mask = m }
 unfoldable pub fits_words : Words → Room → Bool
 fits_words t room = nat_le (length t.ptr) room.ptr && nat_le (length t.word) room.word && nat_le (length t.mask) room.mask
 
--- how long the used parts of the word and mask lists are, and the total: the pointers take rows + 1 places
-abbrev pub used_of : Words → ℕ × ℕ
-used_of t = (length t.word, t.total)
+abbrev pub as_size : ℕ → ℕ → TopologySize
+as_size w n = record { words = w; structural_nnz = n }
 
-abbrev pub told_topology : TopologyAnswer → Given (ℕ × ℕ)
-told_topology (build.Built w n) = gives (w, n)
-told_topology (build.Refused e) = refuses (paper e)
+-- how long the used parts of the word and mask lists are, and the total: the pointers take rows + 1 places
+abbrev pub used_of : Words → TopologySize
+used_of t = as_size (length t.word) t.total

@@ -5,18 +5,16 @@
 
 ghost use Rattle.std.specs.Prelude.{◌≡◌, ◌*◌, ◌%◌, ◌^◌, ◌<◌, true, not, ◌&&◌, length, take, ◌==◌, nat_lt};
 ghost use Rattle.hybit_core.specs.Answer.{answers};
-ghost use Rattle.hybit_core.specs.Table.{told, told_count};
+ghost use Rattle.hybit_core.specs.Table.{told, given};
 ghost use Rattle.lent.specs.Lists.{part, every, climbs};
 ghost use Rattle.lent.specs.Lent.{padded};
 ghost use Rattle.word.specs.Bits.{has, count, selected};
-ghost use Rattle.word.specs.Word.{rank_answer as word_rank_answer, told_select};
+ghost use Rattle.word.specs.Word.{rank_answer as word_rank_answer};
 ghost use Rattle.csr32.specs.Csr.{framed_lists};
-ghost use Rattle.csr32.proofs.FrameLaws.{RowIn};
 ghost use Rattle.topology.specs.Words.{as_words, word_rule, row_rule, row_rules, set_bits, word_rules, word_answer};
-ghost use Rattle.topology.specs.Calls.{stats_of, told_stats, average_word, word_fill, bytes_per_one};
+ghost use Rattle.topology.specs.Calls.{stats_of, average_word, word_fill, bytes_per_one};
 
-use hybit_core::{CountAnswer, HybitError, Verdict};
-use word::WordSelect;
+use hybit_core::HybitError;
 
 // A word of a row by value.
 #[derive(Clone, Copy)]
@@ -34,25 +32,11 @@ pub struct AbtmTopologyStats {
     pub metadata_bytes: usize,
 }
 
-// The Rust's `Option<usize>` of a row's select, or the refusal.
+// How many words a build wrote and how many bits they have.
 #[derive(Clone, Copy)]
-pub enum SelectAnswer {
-    At(usize),
-    Nothing,
-    Refused(HybitError),
-}
-
-#[derive(Clone, Copy)]
-pub enum StatsAnswer {
-    Stats(AbtmTopologyStats),
-    Refused(HybitError),
-}
-
-// What a build of words answers: how many words it wrote and how many bits they have.
-#[derive(Clone, Copy)]
-pub enum TopologyAnswer {
-    Built { words: usize, structural_nnz: usize },
-    Refused(HybitError),
+pub struct TopologySize {
+    pub words: usize,
+    pub structural_nnz: usize,
 }
 
 impl AbtmTopologyWord {
@@ -60,7 +44,7 @@ impl AbtmTopologyWord {
     pub fn base_col(self) -> usize
         ensures { result ≡ 64 * self.word_index }
     {
-        64 * hybit_core::wide(self.word_index)
+        64 * self.word_index as usize
     }
 
     pub fn popcount(self) -> usize
@@ -77,14 +61,14 @@ impl AbtmTopologyWord {
     }
 
     // Offsets from 0 to 64, 64 giving all ones; refused above.
-    pub fn rank(self, offset: usize) -> CountAnswer
-        ensures { told_count result ≡ word_rank_answer self.mask offset }
+    pub fn rank(self, offset: usize) -> Result<usize, HybitError>
+        ensures { given result ≡ word_rank_answer self.mask offset }
     {
         word::rank(self.mask, offset)
     }
 
-    pub fn select(self, ordinal: usize) -> WordSelect
-        ensures { told_select result ≡ selected (has self.mask) 64 ordinal }
+    pub fn select(self, ordinal: usize) -> Option<usize>
+        ensures { result ≡ selected (has self.mask) 64 ordinal }
     {
         word::select(self.mask, ordinal)
     }
@@ -183,26 +167,7 @@ fn row_holds(ncols: usize, words: &[u32], masks: &[u64]) -> bool
         return false;
     }
     let last = words.len() - 1;
-    word_holds(ncols, hybit_core::wide(words[last]), masks[last])
-}
-
-// A row's part of the word numbers, and of the masks.
-fn words_of<'a>(row_word_ptr: &[u32], word_indices: &'a [u32], row: usize) -> &'a [u32]
-    requires { RowIn row_word_ptr.now (length word_indices.now) row }
-    ensures { result.now ≡ part row_word_ptr.now word_indices.now row }
-{
-    let start = hybit_core::wide(row_word_ptr[row]);
-    let end = hybit_core::wide(row_word_ptr[row + 1]);
-    &word_indices[start..end]
-}
-
-fn masks_of<'a>(row_word_ptr: &[u32], masks: &'a [u64], row: usize) -> &'a [u64]
-    requires { RowIn row_word_ptr.now (length masks.now) row }
-    ensures { result.now ≡ part row_word_ptr.now masks.now row }
-{
-    let start = hybit_core::wide(row_word_ptr[row]);
-    let end = hybit_core::wide(row_word_ptr[row + 1]);
-    &masks[start..end]
+    word_holds(ncols, words[last] as usize, masks[last])
 }
 
 fn rows_hold(
@@ -218,8 +183,8 @@ fn rows_hold(
 {
     let mut row: usize = 0;
     while row < nrows {
-        let words = words_of(row_word_ptr, word_indices, row);
-        if !row_holds(ncols, words, masks_of(row_word_ptr, masks, row)) {
+        let words = lent::part(row_word_ptr, word_indices, row);
+        if !row_holds(ncols, words, lent::part(row_word_ptr, masks, row)) {
             return false;
         }
         row += 1;
@@ -252,9 +217,9 @@ pub fn clear_past(
     ensures numbers { word_indices.new ≡ padded 0 (length word_indices.old) (take words word_indices.old) }
     ensures bits { masks.new ≡ padded 0 (length masks.old) (take words masks.old) }
 {
-    lent::clear_from_u32(row_word_ptr, rows);
-    lent::clear_from_u32(word_indices, words);
-    lent::clear_from_u64(masks, words);
+    lent::clear_from(row_word_ptr, rows);
+    lent::clear_from(word_indices, words);
+    lent::clear_from(masks, words);
 }
 
 fn lists_hold(
@@ -279,16 +244,16 @@ pub fn check_lists(
     row_word_ptr: &[u32],
     word_indices: &[u32],
     masks: &[u64],
-) -> Verdict
+) -> Result<(), HybitError>
     ensures { told result ≡ word_answer (as_words nrows ncols row_word_ptr.now word_indices.now masks.now (set_bits masks.now)) }
 {
     if !hybit_core::sizes_fit(nrows, ncols, word_indices.len(), masks.len()) {
-        return Verdict::Refused(HybitError::SizeOverflow);
+        return Err(HybitError::SizeOverflow);
     }
     if !lists_hold(nrows, ncols, row_word_ptr, word_indices, masks) {
-        return Verdict::Refused(HybitError::BadWords);
+        return Err(HybitError::BadWords);
     }
-    Verdict::Accepted
+    Ok(())
 }
 
 // The Rust's `validate`.
@@ -299,17 +264,14 @@ pub fn check(
     word_indices: &[u32],
     masks: &[u64],
     structural_nnz: usize,
-) -> Verdict
+) -> Result<(), HybitError>
     ensures { told result ≡ word_answer (as_words nrows ncols row_word_ptr.now word_indices.now masks.now structural_nnz) }
 {
-    let v = check_lists(nrows, ncols, row_word_ptr, word_indices, masks);
-    if let Verdict::Refused(e) = v {
-        return Verdict::Refused(e);
-    }
+    check_lists(nrows, ncols, row_word_ptr, word_indices, masks)?;
     if structural_nnz != count_bits(masks) {
-        return Verdict::Refused(HybitError::BadWords);
+        return Err(HybitError::BadWords);
     }
-    Verdict::Accepted
+    Ok(())
 }
 
 pub fn stats(
@@ -319,22 +281,19 @@ pub fn stats(
     word_indices: &[u32],
     masks: &[u64],
     structural_nnz: usize,
-) -> StatsAnswer
-    ensures { told_stats result ≡ answers (word_answer (as_words nrows ncols row_word_ptr.now word_indices.now masks.now structural_nnz)) (stats_of (as_words nrows ncols row_word_ptr.now word_indices.now masks.now structural_nnz)) }
+) -> Result<AbtmTopologyStats, HybitError>
+    ensures { given result ≡ answers (word_answer (as_words nrows ncols row_word_ptr.now word_indices.now masks.now structural_nnz)) (stats_of (as_words nrows ncols row_word_ptr.now word_indices.now masks.now structural_nnz)) }
 {
-    let v = check(
+    check(
         nrows,
         ncols,
         row_word_ptr,
         word_indices,
         masks,
         structural_nnz,
-    );
-    if let Verdict::Refused(e) = v {
-        return StatsAnswer::Refused(e);
-    }
+    )?;
     let words = word_indices.len();
-    StatsAnswer::Stats(AbtmTopologyStats {
+    Ok(AbtmTopologyStats {
         nrows: nrows,
         ncols: ncols,
         structural_nnz: structural_nnz,

@@ -1,4 +1,5 @@
 -- Laws of the public build: the tests of its rows, which lists are too short, and what each of its ends answers and leaves. Assumes nothing.
+use Rattle.std.specs.Prelude.{Result, Ok, Err}
 use mathlib.Core.Bool.{Bool, true, false, ◌&&◌, and-false}
 use mathlib.Core.List.{List, [], ◌∷◌, ◌++◌}
 use mathlib.Core.Path.{◌≡◌, refl, sym, ap, ap₂, ◌∙◌, subst}
@@ -14,8 +15,6 @@ use lib.ListN.{length, take, drop, set, length-append, length-set, length-take, 
 use lib.Seq.{take-append-le, take-suc-set, take_all, length-take-le}
 use Rattle.hybit_core.specs.Answer.{Answer, accepted, refused, demand, ◌and_then◌, Given, gives, refuses, answers}
 use Rattle.hybit_core.specs.Table.{paper, told}
-use Rattle.hybit_core.specs.declared.Verdict.{Verdict}
-use Rattle.hybit_core.specs.declared.Verdict.TheVariants.{Accepted, Refused}
 use Rattle.hybit_core.specs.declared.HybitError.{HybitError}
 use Rattle.hybit_core.specs.declared.HybitError.TheVariants.{ShortList}
 use Rattle.hybit_core.proofs.BoolLaws.{and_both, eqb_turned}
@@ -29,22 +28,23 @@ use Rattle.csr32.specs.Csr.{Csr, as_csr, csr_answer, entries, present}
 use Rattle.csr32.proofs.FrameLaws.{Framed, parts_all}
 use Rattle.csr32.proofs.CsrLaws.{Valid, checked, present_row}
 use Rattle.topology.specs.Words.{Words, topology_of, set_bits, word_answer}
-use Rattle.topology.specs.Calls.{as_room, fits_words, used_of}
+use Rattle.topology.specs.declared.TopologySize.{TopologySize}
+use Rattle.topology.specs.Calls.{as_room, fits_words, as_size, used_of}
 use Rattle.topology.proofs.TopologyLaws.{total_bits, topology_pointers, topology_sides, topology_checked}
 use Rattle.levels.proofs.LevelLaws.{listed-few, columns_few}
 use Rattle.topology_build.specs.Build.{topology_from, build_answer}
 use Rattle.topology_build.specs.Making.{Source, row_test, row_words, Rows, Ended}
 
 -- what the call answers, and what its lists of np, nw and nm places hold
-abbrev Result : Answer → Given (ℕ × ℕ) → Words → ℕ → ℕ → ℕ → List ℕ → List ℕ → List ℕ → Type 0
-Result a r t np nw nm op ow om = (r ≡ answers a (used_of t)) × ((op ≡ built 0 np a t.ptr) × ((ow ≡ built 0 nw a t.word) × (om ≡ built 0 nm a t.mask)))
+abbrev Outcome : Answer → Given TopologySize → Words → ℕ → ℕ → ℕ → List ℕ → List ℕ → List ℕ → Type 0
+Outcome a r t np nw nm op ow om = (r ≡ answers a (used_of t)) × ((op ≡ built 0 np a t.ptr) × ((ow ≡ built 0 nw a t.word) × (om ≡ built 0 nm a t.mask)))
 
-refusal : (a : Answer) (e : HybitError) (t : Words) (np nw nm : ℕ) (op ow om : List ℕ) → a ≡ refused (paper e) → op ≡ padded 0 np [] → ow ≡ padded 0 nw [] → om ≡ padded 0 nm [] → Result a (refuses (paper e)) t np nw nm op ow om
+refusal : (a : Answer) (e : HybitError) (t : Words) (np nw nm : ℕ) (op ow om : List ℕ) → a ≡ refused (paper e) → op ≡ padded 0 np [] → ow ≡ padded 0 nw [] → om ≡ padded 0 nm [] → Outcome a (refuses (paper e)) t np nw nm op ow om
 refusal a e t np nw nm op ow om q x y z = rw q (refl, (x, (y, z)))
 
 success : (a : Answer) (n b : ℕ) (t : Words) (np nw nm : ℕ) (op ow om : List ℕ) → a ≡ accepted → n ≡ length t.word → b ≡ t.total → op ≡ padded 0 np t.ptr → ow ≡ padded 0 nw t.word → om ≡ padded 0 nm t.mask
-    → Result a (gives (n, b)) t np nw nm op ow om
-success a n b t np nw nm op ow om q en eb x y z = rw q (ap₂ (λ (i j : ℕ). gives (i, j)) en eb, (x, (y, z)))
+    → Outcome a (gives (as_size n b)) t np nw nm op ow om
+success a n b t np nw nm op ow om q en eb x y z = rw q (ap₂ (λ (i j : ℕ). gives (as_size i j)) en eb, (x, (y, z)))
 
 -- ---- which lists are too short
 
@@ -80,21 +80,21 @@ module _ (rows cols : ℕ) (ptr col : List ℕ) (src : Source rows cols ptr col)
 
 -- ---- after the check of the plot list, which gave the verdict v
 
-module _ (rows cols : ℕ) (ptr col : List ℕ) (val : List Float) (v : Verdict) (t : told v ≡ csr_answer (as_csr rows cols ptr col val)) (op ow om : List ℕ) where
+module _ (rows cols : ℕ) (ptr col : List ℕ) (val : List Float) (v : Result Unit HybitError) (t : told v ≡ csr_answer (as_csr rows cols ptr col val)) (op ow om : List ℕ) where
   abbrev m : Csr
   m = as_csr rows cols ptr col val
 
   abbrev whole : Answer
   whole = build_answer m (as_room (length op) (length ow) (length om))
 
-  pub from_refused : (op2 ow2 om2 : List ℕ) (e : HybitError) → v ≡ Refused e → op2 ≡ padded 0 (length op) [] → ow2 ≡ padded 0 (length ow) [] → om2 ≡ padded 0 (length om) []
-      → Result whole (refuses (paper e)) (topology_from m) (length op) (length ow) (length om) op2 ow2 om2
+  pub from_refused : (op2 ow2 om2 : List ℕ) (e : HybitError) → v ≡ Err e → op2 ≡ padded 0 (length op) [] → ow2 ≡ padded 0 (length ow) [] → om2 ≡ padded 0 (length om) []
+      → Outcome whole (refuses (paper e)) (topology_from m) (length op) (length ow) (length om) op2 ow2 om2
   unfolding build_answer
   from_refused op2 ow2 om2 e k x y z =
       refusal whole e (topology_from m) (length op) (length ow) (length om) op2 ow2 om2
       (ap (λ (a : Answer). a and_then demand (fits_words (topology_from m) (as_room (length op) (length ow) (length om))) 13) (refused_by (csr_answer m) v e t k)) x y z
 
-  module _ (k : v ≡ Accepted) where
+  module _ (k : v ≡ Ok tt) where
     ok : Valid m
     ok = checked m v t k
 
@@ -120,7 +120,7 @@ module _ (rows cols : ℕ) (ptr col : List ℕ) (val : List Float) (v : Verdict)
         ∙ ap (λ (x : Bool). demand x 13) e
 
     pub from_no_rows : (op2 ow2 om2 : List ℕ) → length op ≤ rows → op2 ≡ padded 0 (length op) [] → ow2 ≡ padded 0 (length ow) [] → om2 ≡ padded 0 (length om) []
-        → Result whole (refuses (paper ShortList)) (topology_from m) (length op) (length ow) (length om) op2 ow2 om2
+        → Outcome whole (refuses (paper ShortList)) (topology_from m) (length op) (length ow) (length om) op2 ow2 om2
     from_no_rows op2 ow2 om2 h x y z =
         refusal whole ShortList (topology_from m) (length op) (length ow) (length om) op2 ow2 om2
         (decides false (no_pointers (topology_of rows cols (row_test ptr col)) (length op) (length ow) (length om) (omega (arith, topology_pointers rows cols (row_test ptr col))))) x y z
@@ -141,7 +141,7 @@ module _ (rows cols : ℕ) (ptr col : List ℕ) (val : List Float) (v : Verdict)
       masks_same = omega (arith, length-append ms1 (drop room om), length-drop room om, masks_room)
 
       pub from_short : (op2 ow2 om2 : List ℕ) → room < n → op2 ≡ padded 0 (length op1) [] → ow2 ≡ padded 0 (length (ws1 ++ drop room ow)) [] → om2 ≡ padded 0 (length (ms1 ++ drop room om)) []
-          → Result whole (refuses (paper ShortList)) (topology_from m) (length op) (length ow) (length om) op2 ow2 om2
+          → Outcome whole (refuses (paper ShortList)) (topology_from m) (length op) (length ow) (length om) op2 ow2 om2
       unfolding topology_of
       from_short op2 ow2 om2 h x y z =
           let over : length ws1 < length (joined (row_words (row_test ptr col) cols) rows) = f.over (omega (arith, words_room)) in
@@ -183,9 +183,9 @@ module _ (rows cols : ℕ) (ptr col : List ℕ) (val : List Float) (v : Verdict)
         pub from-built : (op2 ow2 om2 : List ℕ) (w b : ℕ) → rows < length op → w ≡ n % 2 ^ 32
             → op2 ≡ padded 0 (length (set op1 rows w)) (take (rows + 1) (set op1 rows w)) → ow2 ≡ padded 0 (length (ws1 ++ drop room ow)) (take n (ws1 ++ drop room ow))
             → om2 ≡ padded 0 (length (ms1 ++ drop room om)) (take n (ms1 ++ drop room om)) → b ≡ set_bits (take n om2) % 2 ^ 64
-            → Result whole (gives (n, b)) (topology_from m) (length op) (length ow) (length om) op2 ow2 om2
+            → Outcome whole (gives (as_size n b)) (topology_from m) (length op) (length ow) (length om) op2 ow2 om2
         from-built op2 ow2 om2 w b h ew x y z eb =
-            subst (λ (s : Words). Result whole (gives (n, b)) s (length op) (length ow) (length om) op2 ow2 om2) record_is
+            subst (λ (s : Words). Outcome whole (gives (as_size n b)) s (length op) (length ow) (length om) op2 ow2 om2) record_is
             (success whole n b (topology_of rows cols (row_test ptr col)) (length op) (length ow) (length om) op2 ow2 om2
             (decides true
             (has_room (topology_of rows cols (row_test ptr col)) (length op) (length ow) (length om) (omega (arith, topology_pointers rows cols (row_test ptr col))) (omega (arith, count_is))
@@ -198,4 +198,4 @@ module _ (rows cols : ℕ) (ptr col : List ℕ) (val : List Float) (v : Verdict)
 -- ---- the words of an accepted plot list are accepted by `topology::check`
 
 pub built_accepted : (m : Csr) → csr_answer m ≡ accepted → word_answer (topology_from m) ≡ accepted
-built_accepted m e = accepts m.rows m.cols m.ptr m.col m.val Accepted (sym e) [] [] [] refl
+built_accepted m e = accepts m.rows m.cols m.ptr m.col m.val (Ok tt) (sym e) [] [] [] refl

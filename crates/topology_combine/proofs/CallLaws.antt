@@ -1,4 +1,5 @@
 -- The checks of a set operation at each return of the code that runs them, and what an accepted call has. Assumes nothing but masks of 64 bits.
+use Rattle.std.specs.Prelude.{Result, Ok, Err}
 use mathlib.Core.Bool.{Bool, true, ◌&&◌}
 use mathlib.Core.List.{List}
 use mathlib.Core.Path.{◌≡◌, refl, sym, ap, ap₂, ◌∙◌}
@@ -13,8 +14,6 @@ use borrow.Author.Tests.{leb-true, le-leb}
 use Rattle.hybit_core.specs.Answer.{Answer, accepted, refused, demand, ◌and_then◌}
 use Rattle.hybit_core.specs.Domain.{many}
 use Rattle.hybit_core.specs.Table.{paper, told}
-use Rattle.hybit_core.specs.declared.Verdict.{Verdict}
-use Rattle.hybit_core.specs.declared.Verdict.TheVariants as verdict
 use Rattle.hybit_core.specs.declared.HybitError.{HybitError}
 use Rattle.hybit_core.proofs.BoolLaws.{and_left, and_right, and_both}
 use Rattle.hybit_core.proofs.AnswerLaws.{demand_accepted, then_first, then_second, call_refused, call_accepted, accepted_by}
@@ -26,7 +25,7 @@ use Rattle.csr32.specs.Csr.{framed_lists}
 use Rattle.word.specs.Word.{combined}
 use Rattle.word.specs.declared.Operation.{Operation}
 use Rattle.topology.specs.Words.{Words, as_words, member, row_rules, set_bits, word_answer}
-use Rattle.topology.specs.Calls.{Room, as_room, fits_words, used_of}
+use Rattle.topology.specs.Calls.{Room, as_room, fits_words, as_size, used_of}
 use Rattle.topology.proofs.RowLaws.{small}
 use Rattle.topology.proofs.TopologyLaws.{total_bits, topology_checked}
 use Rattle.topology.proofs.CallLaws.{bits_whole}
@@ -83,13 +82,13 @@ room_less rows n m room h e =
 
 -- ---- all checks: each return of `examine`
 
-module _ (op : Operation) (a b : Words) (room : Room) (pv : Verdict) (hp : told pv ≡ pair_answer a b) where
-  pub combine_pair : (e : HybitError) → pv ≡ verdict.Refused e → refused (paper e) ≡ combine_answer op a b room
+module _ (op : Operation) (a b : Words) (room : Room) (pv : Result Unit HybitError) (hp : told pv ≡ pair_answer a b) where
+  pub combine_pair : (e : HybitError) → pv ≡ Err e → refused (paper e) ≡ combine_answer op a b room
   unfolding combine_answer
   combine_pair e k =
       call_refused (pair_answer a b) (demand (many (length (combined_words op a b).word)) 1 and_then demand (fits_words (combined_words op a b) room) 13) pv e hp k
 
-  module _ (k : pv ≡ verdict.Accepted) where
+  module _ (k : pv ≡ Ok tt) where
     combine_rest : (x : Answer) → x ≡ room_answer a.rows (length (combined_words op a b).word) room → x ≡ combine_answer op a b room
     unfolding combine_answer
     combine_rest x h =
@@ -105,14 +104,14 @@ module _ (op : Operation) (a b : Words) (room : Room) (pv : Verdict) (hp : told 
     pair_few = omega (arith, the_pair.one.words_in, the_pair.two.words_in)
 
     -- the words are counted
-    pub combine_counted : (x : Verdict) (n : ℕ)
+    pub combine_counted : (x : Result Unit HybitError) (n : ℕ)
         → n ≡ length (combined_words op (as_words a.rows a.cols a.ptr a.word a.mask 0) (as_words a.rows a.cols b.ptr b.word b.mask 0)).word
         → told x ≡ room_answer a.rows n room → told x ≡ combine_answer op a b room
     combine_counted x n e h =
         combine_rest (told x) (h ∙ ap (λ (i : ℕ). room_answer a.rows i room) (e ∙ sym (ap (λ (t : Words). length t.word) (combined_same op a b))))
 
     -- the words of both records together would fit
-    pub combine_most : (x : Verdict) → small a.mask ≡ true → small b.mask ≡ true → told x ≡ room_answer a.rows (length a.word + length b.word) room → x ≡ verdict.Accepted → accepted ≡ combine_answer op a b room
+    pub combine_most : (x : Result Unit HybitError) → small a.mask ≡ true → small b.mask ≡ true → told x ≡ room_answer a.rows (length a.word + length b.word) room → x ≡ Ok tt → accepted ≡ combine_answer op a b room
     combine_most x sa sb h l =
         let c : (combined_words op a b).word ≡ joined (words_at op (as_words a.rows a.cols a.ptr a.word a.mask 0) (as_words a.rows a.cols b.ptr b.word b.mask 0)) a.rows =
         ap (λ (t : Words). t.word) (combined_same op a b) ∙ combined-words op (as_words a.rows a.cols a.ptr a.word a.mask 0) (as_words a.rows a.cols b.ptr b.word b.mask 0) in
@@ -122,7 +121,7 @@ module _ (op : Operation) (a b : Words) (room : Room) (pv : Verdict) (hp : told 
 
 -- ---- an accepted call: what the rows are written with, and what the lists hold at the end
 
-module _ (op : Operation) (a b : Words) (ptr₀ words₀ masks₀ : List ℕ) (v : Verdict) (h : told v ≡ combine_answer op a b (as_room (length ptr₀) (length words₀) (length masks₀))) (k : v ≡ verdict.Accepted) where
+module _ (op : Operation) (a b : Words) (ptr₀ words₀ masks₀ : List ℕ) (v : Result Unit HybitError) (h : told v ≡ combine_answer op a b (as_room (length ptr₀) (length words₀) (length masks₀))) (k : v ≡ Ok tt) where
   -- the two records as the rows are read from them
   abbrev bare : Words
   bare = combined_words op (as_words a.rows a.cols a.ptr a.word a.mask 0) (as_words a.rows a.cols b.ptr b.word b.mask 0)
@@ -200,13 +199,13 @@ module _ (op : Operation) (a b : Words) (ptr₀ words₀ masks₀ : List ℕ) (v
     end_masks last s z = appended_cleared 0 bare.mask n masks₀ masks last m s z ∙ ap (λ (t : Words). padded 0 (length masks₀) t.mask) (sym (combined_same op a b))
 
     -- the number of words, and of their set bits
-    pub end_used : (last : List ℕ) (t : ℕ) → length masks ≡ length masks₀ → last ≡ padded 0 (length masks) (take n masks) → t ≡ set_bits (take n last) % 2 ^ 64 → (n, t) ≡ used_of (combined_words op a b)
+    pub end_used : (last : List ℕ) (t : ℕ) → length masks ≡ length masks₀ → last ≡ padded 0 (length masks) (take n masks) → t ≡ set_bits (take n last) % 2 ^ 64 → as_size n t ≡ used_of (combined_words op a b)
     end_used last t s z e =
         let long : length (combined_words op a b).mask ≡ n = ap (λ (x : Words). length x.mask) (combined_same op a b) ∙ sym many_masks in
         let used : take n last ≡ (combined_words op a b).mask = ap (take n) (end_masks last s z) ∙ handed_used 0 (length masks₀) accepted n (combined_words op a b).mask refl long in
         let bits : t ≡ (combined_words op a b).total =
         bits_whole (combined_words op a b).mask t (omega (arith, end_few)) (e ∙ ap (λ (l : List ℕ). set_bits l % 2 ^ 64) used) ∙ total_bits a.rows a.cols (λ r c. combined op (member a r c) (member b r c)) in
-        ap₂ (λ (i j : ℕ). (i, j)) (many-words ∙ ap (λ (x : Words). length x.word) (sym (combined_same op a b))) bits
+        ap₂ as_size (many-words ∙ ap (λ (x : Words). length x.word) (sym (combined_same op a b))) bits
 
 -- ---- what an accepted set operation left is accepted by `topology::check`
 

@@ -5,19 +5,18 @@
 ghost use Rattle.std.specs.Prelude.{◌≡◌, true, cond, map, ◌+◌, ◌≤◌, ◌<◌, ◌^◌, ltb, length, get_or};
 ghost use Rattle.hybit_core.specs.Answer.{answers};
 ghost use Rattle.hybit_core.specs.Domain.{many};
-ghost use Rattle.hybit_core.specs.Table.{told};
+ghost use Rattle.hybit_core.specs.Table.{told, given};
 ghost use Rattle.lent.specs.Lent.{built, Appended};
 ghost use Rattle.lent.specs.Lists.{part};
 ghost use Rattle.word.specs.Bits.{mask_of, words_of};
 ghost use Rattle.lent.proofs.LentLaws.{Filled};
-ghost use Rattle.csr32.proofs.FrameLaws.{RowIn};
 ghost use Rattle.topology.specs.Words.{as_words};
-ghost use Rattle.topology.specs.Calls.{as_room, used_of, told_topology, fits_words};
+ghost use Rattle.topology.specs.Calls.{as_room, used_of, fits_words};
 ghost use Rattle.topology_combine.specs.Merge.{TwoRows, Stepped, TwoRecords};
 ghost use Rattle.topology_combine.specs.Combine.{combined_words, combined_row, combine_answer};
 
-use hybit_core::{HybitError, Verdict};
-use topology::TopologyAnswer;
+use hybit_core::HybitError;
+use topology::TopologySize;
 use word::Operation;
 
 // A word of two merged rows, and how far it takes each of them.
@@ -34,7 +33,7 @@ fn head(words: &[u32], at: usize) -> usize
     ensures { result ≡ cond (ltb at (length words.now)) (get_or words.now at 0) (2 ^ 32) }
 {
     if at < words.len() {
-        return hybit_core::wide(words[at]);
+        return words[at] as usize;
     }
     4294967296
 }
@@ -160,25 +159,6 @@ fn merge_row(
     to
 }
 
-// A row's part of the word numbers, and of the masks.
-fn words_of<'a>(row_word_ptr: &[u32], word_indices: &'a [u32], row: usize) -> &'a [u32]
-    requires { RowIn row_word_ptr.now (length word_indices.now) row }
-    ensures { result.now ≡ part row_word_ptr.now word_indices.now row }
-{
-    let start = hybit_core::wide(row_word_ptr[row]);
-    let end = hybit_core::wide(row_word_ptr[row + 1]);
-    &word_indices[start..end]
-}
-
-fn masks_of<'a>(row_word_ptr: &[u32], masks: &'a [u64], row: usize) -> &'a [u64]
-    requires { RowIn row_word_ptr.now (length masks.now) row }
-    ensures { result.now ≡ part row_word_ptr.now masks.now row }
-{
-    let start = hybit_core::wide(row_word_ptr[row]);
-    let end = hybit_core::wide(row_word_ptr[row + 1]);
-    &masks[start..end]
-}
-
 // How many words the combined record has.
 fn count_words(
     operation: Operation,
@@ -197,10 +177,10 @@ fn count_words(
     let mut count: usize = 0;
     let mut row: usize = 0;
     while row < nrows {
-        let left = words_of(row_word_ptr, word_indices, row);
-        let left_masks = masks_of(row_word_ptr, masks, row);
-        let right = words_of(other_row_word_ptr, other_word_indices, row);
-        let right_masks = masks_of(other_row_word_ptr, other_masks, row);
+        let left = lent::part(row_word_ptr, word_indices, row);
+        let left_masks = lent::part(row_word_ptr, masks, row);
+        let right = lent::part(other_row_word_ptr, other_word_indices, row);
+        let right_masks = lent::part(other_row_word_ptr, other_masks, row);
         count += count_row(operation, ncols, left, left_masks, right, right_masks);
         row += 1;
     }
@@ -233,10 +213,10 @@ fn merge_rows(
     let mut row: usize = 0;
     while row < nrows {
         out_ptr[row] = hybit_core::narrow(to);
-        let left = words_of(row_word_ptr, word_indices, row);
-        let left_masks = masks_of(row_word_ptr, masks, row);
-        let right = words_of(other_row_word_ptr, other_word_indices, row);
-        let right_masks = masks_of(other_row_word_ptr, other_masks, row);
+        let left = lent::part(row_word_ptr, word_indices, row);
+        let left_masks = lent::part(row_word_ptr, masks, row);
+        let right = lent::part(other_row_word_ptr, other_word_indices, row);
+        let right_masks = lent::part(other_row_word_ptr, other_masks, row);
         to = merge_row(
             operation,
             ncols,
@@ -271,10 +251,10 @@ fn examine(
     ptr_room: usize,
     word_room: usize,
     mask_room: usize,
-) -> Verdict
+) -> Result<(), HybitError>
     ensures { told result ≡ combine_answer operation (as_words nrows ncols row_word_ptr.now word_indices.now masks.now structural_nnz) (as_words other_nrows other_ncols other_row_word_ptr.now other_word_indices.now other_masks.now other_structural_nnz) (as_room ptr_room word_room mask_room) }
 {
-    let v = topology_pair::examine_pair(
+    topology_pair::examine_pair(
         nrows,
         ncols,
         row_word_ptr,
@@ -287,14 +267,11 @@ fn examine(
         other_word_indices,
         other_masks,
         other_structural_nnz,
-    );
-    if let Verdict::Refused(e) = v {
-        return Verdict::Refused(e);
-    }
+    )?;
     let most = word_indices.len() + other_word_indices.len();
     let w = topology_pair::examine_room(nrows, most, ptr_room, word_room, mask_room);
-    if let Verdict::Accepted = w {
-        return Verdict::Accepted;
+    if let Ok(()) = w {
+        return Ok(());
     }
     let words = count_words(
         operation,
@@ -328,8 +305,8 @@ pub fn combine(
     out_ptr: &mut [u32],
     out_words: &mut [u32],
     out_masks: &mut [u64],
-) -> TopologyAnswer
-    ensures answer { told_topology result ≡ answers (combine_answer operation (as_words nrows ncols row_word_ptr.now word_indices.now masks.now structural_nnz) (as_words other_nrows other_ncols other_row_word_ptr.now other_word_indices.now other_masks.now other_structural_nnz) (as_room (length out_ptr.old) (length out_words.old) (length out_masks.old))) (used_of (combined_words operation (as_words nrows ncols row_word_ptr.now word_indices.now masks.now structural_nnz) (as_words other_nrows other_ncols other_row_word_ptr.now other_word_indices.now other_masks.now other_structural_nnz))) }
+) -> Result<TopologySize, HybitError>
+    ensures answer { given result ≡ answers (combine_answer operation (as_words nrows ncols row_word_ptr.now word_indices.now masks.now structural_nnz) (as_words other_nrows other_ncols other_row_word_ptr.now other_word_indices.now other_masks.now other_structural_nnz) (as_room (length out_ptr.old) (length out_words.old) (length out_masks.old))) (used_of (combined_words operation (as_words nrows ncols row_word_ptr.now word_indices.now masks.now structural_nnz) (as_words other_nrows other_ncols other_row_word_ptr.now other_word_indices.now other_masks.now other_structural_nnz))) }
     ensures pointers { out_ptr.new ≡ built 0 (length out_ptr.old) (combine_answer operation (as_words nrows ncols row_word_ptr.now word_indices.now masks.now structural_nnz) (as_words other_nrows other_ncols other_row_word_ptr.now other_word_indices.now other_masks.now other_structural_nnz) (as_room (length out_ptr.old) (length out_words.old) (length out_masks.old))) (combined_words operation (as_words nrows ncols row_word_ptr.now word_indices.now masks.now structural_nnz) (as_words other_nrows other_ncols other_row_word_ptr.now other_word_indices.now other_masks.now other_structural_nnz)).ptr }
     ensures numbers { out_words.new ≡ built 0 (length out_words.old) (combine_answer operation (as_words nrows ncols row_word_ptr.now word_indices.now masks.now structural_nnz) (as_words other_nrows other_ncols other_row_word_ptr.now other_word_indices.now other_masks.now other_structural_nnz) (as_room (length out_ptr.old) (length out_words.old) (length out_masks.old))) (combined_words operation (as_words nrows ncols row_word_ptr.now word_indices.now masks.now structural_nnz) (as_words other_nrows other_ncols other_row_word_ptr.now other_word_indices.now other_masks.now other_structural_nnz)).word }
     ensures bits { out_masks.new ≡ built 0 (length out_masks.old) (combine_answer operation (as_words nrows ncols row_word_ptr.now word_indices.now masks.now structural_nnz) (as_words other_nrows other_ncols other_row_word_ptr.now other_word_indices.now other_masks.now other_structural_nnz) (as_room (length out_ptr.old) (length out_words.old) (length out_masks.old))) (combined_words operation (as_words nrows ncols row_word_ptr.now word_indices.now masks.now structural_nnz) (as_words other_nrows other_ncols other_row_word_ptr.now other_word_indices.now other_masks.now other_structural_nnz)).mask }
@@ -352,9 +329,9 @@ pub fn combine(
         out_words.len(),
         out_masks.len(),
     );
-    if let Verdict::Refused(e) = v {
+    if let Err(e) = v {
         topology::clear_past(0, 0, out_ptr, out_words, out_masks);
-        return TopologyAnswer::Refused(e);
+        return Err(e);
     }
     let words = merge_rows(
         operation,
@@ -372,8 +349,8 @@ pub fn combine(
     );
     out_ptr[nrows] = hybit_core::narrow(words);
     topology::clear_past(nrows + 1, words, out_ptr, out_words, out_masks);
-    TopologyAnswer::Built {
+    Ok(TopologySize {
         words: words,
         structural_nnz: topology::count_bits(&out_masks[..words]),
-    }
+    })
 }

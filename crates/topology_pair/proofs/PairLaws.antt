@@ -1,4 +1,5 @@
 -- The checks of two records at each return of the code that runs them, and what two accepted records have. Assumes nothing.
+use Rattle.std.specs.Prelude.{Result, Ok, Err}
 use mathlib.Core.Bool.{Bool, true, false, ◌&&◌}
 use mathlib.Core.Path.{◌≡◌, sym, ap, ap₂, ◌∙◌}
 use lib.Dec.{eqb}
@@ -6,8 +7,6 @@ use lib.ListN.{length}
 use borrow.Author.Tests.{eqb-true}
 use Rattle.hybit_core.specs.Answer.{Answer, accepted, refused, plain, demand, ◌and_then◌}
 use Rattle.hybit_core.specs.Table.{paper, told}
-use Rattle.hybit_core.specs.declared.Verdict.{Verdict}
-use Rattle.hybit_core.specs.declared.Verdict.TheVariants as verdict
 use Rattle.hybit_core.specs.declared.HybitError.{HybitError}
 use Rattle.hybit_core.proofs.BoolLaws.{and_left, and_right, and-next}
 use Rattle.hybit_core.proofs.AnswerLaws.{demand_accepted, then_first, then_second, test_passes, last_fails, last_passes, call_refused, call_accepted}
@@ -18,8 +17,8 @@ use Rattle.topology_pair.specs.Pair.{pair_answer}
 
 -- ---- two records: each return of `examine_pair`
 
-module _ (a b : Words) (v : Verdict) (sa : true ≡ word_sizes a) (sb : true ≡ word_sizes b) (hv : told v ≡ word_answer a) where
-  rules_told : (t : Words) (u : Verdict) → true ≡ word_sizes t → told u ≡ word_answer t → told u ≡ demand (word_rules t) 11
+module _ (a b : Words) (v : Result Unit HybitError) (sa : true ≡ word_sizes a) (sb : true ≡ word_sizes b) (hv : told v ≡ word_answer a) where
+  rules_told : (t : Words) (u : Result Unit HybitError) → true ≡ word_sizes t → told u ≡ word_answer t → told u ≡ demand (word_rules t) 11
   unfolding word_answer
   rules_told t u e h = h ∙ ap (λ (s : Bool). demand s 1 and_then demand (word_rules t) 11) (sym e)
 
@@ -29,20 +28,20 @@ module _ (a b : Words) (v : Verdict) (sa : true ≡ word_sizes a) (sb : true ≡
       test_passes (word_sizes a && word_sizes b) 1 x (demand (word_rules a) 11 and_then demand (word_rules b) 11 and_then demand (eqb a.rows b.rows && eqb a.cols b.cols) 8)
       (and-next (word_sizes a) (word_sizes b) true sa sb) h
 
-  pub pair_first : (e : HybitError) → v ≡ verdict.Refused e → refused (paper e) ≡ pair_answer a b
+  pub pair_first : (e : HybitError) → v ≡ Err e → refused (paper e) ≡ pair_answer a b
   pair_first e k =
       sized (refused (paper e))
       (call_refused (demand (word_rules a) 11) (demand (word_rules b) 11 and_then demand (eqb a.rows b.rows && eqb a.cols b.cols) 8) v e (rules_told a v sa hv) k)
 
-  module _ (w : Verdict) (k : v ≡ verdict.Accepted) (hw : told w ≡ word_answer b) where
+  module _ (w : Result Unit HybitError) (k : v ≡ Ok tt) (hw : told w ≡ word_answer b) where
     first_passes : (x : Answer) → x ≡ demand (word_rules b) 11 and_then demand (eqb a.rows b.rows && eqb a.cols b.cols) 8 → x ≡ pair_answer a b
     first_passes x h =
         sized x (call_accepted (demand (word_rules a) 11) (demand (word_rules b) 11 and_then demand (eqb a.rows b.rows && eqb a.cols b.cols) 8) x v (rules_told a v sa hv) k h)
 
-    pub pair_second : (e : HybitError) → w ≡ verdict.Refused e → refused (paper e) ≡ pair_answer a b
+    pub pair_second : (e : HybitError) → w ≡ Err e → refused (paper e) ≡ pair_answer a b
     pair_second e l = first_passes (refused (paper e)) (call_refused (demand (word_rules b) 11) (demand (eqb a.rows b.rows && eqb a.cols b.cols) 8) w e (rules_told b w sb hw) l)
 
-    module _ (l : w ≡ verdict.Accepted) where
+    module _ (l : w ≡ Ok tt) where
       both_pass : (x : Answer) → x ≡ demand (eqb a.rows b.rows && eqb a.cols b.cols) 8 → x ≡ pair_answer a b
       both_pass x h = first_passes x (call_accepted (demand (word_rules b) 11) (demand (eqb a.rows b.rows && eqb a.cols b.cols) 8) x w (rules_told b w sb hw) l h)
 

@@ -7,7 +7,7 @@ ghost use Rattle.topology.specs.Words.{as_words};
 ghost use Rattle.topology.specs.Calls.{as_room};
 ghost use Rattle.topology_pair.specs.Pair.{pair_answer, room_answer};
 
-use hybit_core::{HybitError, Verdict};
+use hybit_core::HybitError;
 
 // Whether `words` words of so many rows fit the domain and the lists: 1, 13.
 pub fn examine_room(
@@ -16,22 +16,22 @@ pub fn examine_room(
     ptr_room: usize,
     word_room: usize,
     mask_room: usize,
-) -> Verdict
+) -> Result<(), HybitError>
     ensures { told result ≡ room_answer nrows words (as_room ptr_room word_room mask_room) }
 {
     if !hybit_core::entries_fit(words) {
-        return Verdict::Refused(HybitError::SizeOverflow);
+        return Err(HybitError::SizeOverflow);
     }
     if ptr_room <= nrows {
-        return Verdict::Refused(HybitError::ShortList);
+        return Err(HybitError::ShortList);
     }
     if word_room < words {
-        return Verdict::Refused(HybitError::ShortList);
+        return Err(HybitError::ShortList);
     }
     if mask_room < words {
-        return Verdict::Refused(HybitError::ShortList);
+        return Err(HybitError::ShortList);
     }
-    Verdict::Accepted
+    Ok(())
 }
 
 // Both records, and that they have one frame: 1; 11, 11; 8.
@@ -48,11 +48,11 @@ pub fn examine_pair(
     other_word_indices: &[u32],
     other_masks: &[u64],
     other_structural_nnz: usize,
-) -> Verdict
+) -> Result<(), HybitError>
     ensures { told result ≡ pair_answer (as_words nrows ncols row_word_ptr.now word_indices.now masks.now structural_nnz) (as_words other_nrows other_ncols other_row_word_ptr.now other_word_indices.now other_masks.now other_structural_nnz) }
 {
     if !hybit_core::sizes_fit(nrows, ncols, word_indices.len(), masks.len()) {
-        return Verdict::Refused(HybitError::SizeOverflow);
+        return Err(HybitError::SizeOverflow);
     }
     if !hybit_core::sizes_fit(
         other_nrows,
@@ -60,35 +60,29 @@ pub fn examine_pair(
         other_word_indices.len(),
         other_masks.len(),
     ) {
-        return Verdict::Refused(HybitError::SizeOverflow);
+        return Err(HybitError::SizeOverflow);
     }
-    let v = topology::check(
+    topology::check(
         nrows,
         ncols,
         row_word_ptr,
         word_indices,
         masks,
         structural_nnz,
-    );
-    if let Verdict::Refused(e) = v {
-        return Verdict::Refused(e);
-    }
-    let w = topology::check(
+    )?;
+    topology::check(
         other_nrows,
         other_ncols,
         other_row_word_ptr,
         other_word_indices,
         other_masks,
         other_structural_nnz,
-    );
-    if let Verdict::Refused(e) = w {
-        return Verdict::Refused(e);
-    }
+    )?;
     if nrows != other_nrows {
-        return Verdict::Refused(HybitError::FramesDiffer);
+        return Err(HybitError::FramesDiffer);
     }
     if ncols != other_ncols {
-        return Verdict::Refused(HybitError::FramesDiffer);
+        return Err(HybitError::FramesDiffer);
     }
-    Verdict::Accepted
+    Ok(())
 }

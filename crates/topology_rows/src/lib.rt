@@ -2,37 +2,14 @@
 #![tactic(auto)]
 
 ghost use Rattle.std.specs.Prelude.{◌≡◌, true, ◌≤◌, leb, length};
-ghost use Rattle.hybit_core.specs.Answer.{number_in, answers, demand, ◌and_then◌};
-ghost use Rattle.hybit_core.specs.Table.{told, told_count, told_bool};
+ghost use Rattle.hybit_core.specs.Answer.{on_given, answers, demand, ◌and_then◌};
+ghost use Rattle.hybit_core.specs.Table.{told, given};
 ghost use Rattle.lent.specs.Lists.{part};
 ghost use Rattle.word.specs.Bits.{count, within, selected, words_of};
-ghost use Rattle.word.specs.Word.{told_select};
-ghost use Rattle.csr32.proofs.FrameLaws.{RowIn};
 ghost use Rattle.topology.specs.Words.{as_words, row_member, member, row_rule};
-ghost use Rattle.topology.specs.Calls.{row_answer, part_given, rank_answer, select, told_selection};
+ghost use Rattle.topology.specs.Calls.{row_answer, rank_answer, select};
 
-use hybit_core::{BoolAnswer, CountAnswer, HybitError, Verdict};
-use topology::SelectAnswer;
-use word::WordSelect;
-
-// A row's part of the word numbers, and of the masks.
-fn words_of<'a>(row_word_ptr: &[u32], word_indices: &'a [u32], row: usize) -> &'a [u32]
-    requires { RowIn row_word_ptr.now (length word_indices.now) row }
-    ensures { result.now ≡ part row_word_ptr.now word_indices.now row }
-{
-    let start = hybit_core::wide(row_word_ptr[row]);
-    let end = hybit_core::wide(row_word_ptr[row + 1]);
-    &word_indices[start..end]
-}
-
-fn masks_of<'a>(row_word_ptr: &[u32], masks: &'a [u64], row: usize) -> &'a [u64]
-    requires { RowIn row_word_ptr.now (length masks.now) row }
-    ensures { result.now ≡ part row_word_ptr.now masks.now row }
-{
-    let start = hybit_core::wide(row_word_ptr[row]);
-    let end = hybit_core::wide(row_word_ptr[row + 1]);
-    &masks[start..end]
-}
+use hybit_core::HybitError;
 
 fn check_row(
     nrows: usize,
@@ -42,27 +19,24 @@ fn check_row(
     masks: &[u64],
     structural_nnz: usize,
     row: usize,
-) -> Verdict
+) -> Result<(), HybitError>
     ensures { told result ≡ row_answer (as_words nrows ncols row_word_ptr.now word_indices.now masks.now structural_nnz) row }
 {
-    let v = topology::check(
+    topology::check(
         nrows,
         ncols,
         row_word_ptr,
         word_indices,
         masks,
         structural_nnz,
-    );
-    if let Verdict::Refused(e) = v {
-        return Verdict::Refused(e);
-    }
+    )?;
     if row >= nrows {
-        return Verdict::Refused(HybitError::NoSuchPlace);
+        return Err(HybitError::NoSuchPlace);
     }
-    Verdict::Accepted
+    Ok(())
 }
 
-// The row's word numbers, as that part of the lent list; the refusal's number goes to `refusal`, 0 when accepted.
+// The row's word numbers, as that part of the lent list.
 pub fn row_word_indices<'a>(
     nrows: usize,
     ncols: usize,
@@ -71,12 +45,10 @@ pub fn row_word_indices<'a>(
     masks: &[u64],
     structural_nnz: usize,
     row: usize,
-    refusal: &mut u32,
-) -> &'a [u32]
-    ensures part { result.now ≡ part_given (row_answer (as_words nrows ncols row_word_ptr.now word_indices.now masks.now structural_nnz) row) (part row_word_ptr.now word_indices.now row) }
-    ensures number { refusal.new ≡ number_in (row_answer (as_words nrows ncols row_word_ptr.now word_indices.now masks.now structural_nnz) row) }
+) -> Result<&'a [u32], HybitError>
+    ensures { on_given (λ s. s.now) (given result) ≡ answers (row_answer (as_words nrows ncols row_word_ptr.now word_indices.now masks.now structural_nnz) row) (part row_word_ptr.now word_indices.now row) }
 {
-    let v = check_row(
+    check_row(
         nrows,
         ncols,
         row_word_ptr,
@@ -84,12 +56,8 @@ pub fn row_word_indices<'a>(
         masks,
         structural_nnz,
         row,
-    );
-    *refusal = hybit_core::verdict_number(v);
-    if let Verdict::Refused(e) = v {
-        return &word_indices[..0];
-    }
-    words_of(row_word_ptr, word_indices, row)
+    )?;
+    Ok(lent::part(row_word_ptr, word_indices, row))
 }
 
 // The row's masks, in the same way.
@@ -101,12 +69,10 @@ pub fn row_masks<'a>(
     masks: &'a [u64],
     structural_nnz: usize,
     row: usize,
-    refusal: &mut u32,
-) -> &'a [u64]
-    ensures part { result.now ≡ part_given (row_answer (as_words nrows ncols row_word_ptr.now word_indices.now masks.now structural_nnz) row) (part row_word_ptr.now masks.now row) }
-    ensures number { refusal.new ≡ number_in (row_answer (as_words nrows ncols row_word_ptr.now word_indices.now masks.now structural_nnz) row) }
+) -> Result<&'a [u64], HybitError>
+    ensures { on_given (λ s. s.now) (given result) ≡ answers (row_answer (as_words nrows ncols row_word_ptr.now word_indices.now masks.now structural_nnz) row) (part row_word_ptr.now masks.now row) }
 {
-    let v = check_row(
+    check_row(
         nrows,
         ncols,
         row_word_ptr,
@@ -114,12 +80,8 @@ pub fn row_masks<'a>(
         masks,
         structural_nnz,
         row,
-    );
-    *refusal = hybit_core::verdict_number(v);
-    if let Verdict::Refused(e) = v {
-        return &masks[..0];
-    }
-    masks_of(row_word_ptr, masks, row)
+    )?;
+    Ok(lent::part(row_word_ptr, masks, row))
 }
 
 pub fn row_nonempty_words(
@@ -130,10 +92,10 @@ pub fn row_nonempty_words(
     masks: &[u64],
     structural_nnz: usize,
     row: usize,
-) -> CountAnswer
-    ensures { told_count result ≡ answers (row_answer (as_words nrows ncols row_word_ptr.now word_indices.now masks.now structural_nnz) row) (length (words_of (member (as_words nrows ncols row_word_ptr.now word_indices.now masks.now structural_nnz) row) ncols)) }
+) -> Result<usize, HybitError>
+    ensures { given result ≡ answers (row_answer (as_words nrows ncols row_word_ptr.now word_indices.now masks.now structural_nnz) row) (length (words_of (member (as_words nrows ncols row_word_ptr.now word_indices.now masks.now structural_nnz) row) ncols)) }
 {
-    let v = check_row(
+    check_row(
         nrows,
         ncols,
         row_word_ptr,
@@ -141,12 +103,9 @@ pub fn row_nonempty_words(
         masks,
         structural_nnz,
         row,
-    );
-    if let Verdict::Refused(e) = v {
-        return CountAnswer::Refused(e);
-    }
-    let words = words_of(row_word_ptr, word_indices, row);
-    CountAnswer::Count(words.len())
+    )?;
+    let words = lent::part(row_word_ptr, word_indices, row);
+    Ok(words.len())
 }
 
 // How many columns the row holds.
@@ -158,10 +117,10 @@ pub fn row_popcount(
     masks: &[u64],
     structural_nnz: usize,
     row: usize,
-) -> CountAnswer
-    ensures { told_count result ≡ answers (row_answer (as_words nrows ncols row_word_ptr.now word_indices.now masks.now structural_nnz) row) (count (member (as_words nrows ncols row_word_ptr.now word_indices.now masks.now structural_nnz) row) ncols) }
+) -> Result<usize, HybitError>
+    ensures { given result ≡ answers (row_answer (as_words nrows ncols row_word_ptr.now word_indices.now masks.now structural_nnz) row) (count (member (as_words nrows ncols row_word_ptr.now word_indices.now masks.now structural_nnz) row) ncols) }
 {
-    let v = check_row(
+    check_row(
         nrows,
         ncols,
         row_word_ptr,
@@ -169,11 +128,8 @@ pub fn row_popcount(
         masks,
         structural_nnz,
         row,
-    );
-    if let Verdict::Refused(e) = v {
-        return CountAnswer::Refused(e);
-    }
-    CountAnswer::Count(topology::count_bits(masks_of(row_word_ptr, masks, row)))
+    )?;
+    Ok(topology::count_bits(lent::part(row_word_ptr, masks, row)))
 }
 
 // Whether a row's words hold the column, for any words.
@@ -184,7 +140,7 @@ fn contains_in(words: &[u32], masks: &[u64], col: usize) -> bool
     let target = col / 64;
     let mut i: usize = 0;
     while i < words.len() {
-        if hybit_core::wide(words[i]) == target {
+        if words[i] as usize == target {
             return word::contains_offset(masks[i], col % 64);
         }
         i += 1;
@@ -202,10 +158,10 @@ pub fn row_contains(
     structural_nnz: usize,
     row: usize,
     col: usize,
-) -> BoolAnswer
-    ensures { told_bool result ≡ answers (row_answer (as_words nrows ncols row_word_ptr.now word_indices.now masks.now structural_nnz) row) (within ncols (member (as_words nrows ncols row_word_ptr.now word_indices.now masks.now structural_nnz) row) col) }
+) -> Result<bool, HybitError>
+    ensures { given result ≡ answers (row_answer (as_words nrows ncols row_word_ptr.now word_indices.now masks.now structural_nnz) row) (within ncols (member (as_words nrows ncols row_word_ptr.now word_indices.now masks.now structural_nnz) row) col) }
 {
-    let v = check_row(
+    check_row(
         nrows,
         ncols,
         row_word_ptr,
@@ -213,15 +169,12 @@ pub fn row_contains(
         masks,
         structural_nnz,
         row,
-    );
-    if let Verdict::Refused(e) = v {
-        return BoolAnswer::Refused(e);
-    }
+    )?;
     if col >= ncols {
-        return BoolAnswer::Is(false);
+        return Ok(false);
     }
-    let words = words_of(row_word_ptr, word_indices, row);
-    BoolAnswer::Is(contains_in(words, masks_of(row_word_ptr, masks, row), col))
+    let words = lent::part(row_word_ptr, word_indices, row);
+    Ok(contains_in(words, lent::part(row_word_ptr, masks, row), col))
 }
 
 // How many columns below `col` a row of words holds.
@@ -235,7 +188,7 @@ fn rank_in(ncols: usize, words: &[u32], masks: &[u64], col: usize) -> usize
     let mut rank: usize = 0;
     let mut i: usize = 0;
     while i < words.len() {
-        let index = hybit_core::wide(words[i]);
+        let index = words[i] as usize;
         if index > target {
             return rank;
         }
@@ -257,10 +210,10 @@ fn examine_rank(
     structural_nnz: usize,
     row: usize,
     col: usize,
-) -> Verdict
+) -> Result<(), HybitError>
     ensures { told result ≡ (row_answer (as_words nrows ncols row_word_ptr.now word_indices.now masks.now structural_nnz) row and_then demand (leb col ncols) 7) }
 {
-    let v = check_row(
+    check_row(
         nrows,
         ncols,
         row_word_ptr,
@@ -268,14 +221,11 @@ fn examine_rank(
         masks,
         structural_nnz,
         row,
-    );
-    if let Verdict::Refused(e) = v {
-        return Verdict::Refused(e);
-    }
+    )?;
     if col > ncols {
-        return Verdict::Refused(HybitError::NoSuchPlace);
+        return Err(HybitError::NoSuchPlace);
     }
-    Verdict::Accepted
+    Ok(())
 }
 
 // How many columns below `col` the row holds; the column count is allowed.
@@ -288,10 +238,10 @@ pub fn row_rank(
     structural_nnz: usize,
     row: usize,
     col: usize,
-) -> CountAnswer
-    ensures { told_count result ≡ rank_answer (as_words nrows ncols row_word_ptr.now word_indices.now masks.now structural_nnz) row col }
+) -> Result<usize, HybitError>
+    ensures { given result ≡ rank_answer (as_words nrows ncols row_word_ptr.now word_indices.now masks.now structural_nnz) row col }
 {
-    let v = examine_rank(
+    examine_rank(
         nrows,
         ncols,
         row_word_ptr,
@@ -300,36 +250,33 @@ pub fn row_rank(
         structural_nnz,
         row,
         col,
-    );
-    if let Verdict::Refused(e) = v {
-        return CountAnswer::Refused(e);
-    }
-    let words = words_of(row_word_ptr, word_indices, row);
-    CountAnswer::Count(rank_in(ncols, words, masks_of(row_word_ptr, masks, row), col))
+    )?;
+    let words = lent::part(row_word_ptr, word_indices, row);
+    Ok(rank_in(ncols, words, lent::part(row_word_ptr, masks, row), col))
 }
 
 // The column of a row of words with `ordinal` columns below it.
-fn select_in(ncols: usize, words: &[u32], masks: &[u64], ordinal: usize) -> WordSelect
+fn select_in(ncols: usize, words: &[u32], masks: &[u64], ordinal: usize) -> Option<usize>
     requires fact_1 { length masks.now ≡ length words.now }
     requires fact_2 { row_rule ncols words.now masks.now ≡ true }
-    ensures { told_select result ≡ selected (row_member words.now masks.now) ncols ordinal }
+    ensures { result ≡ selected (row_member words.now masks.now) ncols ordinal }
 {
     let mut left = ordinal;
     let mut k: usize = 0;
     while k < words.len() {
         let ones = word::popcount(masks[k]);
         if left < ones {
-            let WordSelect::At(offset) = word::select(masks[k], left) else {
-                return WordSelect::Nothing;
+            let Some(offset) = word::select(masks[k], left) else {
+                return None;
             };
-            let base = 64 * hybit_core::wide(words[k]);
+            let base = 64 * words[k] as usize;
             let col = base + offset;
-            return WordSelect::At(col);
+            return Some(col);
         }
         left -= ones;
         k += 1;
     }
-    WordSelect::Nothing
+    None
 }
 
 // The row's column with `ordinal` columns below it, or Nothing exactly if there is none.
@@ -342,10 +289,10 @@ pub fn row_select(
     structural_nnz: usize,
     row: usize,
     ordinal: usize,
-) -> SelectAnswer
-    ensures { told_selection result ≡ answers (row_answer (as_words nrows ncols row_word_ptr.now word_indices.now masks.now structural_nnz) row) (select (as_words nrows ncols row_word_ptr.now word_indices.now masks.now structural_nnz) row ordinal) }
+) -> Result<Option<usize>, HybitError>
+    ensures { given result ≡ answers (row_answer (as_words nrows ncols row_word_ptr.now word_indices.now masks.now structural_nnz) row) (select (as_words nrows ncols row_word_ptr.now word_indices.now masks.now structural_nnz) row ordinal) }
 {
-    let v = check_row(
+    check_row(
         nrows,
         ncols,
         row_word_ptr,
@@ -353,14 +300,7 @@ pub fn row_select(
         masks,
         structural_nnz,
         row,
-    );
-    if let Verdict::Refused(e) = v {
-        return SelectAnswer::Refused(e);
-    }
-    let words = words_of(row_word_ptr, word_indices, row);
-    let found = select_in(ncols, words, masks_of(row_word_ptr, masks, row), ordinal);
-    let WordSelect::At(col) = found else {
-        return SelectAnswer::Nothing;
-    };
-    SelectAnswer::At(col)
+    )?;
+    let words = lent::part(row_word_ptr, word_indices, row);
+    Ok(select_in(ncols, words, lent::part(row_word_ptr, masks, row), ordinal))
 }

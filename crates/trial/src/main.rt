@@ -8,13 +8,12 @@ ghost use Rattle.std.specs.Prelude.{◌≡◌, ◌%◌, ◌^◌, ◌<◌, ◌≤
 ghost use Rattle.hybit_core.specs.Answer.{answers};
 ghost use Rattle.mask.specs.Mask.{as_mask};
 ghost use Rattle.csr32.specs.Csr.{as_csr};
-ghost use Rattle.metadata_first.specs.Dot.{told_dot};
+ghost use Rattle.hybit_core.specs.Table.{given};
 ghost use Rattle.metadata_first_build.specs.Pack.{as_store_room};
 ghost use Rattle.demand_examine.specs.Calls.{pruned_answer, row_dot};
 
 use hybit_core::HybitError;
-use metadata_first::{AbtmProductPruningStats, AbtmRowDot, DotAnswer, TotalsAnswer};
-use text::{Real, Whole};
+use metadata_first::{AbtmProductPruningStats, AbtmRowDot};
 
 // The plots, the lines, and the entries of a line that the lists below have room for.
 const ROOM: usize = 65536;
@@ -33,33 +32,24 @@ enum Wanted {
     Nothing,
 }
 
-// What came of reading a part of the input; Taken has the number of lines or entries where there is one.
+// Why a trial has no totals: its text is not as it should be, or the library refuses it.
 #[derive(Clone, Copy)]
-enum Part {
-    Taken(usize),
+enum Fault {
     Wrong(Wanted),
     Refused(HybitError),
 }
 
-#[derive(Clone, Copy)]
-enum Shape {
-    Of { lines: usize, plots: usize },
-    Wrong(Wanted),
-    Refused(HybitError),
+impl From<HybitError> for Fault {
+    fn from(e: HybitError) -> Fault {
+        Fault::Refused(e)
+    }
 }
 
+// How many lines and plots a trial has.
 #[derive(Clone, Copy)]
-enum Line {
-    Of(AbtmRowDot),
-    Wrong(Wanted),
-    Refused(HybitError),
-}
-
-#[derive(Clone, Copy)]
-enum All {
-    Of(AbtmProductPruningStats),
-    Wrong(Wanted),
-    Refused(HybitError),
+struct Shape {
+    lines: usize,
+    plots: usize,
 }
 
 // ---- the input, byte by byte and word by word
@@ -141,13 +131,18 @@ fn same(a: &[u8], b: &[u8]) -> bool {
     true
 }
 
-fn next_whole(block: &mut [u8], at: &mut usize, end: &mut usize, line: &mut usize) -> Whole {
+fn next_whole(
+    block: &mut [u8],
+    at: &mut usize,
+    end: &mut usize,
+    line: &mut usize,
+) -> Option<usize> {
     let mut room = [0u8; 32];
     let n = next_word(block, at, end, line, &mut room);
     text::read_whole(&room[..n])
 }
 
-fn next_real(block: &mut [u8], at: &mut usize, end: &mut usize, line: &mut usize) -> Real {
+fn next_real(block: &mut [u8], at: &mut usize, end: &mut usize, line: &mut usize) -> Option<f64> {
     let mut room = [0u8; 32];
     let n = next_word(block, at, end, line, &mut room);
     text::read_real(&room[..n])
@@ -168,29 +163,30 @@ fn next_is(
 // ---- the parts of a trial
 
 // 1 above the domain, 13 above the room here.
-fn shape_of(lines: usize, plots: usize) -> Shape {
+fn shape_of(lines: usize, plots: usize) -> Result<Shape, Fault> {
     if !hybit_core::sizes_fit(lines, plots, 0, 0) {
-        return Shape::Refused(HybitError::SizeOverflow);
+        return Err(Fault::Refused(HybitError::SizeOverflow));
     }
     if lines > ROOM {
-        return Shape::Refused(HybitError::ShortList);
+        return Err(Fault::Refused(HybitError::ShortList));
     }
     if plots > ROOM {
-        return Shape::Refused(HybitError::ShortList);
+        return Err(Fault::Refused(HybitError::ShortList));
     }
-    Shape::Of { lines, plots }
+    Ok(Shape { lines, plots })
 }
 
-fn read_shape(block: &mut [u8], at: &mut usize, end: &mut usize, line: &mut usize) -> Shape {
+fn read_shape(
+    block: &mut [u8],
+    at: &mut usize,
+    end: &mut usize,
+    line: &mut usize,
+) -> Result<Shape, Fault> {
     if !next_is(block, at, end, line, b"trial") {
-        return Shape::Wrong(Wanted::Trial);
+        return Err(Fault::Wrong(Wanted::Trial));
     }
-    let Whole::Value(lines) = next_whole(block, at, end, line) else {
-        return Shape::Wrong(Wanted::Count);
-    };
-    let Whole::Value(plots) = next_whole(block, at, end, line) else {
-        return Shape::Wrong(Wanted::Count);
-    };
+    let lines = next_whole(block, at, end, line).ok_or(Fault::Wrong(Wanted::Count))?;
+    let plots = next_whole(block, at, end, line).ok_or(Fault::Wrong(Wanted::Count))?;
     shape_of(lines, plots)
 }
 
@@ -209,21 +205,19 @@ fn read_flags(
     line: &mut usize,
     plots: usize,
     active: &mut [u64],
-) -> Part {
+) -> Result<usize, Fault> {
     let mut plot: usize = 0;
     while plot < plots {
-        let Whole::Value(flag) = next_whole(block, at, end, line) else {
-            return Part::Wrong(Wanted::ZeroOrOne);
-        };
+        let flag = next_whole(block, at, end, line).ok_or(Fault::Wrong(Wanted::ZeroOrOne))?;
         if flag > 1 {
-            return Part::Wrong(Wanted::ZeroOrOne);
+            return Err(Fault::Wrong(Wanted::ZeroOrOne));
         }
         if flag == 1 {
             activate(plot, active);
         }
         plot += 1;
     }
-    Part::Taken(plots)
+    Ok(plots)
 }
 
 // The limit, and each plot's grain moisture: a plot above the limit is masked out.
@@ -234,21 +228,17 @@ fn read_moisture(
     line: &mut usize,
     plots: usize,
     active: &mut [u64],
-) -> Part {
-    let Real::Value(limit) = next_real(block, at, end, line) else {
-        return Part::Wrong(Wanted::Number);
-    };
+) -> Result<usize, Fault> {
+    let limit = next_real(block, at, end, line).ok_or(Fault::Wrong(Wanted::Number))?;
     let mut plot: usize = 0;
     while plot < plots {
-        let Real::Value(moisture) = next_real(block, at, end, line) else {
-            return Part::Wrong(Wanted::Number);
-        };
+        let moisture = next_real(block, at, end, line).ok_or(Fault::Wrong(Wanted::Number))?;
         if moisture <= limit {
             activate(plot, active);
         }
         plot += 1;
     }
-    Part::Taken(plots)
+    Ok(plots)
 }
 
 fn read_active(
@@ -258,7 +248,7 @@ fn read_active(
     line: &mut usize,
     plots: usize,
     active: &mut [u64],
-) -> Part {
+) -> Result<usize, Fault> {
     let mut room = [0u8; 32];
     let n = next_word(block, at, end, line, &mut room);
     if same(&room[..n], b"mask") {
@@ -267,7 +257,7 @@ fn read_active(
     if same(&room[..n], b"moisture") {
         return read_moisture(block, at, end, line, plots, active);
     }
-    Part::Wrong(Wanted::MaskOrMoisture)
+    Err(Fault::Wrong(Wanted::MaskOrMoisture))
 }
 
 fn read_yields(
@@ -277,19 +267,17 @@ fn read_yields(
     line: &mut usize,
     plots: usize,
     yields: &mut [f64],
-) -> Part {
+) -> Result<usize, Fault> {
     if !next_is(block, at, end, line, b"yields") {
-        return Part::Wrong(Wanted::Yields);
+        return Err(Fault::Wrong(Wanted::Yields));
     }
     let mut plot: usize = 0;
-    while plot < hybit_core::smaller(plots, yields.len()) {
-        let Real::Value(v) = next_real(block, at, end, line) else {
-            return Part::Wrong(Wanted::Number);
-        };
+    while plot < plots.min(yields.len()) {
+        let v = next_real(block, at, end, line).ok_or(Fault::Wrong(Wanted::Number))?;
         yields[plot] = v;
         plot += 1;
     }
-    Part::Taken(plots)
+    Ok(plots)
 }
 
 // A line: how many entries it has, and each entry's plot and value.
@@ -300,29 +288,23 @@ fn read_line(
     line: &mut usize,
     cols: &mut [u32],
     values: &mut [f64],
-) -> Part {
-    let Whole::Value(count) = next_whole(block, at, end, line) else {
-        return Part::Wrong(Wanted::Count);
-    };
-    if count > hybit_core::smaller(cols.len(), values.len()) {
-        return Part::Refused(HybitError::ShortList);
+) -> Result<usize, Fault> {
+    let count = next_whole(block, at, end, line).ok_or(Fault::Wrong(Wanted::Count))?;
+    if count > cols.len().min(values.len()) {
+        return Err(Fault::Refused(HybitError::ShortList));
     }
     let mut i: usize = 0;
     while i < count {
-        let Whole::Value(plot) = next_whole(block, at, end, line) else {
-            return Part::Wrong(Wanted::Count);
-        };
+        let plot = next_whole(block, at, end, line).ok_or(Fault::Wrong(Wanted::Count))?;
         if plot > 4294967295 {
-            return Part::Refused(HybitError::OutsideColumn);
+            return Err(Fault::Refused(HybitError::OutsideColumn));
         }
-        let Real::Value(v) = next_real(block, at, end, line) else {
-            return Part::Wrong(Wanted::Number);
-        };
+        let v = next_real(block, at, end, line).ok_or(Fault::Wrong(Wanted::Number))?;
         cols[i] = hybit_core::narrow(plot);
         values[i] = v;
         i += 1;
     }
-    Part::Taken(count)
+    Ok(count)
 }
 
 // ---- the totals
@@ -337,8 +319,8 @@ fn report(
     word_indices: &mut [u32],
     bits: &mut [u64],
     packed: &mut [f64],
-) -> DotAnswer
-    ensures { told_dot result ≡ answers (pruned_answer (as_csr 1 plots (0 ∷ length cols.now % 2 ^ 32 ∷ []) cols.now values.now) (as_mask plots active.now) yields.now 0 (as_store_room 2 (length word_indices.old) (length bits.old) 2 (length packed.old))) (row_dot (as_csr 1 plots (0 ∷ length cols.now % 2 ^ 32 ∷ []) cols.now values.now) (as_mask plots active.now) yields.now 0) }
+) -> Result<AbtmRowDot, HybitError>
+    ensures { given result ≡ answers (pruned_answer (as_csr 1 plots (0 ∷ length cols.now % 2 ^ 32 ∷ []) cols.now values.now) (as_mask plots active.now) yields.now 0 (as_store_room 2 (length word_indices.old) (length bits.old) 2 (length packed.old))) (row_dot (as_csr 1 plots (0 ∷ length cols.now % 2 ^ 32 ∷ []) cols.now values.now) (as_mask plots active.now) yields.now 0) }
 {
     let row_ptr = [0u32, hybit_core::narrow(cols.len())];
     let mut row_word_ptr = [0u32; 2];
@@ -372,10 +354,10 @@ fn report_first(
     word_indices: &mut [u32],
     bits: &mut [u64],
     packed: &mut [f64],
-) -> Line {
-    let a = hybit_core::smaller(n, cols.len());
-    let b = hybit_core::smaller(n, values.len());
-    let d = report(
+) -> Result<AbtmRowDot, Fault> {
+    let a = n.min(cols.len());
+    let b = n.min(values.len());
+    let r = report(
         plots,
         &cols[..a],
         &values[..b],
@@ -384,11 +366,8 @@ fn report_first(
         word_indices,
         bits,
         packed,
-    );
-    match d {
-        DotAnswer::Dot(r) => Line::Of(r),
-        DotAnswer::Refused(e) => Line::Refused(e),
-    }
+    )?;
+    Ok(r)
 }
 
 // Reads a line and takes its report.
@@ -405,23 +384,19 @@ fn next_line(
     word_indices: &mut [u32; WORD_ROOM],
     bits: &mut [u64; WORD_ROOM],
     packed: &mut [f64; ROOM],
-) -> Line {
-    let p = read_line(block, at, end, line, cols, values);
-    match p {
-        Part::Wrong(w) => Line::Wrong(w),
-        Part::Refused(e) => Line::Refused(e),
-        Part::Taken(n) => report_first(
-            n,
-            plots,
-            cols,
-            values,
-            active,
-            yields,
-            word_indices,
-            bits,
-            packed,
-        ),
-    }
+) -> Result<AbtmRowDot, Fault> {
+    let n = read_line(block, at, end, line, cols, values)?;
+    report_first(
+        n,
+        plots,
+        cols,
+        values,
+        active,
+        yields,
+        word_indices,
+        bits,
+        packed,
+    )
 }
 
 fn no_counts() -> AbtmProductPruningStats {
@@ -434,23 +409,9 @@ fn no_counts() -> AbtmProductPruningStats {
     }
 }
 
-// The counts of all lines so far with those of one more line.
-fn with_line(all: AbtmProductPruningStats, l: Line) -> All {
-    match l {
-        Line::Wrong(w) => All::Wrong(w),
-        Line::Refused(e) => All::Refused(e),
-        Line::Of(r) => {
-            let TotalsAnswer::Totals(t) = all.accumulate(r.counts()) else {
-                return All::Refused(HybitError::SizeOverflow);
-            };
-            All::Of(t)
-        }
-    }
-}
-
 // Notes what is to be written of line i.
 fn note(
-    l: Line,
+    r: AbtmRowDot,
     i: usize,
     sums: &mut [f64; ROOM],
     executed: &mut [usize; ROOM],
@@ -458,9 +419,6 @@ fn note(
 )
     requires { i < 65536 }
 {
-    let Line::Of(r) = l else {
-        return;
-    };
     sums[i] = r.sum;
     executed[i] = r.executed_products;
     skipped[i] = r.skipped_products;
@@ -473,13 +431,13 @@ fn all_read(
     end: &mut usize,
     line: &mut usize,
     all: AbtmProductPruningStats,
-) -> All {
+) -> Result<AbtmProductPruningStats, Fault> {
     if next_is(block, at, end, line, b"") {
         if peek(block, at, end) == 256 {
-            return All::Of(all);
+            return Ok(all);
         }
     }
-    All::Wrong(Wanted::Nothing)
+    Err(Fault::Wrong(Wanted::Nothing))
 }
 
 // Reads all lines and notes what is to be written of each; answers the counts of all together.
@@ -495,7 +453,7 @@ fn read_lines(
     sums: &mut [f64; ROOM],
     executed: &mut [usize; ROOM],
     skipped: &mut [usize; ROOM],
-) -> All
+) -> Result<AbtmProductPruningStats, Fault>
     requires { lines ≤ 65536 }
 {
     let mut cols = [0u32; ROOM];
@@ -506,7 +464,7 @@ fn read_lines(
     let mut all = no_counts();
     let mut i: usize = 0;
     while i < lines {
-        let l = next_line(
+        let r = next_line(
             block,
             at,
             end,
@@ -519,13 +477,9 @@ fn read_lines(
             &mut word_indices,
             &mut bits,
             &mut packed,
-        );
-        let a = with_line(all, l);
-        let All::Of(t) = a else {
-            return a;
-        };
-        all = t;
-        note(l, i, sums, executed, skipped);
+        )?;
+        all = all.accumulate(r.counts())?;
+        note(r, i, sums, executed, skipped);
         i += 1;
     }
     all_read(block, at, end, line, all)
@@ -541,12 +495,12 @@ fn totals(
     plots: usize,
     active: &[u64],
     yields: &[f64],
-) {
+) -> Result<(), Fault> {
     let mut sums = [0.0f64; ROOM];
     let mut executed = [0usize; ROOM];
     let mut skipped = [0usize; ROOM];
-    let n = hybit_core::smaller(lines, ROOM);
-    let a = read_lines(
+    let n = lines.min(ROOM);
+    let all = read_lines(
         block,
         at,
         end,
@@ -558,15 +512,10 @@ fn totals(
         &mut sums,
         &mut executed,
         &mut skipped,
-    );
-    match a {
-        All::Wrong(w) => complain(w, *line),
-        All::Refused(e) => refuse(e, *line),
-        All::Of(t) => {
-            write_lines(n, &sums, &executed, &skipped);
-            write_all_lines(t);
-        }
-    }
+    )?;
+    write_lines(n, &sums, &executed, &skipped);
+    write_all_lines(all);
+    Ok(())
 }
 
 // The mask and the yields, then the lines.
@@ -577,21 +526,13 @@ fn read_plots(
     line: &mut usize,
     lines: usize,
     plots: usize,
-) {
+) -> Result<(), Fault> {
     let mut active = [0u64; WORD_ROOM];
     let mut yields = [0.0f64; ROOM];
-    let n = hybit_core::smaller(plots, ROOM);
+    let n = plots.min(ROOM);
     let words = (n + 63) / 64;
-    let a = read_active(block, at, end, line, n, &mut active);
-    if let Part::Wrong(w) = a {
-        complain(w, *line);
-        return;
-    }
-    let y = read_yields(block, at, end, line, n, &mut yields);
-    if let Part::Wrong(w) = y {
-        complain(w, *line);
-        return;
-    }
+    read_active(block, at, end, line, n, &mut active)?;
+    read_yields(block, at, end, line, n, &mut yields)?;
     totals(
         block,
         at,
@@ -601,7 +542,7 @@ fn read_plots(
         plots,
         &active[..words],
         &yields[..n],
-    );
+    )
 }
 
 // ---- a float as text
@@ -700,7 +641,7 @@ fn increase(places: &mut [u64; PLACES]) {
 fn write_digits(n: u64, count: usize) {
     let mut text = [b'0'; 9];
     let mut rest = n;
-    let mut i = hybit_core::smaller(count, 9);
+    let mut i = count.min(9);
     let end = i;
     while i > 0 {
         i -= 1;
@@ -837,7 +778,7 @@ fn write_place(line: usize) {
 
 fn refuse(e: HybitError, line: usize) {
     write(b"refusal ");
-    io::print_decimal(1, hybit_core::number(e) as u64);
+    io::print_decimal(1, e.number() as u64);
     write(b": ");
     write_word(e);
     write_place(line);
@@ -878,6 +819,12 @@ fn embedded(block: &mut [u8]) -> usize
     i
 }
 
+// Reads the trial and writes its totals.
+fn run(block: &mut [u8], at: &mut usize, end: &mut usize, line: &mut usize) -> Result<(), Fault> {
+    let shape = read_shape(block, at, end, line)?;
+    read_plots(block, at, end, line, shape.lines, shape.plots)
+}
+
 fn main() {
     let mut block = io::large_buffer();
     let mut at: usize = 0;
@@ -887,12 +834,10 @@ fn main() {
         at = 0;
         end = embedded(&mut block);
     }
-    let shape = read_shape(&mut block, &mut at, &mut end, &mut line);
-    match shape {
-        Shape::Wrong(w) => complain(w, line),
-        Shape::Refused(e) => refuse(e, line),
-        Shape::Of { lines, plots } => {
-            read_plots(&mut block, &mut at, &mut end, &mut line, lines, plots)
+    if let Err(fault) = run(&mut block, &mut at, &mut end, &mut line) {
+        match fault {
+            Fault::Wrong(w) => complain(w, line),
+            Fault::Refused(e) => refuse(e, line),
         }
     }
 }

@@ -1,13 +1,14 @@
 -- Laws of `below p n`, the ascending list of the positions below n at which p holds, for any test p. Assumes nothing.
+use Rattle.std.proofs.lemmas.Option.{slice_get-get_or, slice_get_past, same_Some}
 use mathlib.Core.Bool.{Bool, true, false, not, ◌&&◌, ◌||◌}
 use mathlib.Core.List.{List, [], ◌∷◌, ◌++◌, map, foldl, foldl-append, append-nil}
 use mathlib.Core.Path.{◌≡◌, refl, sym, ap, ap₂, ◌∙◌, subst}
 use Prim.Native.Nat.{ℕ, zero, suc, ◌+◌, ◌-◌, ◌≤◌, ◌<◌, zero-le}
-use native.Mathlib.Nat.{add-zero, add-suc, suc-add, zero-add, sub-zero, le_refl, not-suc-le-zero}
+use native.Mathlib.Nat.{add-zero, add-suc, suc-add, zero-add, sub-zero, le_refl}
 use native.Mathlib.Decide.{le_ind, dec_lt}
 use native.Mathlib.Omega.{arith}
-use mathlib.Core.Option.{Option, none, some}
-use lib.ListN.{length, get_or, get_elem?, set, length-set, length-append, length-map, get_or-append}
+use Rattle.std.specs.Prelude.{Option, None, Some}
+use lib.ListN.{length, get_or, set, length-set, length-append, length-map, get_or-append}
 use lib.Seq.{ext_get_or, get_or-set_same, get_or-set_other, get_or_at, get_or-append_seam}
 use mir.Val.{bool_byte}
 use Rattle.lent.specs.Lists.{cons_if}
@@ -256,44 +257,31 @@ length_block p k d =
 
 -- ---- select: the number with k of them below it, whenever there is one
 
-element : {A : Type 0} (l : List A) (k : ℕ) (d : A) → k < length l → get_elem? l k ≡ some (get_or l k d)
-element [] k d h = absurd (not-suc-le-zero h)
-element (a ∷ l) zero d h = refl
-element (a ∷ l) (suc k) d h = element l k d (omega arith)
-
-no_element : {A : Type 0} (l : List A) (k : ℕ) → length l ≤ k → get_elem? l k ≡ none
-no_element [] k h = refl
-no_element (a ∷ l) zero h = absurd (not-suc-le-zero h)
-no_element (a ∷ l) (suc k) h = no_element l k (omega arith)
-
-pub selected-at : (p : ℕ → Bool) (n k d : ℕ) → k < count p n → selected p n k ≡ some (get_or (below p n) k d)
+pub selected-at : (p : ℕ → Bool) (n k d : ℕ) → k < count p n → selected p n k ≡ Some (get_or (below p n) k d)
 unfolding selected
-selected-at p n k d h = element (below p n) k d h
+selected-at p n k d h = slice_get-get_or (below p n) k d h
 
-pub selected_finds : (p : ℕ → Bool) (n k : ℕ) → k < count p n → (c : ℕ) × (selected p n k ≡ some c) × Selects p n k c
+pub selected_finds : (p : ℕ → Bool) (n k : ℕ) → k < count p n → (c : ℕ) × (selected p n k ≡ Some c) × Selects p n k c
 selected_finds p n k h = (get_or (below p n) k 0, selected-at p n k 0 h, selects p n k h)
 
-pub selected_nothing : (p : ℕ → Bool) (n k : ℕ) → count p n ≤ k → selected p n k ≡ none
+pub selected_nothing : (p : ℕ → Bool) (n k : ℕ) → count p n ≤ k → selected p n k ≡ None
 unfolding selected
-selected_nothing p n k h = no_element (below p n) k h
+selected_nothing p n k h = slice_get_past (below p n) k h
 
-pub selected_of_rank : (p : ℕ → Bool) (n c : ℕ) → c < n → p c ≡ true → selected p n (count p c) ≡ some c
-selected_of_rank p n c h e = selected-at p n (count p c) 0 (rank_lt p c n h e) ∙ ap (λ (i : ℕ). some i) (below-at-rank p n c h e)
-
-pub some_is : (a b : ℕ) → ◌≡◌ {A = Option ℕ} (some a) (some b) → a ≡ b
-some_is a b e = cc
+pub selected_of_rank : (p : ℕ → Bool) (n c : ℕ) → c < n → p c ≡ true → selected p n (count p c) ≡ Some c
+selected_of_rank p n c h e = selected-at p n (count p c) 0 (rank_lt p c n h e) ∙ ap (λ (i : ℕ). Some i) (below-at-rank p n c h e)
 
 -- what is selected lies below n
-pub selected-small : (p : ℕ → Bool) (n k c : ℕ) → some c ≡ selected p n k → c < n
+pub selected-small : (p : ℕ → Bool) (n k c : ℕ) → Some c ≡ selected p n k → c < n
 unfolding selected
 selected-small p n k c e = go (dec_lt k (count p n))
   where
     value : Option ℕ → ℕ
-    value none = 0
-    value (some a) = suc a
+    value None = 0
+    value (Some a) = suc a
 
     go : Dec (k < count p n) → c < n
-    go (yes h) = omega (arith, some_is c (get_or (below p n) k 0) (e ∙ selected-at p n k 0 h), (selects p n k h).bound)
+    go (yes h) = omega (arith, same_Some c (get_or (below p n) k 0) (e ∙ selected-at p n k 0 h), (selects p n k h).bound)
     go (no h) = let z : suc c ≡ 0 = ap value (e ∙ selected_nothing p n k (omega arith)) in absurd (omega arith)
 
 -- two steps that agree at the numbers that pass give one fold

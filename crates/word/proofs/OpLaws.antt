@@ -2,7 +2,7 @@
 use mathlib.Core.Bool.{Bool, false, not, ◌&&◌, ◌||◌, and-true, or-false, beq}
 use mathlib.Core.List.{List}
 use mathlib.Core.Logic.{◌⊎◌, inl, inr}
-use mathlib.Core.Option.{none, some}
+use Rattle.std.specs.Prelude.{None, Some}
 use mathlib.Core.Path.{◌≡◌, refl, sym, ap, ◌∙◌}
 use Prim.Native.Nat.{ℕ, ◌+◌, ◌-◌, ◌*◌, ◌%◌, ◌^◌, ◌≤◌, ◌<◌}
 use native.Mathlib.Nat.{eq-zero-or-pos}
@@ -110,13 +110,13 @@ left-none w = refl
 pub left_more : (w b r k : ℕ) → members b ≡ drop k (members w) → members r ≡ drop 1 (members b) → members r ≡ drop (k + 1) (members w)
 left_more w b r k e h = h ∙ ap (drop 1) e ∙ drop-drop 1 k (members w)
 
-pub left-selected : (w b n k r : ℕ) → members b ≡ drop k (members w) → k ≤ n → n ≤ k → n < count (has w) 64 → r ≡ get_or (members b) 0 64 → some r ≡ selected (has w) 64 n
+pub left-selected : (w b n k r : ℕ) → members b ≡ drop k (members w) → k ≤ n → n ≤ k → n < count (has w) 64 → r ≡ get_or (members b) 0 64 → Some r ≡ selected (has w) 64 n
 unfolding members
 left-selected w b n k r e l u h q =
     let s : k + 0 ≡ n = omega arith in
-    ap (λ (i : ℕ). some i) (q ∙ ap (λ (t : List ℕ). get_or t 0 64) e ∙ get_or-drop k (members w) 0 64 ∙ ap (λ (m : ℕ). get_or (members w) m 64) s) ∙ sym (selected-at (has w) 64 n 64 h)
+    ap (λ (i : ℕ). Some i) (q ∙ ap (λ (t : List ℕ). get_or t 0 64) e ∙ get_or-drop k (members w) 0 64 ∙ ap (λ (m : ℕ). get_or (members w) m 64) s) ∙ sym (selected-at (has w) 64 n 64 h)
 
-pub nothing_left : (w n r : ℕ) → r ≤ n → r ≡ count (has w) 64 → none ≡ selected (has w) 64 n
+pub nothing_left : (w n r : ℕ) → r ≤ n → r ≡ count (has w) 64 → None ≡ selected (has w) 64 n
 nothing_left w n r l e = sym (selected_nothing (has w) 64 n (omega arith))
 
 -- ---- the operations by their names

@@ -1,8 +1,6 @@
 -- Tests on numbers, and the ascending list of the numbers that pass: the words of a row, its columns and the members of one
 -- word are such lists. A word is 64 bits, bit 0 the lowest.
-use Rattle.std.specs.Prelude.{Bool, not, ◌&&◌, List, [], ℕ, zero, suc, ◌+◌, ◌-◌, ◌*◌, ◌/◌, ◌%◌, ◌^◌, eqb, ltb, length}
-use Rattle.std.proofs.Math.Option.{Option}
-use Rattle.std.proofs.Math.ListN.{get_elem?}
+use Rattle.std.specs.Prelude.{Option, slice_get, Bool, not, ◌&&◌, List, [], ℕ, zero, suc, ◌+◌, ◌-◌, ◌*◌, ◌/◌, ◌%◌, ◌^◌, eqb, ltb, length}
 use mir.Val.{bool_byte}
 use Rattle.lent.specs.Lists.{cons_if}
 
@@ -29,7 +27,7 @@ count p n = length (below p n)
 
 -- document 01's select: of the numbers below n that pass, the one with k of them below it, or nothing
 unfoldable pub selected : (ℕ → Bool) → ℕ → ℕ → Option ℕ
-selected p n k = get_elem? (below p n) k
+selected p n k = slice_get (below p n) k
 
 -- both tests hold
 abbrev pub both : (ℕ → Bool) → (ℕ → Bool) → ℕ → Bool

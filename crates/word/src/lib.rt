@@ -3,18 +3,11 @@
 #![tactic(auto)]
 
 ghost use Rattle.std.specs.Prelude.{◌≡◌, not, ◌&&◌, ◌||◌, eqb, ltb, get_or, drop};
-ghost use Rattle.hybit_core.specs.Table.{told_count};
+ghost use Rattle.hybit_core.specs.Table.{given};
 ghost use Rattle.word.specs.Bits.{has, count, members, selected, word_of};
-ghost use Rattle.word.specs.Word.{rank_answer, told_select, combined};
+ghost use Rattle.word.specs.Word.{rank_answer, combined};
 
-use hybit_core::{CountAnswer, HybitError};
-
-// The Rust's `Option<usize>` of a select.
-#[derive(Clone, Copy)]
-pub enum WordSelect {
-    At(usize),
-    Nothing,
-}
+use hybit_core::HybitError;
 
 // The closures of the Rust's `combine`, by name.
 #[derive(Clone, Copy)]
@@ -55,13 +48,13 @@ pub fn ones_below(mask: u64, offset: usize) -> usize
 }
 
 // How many bits below `offset` are set; refused above 64.
-pub fn rank(mask: u64, offset: usize) -> CountAnswer
-    ensures { told_count result ≡ rank_answer mask offset }
+pub fn rank(mask: u64, offset: usize) -> Result<usize, HybitError>
+    ensures { given result ≡ rank_answer mask offset }
 {
     if offset > 64 {
-        return CountAnswer::Refused(HybitError::NoSuchPlace);
+        return Err(HybitError::NoSuchPlace);
     }
-    CountAnswer::Count(ones_below(mask, offset))
+    Ok(ones_below(mask, offset))
 }
 
 // The lowest set bit, and 64 where none is set.
@@ -82,11 +75,11 @@ pub fn without_lowest(bits: u64) -> u64
 }
 
 // The set bit with `ordinal` set bits below it.
-pub fn select(mask: u64, ordinal: usize) -> WordSelect
-    ensures { told_select result ≡ selected (has mask) 64 ordinal }
+pub fn select(mask: u64, ordinal: usize) -> Option<usize>
+    ensures { result ≡ selected (has mask) 64 ordinal }
 {
     if ordinal >= popcount(mask) {
-        return WordSelect::Nothing;
+        return None;
     }
     let mut bits = mask;
     let mut k: usize = 0;
@@ -94,7 +87,7 @@ pub fn select(mask: u64, ordinal: usize) -> WordSelect
         bits = without_lowest(bits);
         k += 1;
     }
-    WordSelect::At(lowest(bits))
+    Some(lowest(bits))
 }
 
 pub fn union(a: u64, b: u64) -> u64

@@ -29,7 +29,7 @@ pub loop-j-smaller : goal.loop-j-smaller
 loop-j-smaller c = omega arith
 
 pub loop-j-preserved : goal.loop-j-preserved
-loop-j-preserved c = dense_more _ _ _ _ _ _ _ c.loop-j.invariant c.smaller-limit.ensures c.requires.0 c.requires.1 (omega arith)
+loop-j-preserved c = dense_more _ _ _ _ _ _ _ c.loop-j.invariant c.min-limit.ensures c.requires.0 c.requires.1 (omega arith)
 
 pub returns : goal.returns
-returns c = dense_done _ _ _ _ _ _ _ c.loop-j.invariant c.smaller-limit.ensures c.requires.0 c.requires.1 (omega arith)
+returns c = dense_done _ _ _ _ _ _ _ c.loop-j.invariant c.min-limit.ensures c.requires.0 c.requires.1 (omega arith)

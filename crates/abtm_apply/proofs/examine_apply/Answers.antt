@@ -1,22 +1,23 @@
 -- `abtm_apply::examine_apply` meets its contract. Assumes nothing.
+use Rattle.std.proofs.Common.{rules}
 use native.Mathlib.Omega.{arith}
 use lib.ListN.{length}
-use Rattle.hybit_core.proofs.AnswerLaws.{call_refused, call_accepted, length_wrong, length_right, last_length_wrong, last_length_right}
+use Rattle.hybit_core.proofs.AnswerLaws.{told_refused, call_refused, call_accepted, length_wrong, length_right, last_length_wrong, last_length_right}
 use Rattle.abtm_apply.specs.Product.{apply_tiles_answer}
 use Rattle.abtm_apply.proofs.examine_apply.Goals as goal
 
-pub returns-in-Refused : goal.returns-in-Refused
+pub returns-in_err-check : goal.returns-in_err-check
 unfolding apply_tiles_answer
-returns-in-Refused c = call_refused _ _ _ _ c.check-v.ensures c.in-Refused.is
+returns-in_err-check c = told_refused _ _ _ (search rules) (call_refused _ _ _ _ c.check.ensures c.in_err-check.was)
 
 pub returns-then-x-ncols : goal.returns-then-x-ncols
 unfolding apply_tiles_answer
-returns-then-x-ncols c = call_accepted _ _ _ _ c.check-v.ensures c.in_default.is (length_wrong c.args.ncols (length c.args.x.now) _ c.if-x-ncols.true)
+returns-then-x-ncols c = call_accepted _ _ _ _ c.check.ensures c.in_ok-check.was (length_wrong c.args.ncols (length c.args.x.now) _ c.if-x-ncols.true)
 
 pub returns-then-places-nrows : goal.returns-then-places-nrows
 unfolding apply_tiles_answer
-returns-then-places-nrows c = call_accepted _ _ _ _ c.check-v.ensures c.in_default.is (length_right c.args.ncols (length c.args.x.now) _ _ (omega arith) (last_length_wrong c.args.nrows c.args.places c.if-places-nrows.true))
+returns-then-places-nrows c = call_accepted _ _ _ _ c.check.ensures c.in_ok-check.was (length_right c.args.ncols (length c.args.x.now) _ _ (omega arith) (last_length_wrong c.args.nrows c.args.places c.if-places-nrows.true))
 
 pub returns : goal.returns
 unfolding apply_tiles_answer
-returns c = call_accepted _ _ _ _ c.check-v.ensures c.in_default.is (length_right c.args.ncols (length c.args.x.now) _ _ (omega arith) (last_length_right c.args.nrows c.args.places (omega arith)))
+returns c = call_accepted _ _ _ _ c.check.ensures c.in_ok-check.was (length_right c.args.ncols (length c.args.x.now) _ _ (omega arith) (last_length_right c.args.nrows c.args.places (omega arith)))

@@ -25,55 +25,55 @@ pub bounds-row_tile_ptr-row-in-loop-row : goal.bounds-row_tile_ptr-row-in-loop-r
 bounds-row_tile_ptr-row-in-loop-row c = omega (arith, (row_places _ (tiles_good _ _ _ c.requires) c.loop-row.row _ _ (omega arith) refl refl).next)
 
 pub offset_bounds-masks-start : goal.offset_bounds-masks-start
-offset_bounds-masks-start c = let p = row_places _ (tiles_good _ _ _ c.requires) c.loop-row.row _ _ (omega arith) c.wide-start.ensures c.wide-end.ensures in
+offset_bounds-masks-start c = let p = row_places _ (tiles_good _ _ _ c.requires) c.loop-row.row _ _ (omega arith) refl refl in
     omega (arith, p.order, p.in_masks)
 
 pub slice_bounds-row_sum-count : goal.slice_bounds-row_sum-count
-slice_bounds-row_sum-count c = let p = row_places _ (tiles_good _ _ _ c.requires) c.loop-row.row _ _ (omega arith) c.wide-start.ensures c.wide-end.ensures in
+slice_bounds-row_sum-count c = let p = row_places _ (tiles_good _ _ _ c.requires) c.loop-row.row _ _ (omega arith) refl refl in
     omega (arith, p.order, p.in_masks)
 
 pub slice_bounds-row_sum-start : goal.slice_bounds-row_sum-start
-slice_bounds-row_sum-start c = let p = row_places _ (tiles_good _ _ _ c.requires) c.loop-row.row _ _ (omega arith) c.wide-start.ensures c.wide-end.ensures in
+slice_bounds-row_sum-start c = let p = row_places _ (tiles_good _ _ _ c.requires) c.loop-row.row _ _ (omega arith) refl refl in
     omega (arith, p.order, p.in_masks)
 
 pub slice_bounds-row_sum-end : goal.slice_bounds-row_sum-end
-slice_bounds-row_sum-end c = let p = row_places _ (tiles_good _ _ _ c.requires) c.loop-row.row _ _ (omega arith) c.wide-start.ensures c.wide-end.ensures in
+slice_bounds-row_sum-end c = let p = row_places _ (tiles_good _ _ _ c.requires) c.loop-row.row _ _ (omega arith) refl refl in
     omega (arith, p.order, p.in_masks)
 
 pub offset_bounds-value_offsets-start : goal.offset_bounds-value_offsets-start
-offset_bounds-value_offsets-start c = let p = row_places _ (tiles_good _ _ _ c.requires) c.loop-row.row _ _ (omega arith) c.wide-start.ensures c.wide-end.ensures in
+offset_bounds-value_offsets-start c = let p = row_places _ (tiles_good _ _ _ c.requires) c.loop-row.row _ _ (omega arith) refl refl in
     omega (arith, p.order, p.in_offsets)
 
 pub slice_bounds-row_sum-count-in-loop-row : goal.slice_bounds-row_sum-count-in-loop-row
-slice_bounds-row_sum-count-in-loop-row c = let p = row_places _ (tiles_good _ _ _ c.requires) c.loop-row.row _ _ (omega arith) c.wide-start.ensures c.wide-end.ensures in
+slice_bounds-row_sum-count-in-loop-row c = let p = row_places _ (tiles_good _ _ _ c.requires) c.loop-row.row _ _ (omega arith) refl refl in
     omega (arith, p.order, p.in_offsets)
 
 pub slice_bounds-row_sum-start-in-loop-row : goal.slice_bounds-row_sum-start-in-loop-row
-slice_bounds-row_sum-start-in-loop-row c = let p = row_places _ (tiles_good _ _ _ c.requires) c.loop-row.row _ _ (omega arith) c.wide-start.ensures c.wide-end.ensures in
+slice_bounds-row_sum-start-in-loop-row c = let p = row_places _ (tiles_good _ _ _ c.requires) c.loop-row.row _ _ (omega arith) refl refl in
     omega (arith, p.order, p.in_offsets)
 
 pub slice_bounds-row_sum-end-in-loop-row : goal.slice_bounds-row_sum-end-in-loop-row
-slice_bounds-row_sum-end-in-loop-row c = let p = row_places _ (tiles_good _ _ _ c.requires) c.loop-row.row _ _ (omega arith) c.wide-start.ensures c.wide-end.ensures in
+slice_bounds-row_sum-end-in-loop-row c = let p = row_places _ (tiles_good _ _ _ c.requires) c.loop-row.row _ _ (omega arith) refl refl in
     omega (arith, p.order, p.in_offsets)
 
 pub offset_bounds-metas-start : goal.offset_bounds-metas-start
-offset_bounds-metas-start c = let p = row_places _ (tiles_good _ _ _ c.requires) c.loop-row.row _ _ (omega arith) c.wide-start.ensures c.wide-end.ensures in
+offset_bounds-metas-start c = let p = row_places _ (tiles_good _ _ _ c.requires) c.loop-row.row _ _ (omega arith) refl refl in
     omega (arith, p.order, p.in_metas)
 
 pub slice_bounds-row_sum-count-in-loop-row-2 : goal.slice_bounds-row_sum-count-in-loop-row-2
-slice_bounds-row_sum-count-in-loop-row-2 c = let p = row_places _ (tiles_good _ _ _ c.requires) c.loop-row.row _ _ (omega arith) c.wide-start.ensures c.wide-end.ensures in
+slice_bounds-row_sum-count-in-loop-row-2 c = let p = row_places _ (tiles_good _ _ _ c.requires) c.loop-row.row _ _ (omega arith) refl refl in
     omega (arith, p.order, p.in_metas)
 
 pub slice_bounds-row_sum-start-in-loop-row-2 : goal.slice_bounds-row_sum-start-in-loop-row-2
-slice_bounds-row_sum-start-in-loop-row-2 c = let p = row_places _ (tiles_good _ _ _ c.requires) c.loop-row.row _ _ (omega arith) c.wide-start.ensures c.wide-end.ensures in
+slice_bounds-row_sum-start-in-loop-row-2 c = let p = row_places _ (tiles_good _ _ _ c.requires) c.loop-row.row _ _ (omega arith) refl refl in
     omega (arith, p.order, p.in_metas)
 
 pub slice_bounds-row_sum-end-in-loop-row-2 : goal.slice_bounds-row_sum-end-in-loop-row-2
-slice_bounds-row_sum-end-in-loop-row-2 c = let p = row_places _ (tiles_good _ _ _ c.requires) c.loop-row.row _ _ (omega arith) c.wide-start.ensures c.wide-end.ensures in
+slice_bounds-row_sum-end-in-loop-row-2 c = let p = row_places _ (tiles_good _ _ _ c.requires) c.loop-row.row _ _ (omega arith) refl refl in
     omega (arith, p.order, p.in_metas)
 
 pub row_sum-requires : goal.row_sum-requires
-row_sum-requires c = record { fact_1 = (lent_offsets _ (tiles_good _ _ _ c.requires) c.loop-row.row _ _ (omega arith) c.wide-start.ensures c.wide-end.ensures, lent_metas _ (tiles_good _ _ _ c.requires) c.loop-row.row _ _ (omega arith) c.wide-start.ensures c.wide-end.ensures); fact_2 = lent_inside _ _ _ c.requires c.loop-row.row _ _ (omega arith) c.wide-start.ensures c.wide-end.ensures }
+row_sum-requires c = record { fact_1 = (lent_offsets _ (tiles_good _ _ _ c.requires) c.loop-row.row _ _ (omega arith) refl refl, lent_metas _ (tiles_good _ _ _ c.requires) c.loop-row.row _ _ (omega arith) refl refl); fact_2 = lent_inside _ _ _ c.requires c.loop-row.row _ _ (omega arith) refl refl }
 
 pub offset_bounds-y-row : goal.offset_bounds-y-row
 offset_bounds-y-row c = omega (arith, rows_few _ _ _ c.requires)
@@ -81,11 +81,8 @@ offset_bounds-y-row c = omega (arith, rows_few _ _ _ c.requires)
 pub bounds-y-row : goal.bounds-y-row
 bounds-y-row c = rows-room _ _ _ c.requires _ refl _ _ c.loop-row.invariant (omega arith)
 
-pub overflow_add-row-in-loop-row : goal.overflow_add-row-in-loop-row
-overflow_add-row-in-loop-row c = omega (arith, rows_few _ _ _ c.requires)
-
 pub loop-row-preserved : goal.loop-row-preserved
-loop-row-preserved c = rows_more _ _ _ c.requires _ refl _ _ c.loop-row.invariant _ (omega arith) (row_number _ _ _ c.requires c.loop-row.row _ _ (omega arith) c.wide-start.ensures c.wide-end.ensures _ c.row_sum.ensures)
+loop-row-preserved c = rows_more _ _ _ c.requires _ refl _ _ c.loop-row.invariant _ (omega arith) (row_number _ _ _ c.requires c.loop-row.row _ _ (omega arith) refl refl _ c.row_sum.ensures)
 
 pub shape_of-y : goal.shape_of-y
 shape_of-y c = rows_long _ _ _ c.requires _ refl _ _ c.loop-row.invariant

@@ -1,4 +1,5 @@
 -- `abtm_apply::row_sum` meets its contract. Assumes nothing.
+use mathlib.Core.Path.{refl}
 use Prim.Native.Nat.{◌-◌}
 use native.Mathlib.Omega.{arith}
 use Rattle.abtm_apply.proofs.RowLaws.{tile_in, summing_none, summing_more, summing_done}
@@ -8,10 +9,10 @@ pub loop-i-init : goal.loop-i-init
 loop-i-init c = summing_none _ _ _ _ _
 
 pub add_tile-sum-requires : goal.add_tile-sum-requires
-add_tile-sum-requires c = tile_in c.args.masks.now c.args.value_offsets.now c.args.metas.now c.args.values.now c.args.x.now c.requires.fact_1.0 c.requires.fact_1.1 c.requires.fact_2 _ _ (omega arith) c.wide.ensures
+add_tile-sum-requires c = tile_in c.args.masks.now c.args.value_offsets.now c.args.metas.now c.args.values.now c.args.x.now c.requires.fact_1.0 c.requires.fact_1.1 c.requires.fact_2 _ _ (omega arith) refl
 
 pub loop-i-preserved : goal.loop-i-preserved
-loop-i-preserved c = summing_more _ _ _ _ _ c.requires.fact_1.0 c.requires.fact_1.1 _ _ c.loop-i.invariant _ _ (omega arith) c.wide.ensures c.add_tile-sum.ensures
+loop-i-preserved c = summing_more _ _ _ _ _ c.requires.fact_1.0 c.requires.fact_1.1 _ _ c.loop-i.invariant _ _ (omega arith) refl c.add_tile-sum.ensures
 
 pub returns : goal.returns
 returns c = summing_done _ _ _ _ _ c.requires.fact_1.0 c.requires.fact_1.1 _ _ c.loop-i.invariant (omega arith)

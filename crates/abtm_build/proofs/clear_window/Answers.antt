@@ -10,13 +10,13 @@ pub loop-k-init : goal.loop-k-init
 loop-k-init c = (refl, refl, refl, refl, c.requires.fact_1)
 
 pub loop-k-preserved-then-i-width : goal.loop-k-preserved-then-i-width
-loop-k-preserved-then-i-width c = (c.loop-k.invariant.0, simp length-set (omega arith), simp length-set (omega arith), simp length-set (omega arith), outside_more c.args.cols.now _ c.loop-k.k _ c.loop-k.invariant.4 _ (omega arith) c.wide-c.ensures (omega arith) (omega arith))
+loop-k-preserved-then-i-width c = (c.loop-k.invariant.0, simp length-set (omega arith), simp length-set (omega arith), simp length-set (omega arith), outside_more c.args.cols.now _ c.loop-k.k _ c.loop-k.invariant.4 _ (omega arith) refl (omega arith) (omega arith))
 
 pub loop-k-preserved-else-i-width : goal.loop-k-preserved-else-i-width
-loop-k-preserved-else-i-width c = (c.loop-k.invariant.0, c.loop-k.invariant.1, c.loop-k.invariant.2, c.loop-k.invariant.3, outside_past c.args.cols.now _ c.loop-k.k _ c.loop-k.invariant.4 _ (omega arith) c.wide-c.ensures (omega arith) (omega arith))
+loop-k-preserved-else-i-width c = (c.loop-k.invariant.0, c.loop-k.invariant.1, c.loop-k.invariant.2, c.loop-k.invariant.3, outside_past c.args.cols.now _ c.loop-k.k _ c.loop-k.invariant.4 _ (omega arith) refl (omega arith) (omega arith))
 
 pub loop-k-preserved : goal.loop-k-preserved
-loop-k-preserved c = (c.loop-k.invariant.0, c.loop-k.invariant.1, c.loop-k.invariant.2, c.loop-k.invariant.3, outside_before c.args.cols.now _ c.loop-k.k _ c.loop-k.invariant.4 _ (omega arith) c.wide-c.ensures (omega arith))
+loop-k-preserved c = (c.loop-k.invariant.0, c.loop-k.invariant.1, c.loop-k.invariant.2, c.loop-k.invariant.3, outside_before c.args.cols.now _ c.loop-k.k _ c.loop-k.invariant.4 _ (omega arith) refl (omega arith))
 
 pub returns : goal.returns
 returns c = outside_done c.args.cols.now _ c.loop-k.k _ c.loop-k.invariant.4 _ c.loop-k.invariant.1 (omega arith)

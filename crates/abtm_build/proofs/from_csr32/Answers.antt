@@ -7,8 +7,8 @@ use Rattle.abtm_build.proofs.AnswerLaws.{from_refused, list_accepted, pointers_f
 use borrow.Author.Rules.{rules}
 use Rattle.abtm_build.proofs.from_csr32.Goals as goal
 
-pub returns-in-Refused : goal.returns-in-Refused
-returns-in-Refused c = let rest = from_refused _ _ c.args.row_tile_ptr.now c.args.masks.now c.args.value_offsets.now c.args.metas.now c.args.values.now _ c.examine-v.ensures _ _ _ _ _ _ c.in-Refused.is c.clear_past.ensures.pointers c.clear_past.ensures.bits c.clear_past.ensures.offsets c.clear_past.ensures.metas c.clear_past.ensures.values in record { answer = rest.0; pointers = rest.1.0; bits = rest.1.1.0; offsets = rest.1.1.1.0; metas = rest.1.1.1.1.0; values = rest.1.1.1.1.1 }
+pub returns-in-Err : goal.returns-in-Err
+returns-in-Err c = let rest = from_refused _ _ c.args.row_tile_ptr.now c.args.masks.now c.args.value_offsets.now c.args.metas.now c.args.values.now _ c.examine-v.ensures _ _ _ _ _ _ c.in-Err.is c.clear_past.ensures.pointers c.clear_past.ensures.bits c.clear_past.ensures.offsets c.clear_past.ensures.metas c.clear_past.ensures.values in record { answer = rest.0; pointers = rest.1.0; bits = rest.1.1.0; offsets = rest.1.1.1.0; metas = rest.1.1.1.1.0; values = rest.1.1.1.1.1 }
 
 pub slice_bounds-build-end-2 : goal.slice_bounds-build-end-2
 slice_bounds-build-end-2 c = simp length-take (omega arith)
@@ -31,12 +31,12 @@ build-at-requires c = let k = c.examine-v.ensures in
 pub returns-then-room-at : goal.returns-then-room-at
 returns-then-room-at c = let k = c.examine-v.ensures in
     let t = c.in_default.is in
-    let n = c.smaller-room.ensures ∙ ap₂ min c.smaller.ensures c.smaller-2.ensures in let rest = from_few_tiles _ _ c.args.row_tile_ptr.now c.args.masks.now c.args.value_offsets.now c.args.metas.now c.args.values.now _ k t _ _ n c.smaller-places.ensures _ _ _ _ _ _ c.build-at.ensures c.build-at.auto.row_tile_ptr c.build-at.auto.masks c.build-at.auto.value_offsets c.build-at.auto.metas c.build-at.auto.values _ _ _ _ _ c.if-room-at.true c.clear_past-then-room-at.ensures.pointers c.clear_past-then-room-at.ensures.bits c.clear_past-then-room-at.ensures.offsets c.clear_past-then-room-at.ensures.metas c.clear_past-then-room-at.ensures.values in record { answer = rest.0; pointers = rest.1.0; bits = rest.1.1.0; offsets = rest.1.1.1.0; metas = rest.1.1.1.1.0; values = rest.1.1.1.1.1 }
+    let n = c.min-room.ensures ∙ ap₂ min c.min.ensures c.min-2.ensures in let rest = from_few_tiles _ _ c.args.row_tile_ptr.now c.args.masks.now c.args.value_offsets.now c.args.metas.now c.args.values.now _ k t _ _ n c.min-places.ensures _ _ _ _ _ _ c.build-at.ensures c.build-at.auto.row_tile_ptr c.build-at.auto.masks c.build-at.auto.value_offsets c.build-at.auto.metas c.build-at.auto.values _ _ _ _ _ c.if-room-at.true c.clear_past-then-room-at.ensures.pointers c.clear_past-then-room-at.ensures.bits c.clear_past-then-room-at.ensures.offsets c.clear_past-then-room-at.ensures.metas c.clear_past-then-room-at.ensures.values in record { answer = rest.0; pointers = rest.1.0; bits = rest.1.1.0; offsets = rest.1.1.1.0; metas = rest.1.1.1.1.0; values = rest.1.1.1.1.1 }
 
 pub returns-then-places-at : goal.returns-then-places-at
 returns-then-places-at c = let k = c.examine-v.ensures in
     let t = c.in_default.is in
-    let n = c.smaller-room.ensures ∙ ap₂ min c.smaller.ensures c.smaller-2.ensures in let rest = from_few_slots _ _ c.args.row_tile_ptr.now c.args.masks.now c.args.value_offsets.now c.args.metas.now c.args.values.now _ k t _ _ n c.smaller-places.ensures _ _ _ _ _ _ c.build-at.ensures c.build-at.auto.row_tile_ptr c.build-at.auto.masks c.build-at.auto.value_offsets c.build-at.auto.metas c.build-at.auto.values _ _ _ _ _ c.if-places-at.true c.clear_past-then-places-at.ensures.pointers c.clear_past-then-places-at.ensures.bits c.clear_past-then-places-at.ensures.offsets c.clear_past-then-places-at.ensures.metas c.clear_past-then-places-at.ensures.values in record { answer = rest.0; pointers = rest.1.0; bits = rest.1.1.0; offsets = rest.1.1.1.0; metas = rest.1.1.1.1.0; values = rest.1.1.1.1.1 }
+    let n = c.min-room.ensures ∙ ap₂ min c.min.ensures c.min-2.ensures in let rest = from_few_slots _ _ c.args.row_tile_ptr.now c.args.masks.now c.args.value_offsets.now c.args.metas.now c.args.values.now _ k t _ _ n c.min-places.ensures _ _ _ _ _ _ c.build-at.ensures c.build-at.auto.row_tile_ptr c.build-at.auto.masks c.build-at.auto.value_offsets c.build-at.auto.metas c.build-at.auto.values _ _ _ _ _ c.if-places-at.true c.clear_past-then-places-at.ensures.pointers c.clear_past-then-places-at.ensures.bits c.clear_past-then-places-at.ensures.offsets c.clear_past-then-places-at.ensures.metas c.clear_past-then-places-at.ensures.values in record { answer = rest.0; pointers = rest.1.0; bits = rest.1.1.0; offsets = rest.1.1.1.0; metas = rest.1.1.1.1.0; values = rest.1.1.1.1.1 }
 
 pub offset_bounds-row_tile_ptr-nrows : goal.offset_bounds-row_tile_ptr-nrows
 offset_bounds-row_tile_ptr-nrows c = let h = pointers_fit _ _ c.args.row_tile_ptr.now c.args.masks.now c.args.value_offsets.now c.args.metas.now c.args.values.now _ c.examine-v.ensures c.in_default.is in
@@ -62,4 +62,4 @@ shape_of-row_tile_ptr c = c.clear_past-2.auto.row_tile_ptr ∙ length-set c.buil
 pub returns : goal.returns
 returns c = let k = c.examine-v.ensures in
     let t = c.in_default.is in
-    let n = c.smaller-room.ensures ∙ ap₂ min c.smaller.ensures c.smaller-2.ensures in let rest = from-built _ _ c.args.row_tile_ptr.now c.args.masks.now c.args.value_offsets.now c.args.metas.now c.args.values.now _ k t _ _ n c.smaller-places.ensures _ _ _ _ _ _ c.build-at.ensures c.build-at.auto.row_tile_ptr c.build-at.auto.masks c.build-at.auto.value_offsets c.build-at.auto.metas c.build-at.auto.values (omega (arith, c.if-room-at.false)) (omega (arith, c.if-places-at.false)) _ _ _ _ _ _ c.narrow.ensures c.clear_past-2.ensures.pointers c.clear_past-2.ensures.bits c.clear_past-2.ensures.offsets c.clear_past-2.ensures.metas c.clear_past-2.ensures.values in record { answer = rest.0; pointers = rest.1.0; bits = rest.1.1.0; offsets = rest.1.1.1.0; metas = rest.1.1.1.1.0; values = rest.1.1.1.1.1 }
+    let n = c.min-room.ensures ∙ ap₂ min c.min.ensures c.min-2.ensures in let rest = from-built _ _ c.args.row_tile_ptr.now c.args.masks.now c.args.value_offsets.now c.args.metas.now c.args.values.now _ k t _ _ n c.min-places.ensures _ _ _ _ _ _ c.build-at.ensures c.build-at.auto.row_tile_ptr c.build-at.auto.masks c.build-at.auto.value_offsets c.build-at.auto.metas c.build-at.auto.values (omega (arith, c.if-room-at.false)) (omega (arith, c.if-places-at.false)) _ _ _ _ _ _ c.narrow.ensures c.clear_past-2.ensures.pointers c.clear_past-2.ensures.bits c.clear_past-2.ensures.offsets c.clear_past-2.ensures.metas c.clear_past-2.ensures.values in record { answer = rest.0; pointers = rest.1.0; bits = rest.1.1.0; offsets = rest.1.1.1.0; metas = rest.1.1.1.1.0; values = rest.1.1.1.1.1 }

@@ -15,18 +15,18 @@ add_at-requires c = record { fact_1 = omega arith; fact_2 = sized_as _ _ _ _ _ _
 
 pub loop-k-preserved-then-i-width : goal.loop-k-preserved-then-i-width
 loop-k-preserved-then-i-width c = let z = sym (flag_off _ _ c.is_zero.ensures (ap not c.if-not-is_zero.true)) in
-    let g = gathered_in _ _ _ _ _ _ _ c.loop-k.invariant.7 _ _ (omega arith) c.requires.fact_1 c.wide-c.ensures refl z (omega arith) (omega arith) in
+    let g = gathered_in _ _ _ _ _ _ _ c.loop-k.invariant.7 _ _ (omega arith) c.requires.fact_1 refl refl z (omega arith) (omega arith) in
     (c.loop-k.invariant.0, c.add_at.auto.sums ∙ c.loop-k.invariant.1, c.add_at.auto.words ∙ c.loop-k.invariant.2, c.add_at.auto.blocks ∙ c.loop-k.invariant.3, c.loop-k.invariant.4, c.add_at.ensures.words, c.add_at.ensures.blocks, gathered_as _ _ _ _ _ _ _ _ c.add_at.ensures.sums g)
 
 pub loop-k-preserved-else-i-width : goal.loop-k-preserved-else-i-width
-loop-k-preserved-else-i-width c = (c.loop-k.invariant.0, c.loop-k.invariant.1, c.loop-k.invariant.2, c.loop-k.invariant.3, omega arith, c.loop-k.invariant.5, c.loop-k.invariant.6, gathered-at _ _ _ _ _ _ _ _ c.smaller-next.ensures (gathered-past _ _ _ _ _ _ _ c.loop-k.invariant.7 _ _ (omega arith) c.requires.fact_1 c.wide-c.ensures refl (omega arith) (omega arith)))
+loop-k-preserved-else-i-width c = (c.loop-k.invariant.0, c.loop-k.invariant.1, c.loop-k.invariant.2, c.loop-k.invariant.3, omega arith, c.loop-k.invariant.5, c.loop-k.invariant.6, gathered-at _ _ _ _ _ _ _ _ c.min-next.ensures (gathered-past _ _ _ _ _ _ _ c.loop-k.invariant.7 _ _ (omega arith) c.requires.fact_1 refl refl (omega arith) (omega arith)))
 
 pub loop-k-preserved-else-base-c : goal.loop-k-preserved-else-base-c
-loop-k-preserved-else-base-c c = (c.loop-k.invariant.0, c.loop-k.invariant.1, c.loop-k.invariant.2, c.loop-k.invariant.3, c.loop-k.invariant.4, c.loop-k.invariant.5, c.loop-k.invariant.6, gathered_before _ _ _ _ _ _ _ c.loop-k.invariant.7 _ _ (omega arith) c.requires.fact_1 c.wide-c.ensures refl (omega arith))
+loop-k-preserved-else-base-c c = (c.loop-k.invariant.0, c.loop-k.invariant.1, c.loop-k.invariant.2, c.loop-k.invariant.3, c.loop-k.invariant.4, c.loop-k.invariant.5, c.loop-k.invariant.6, gathered_before _ _ _ _ _ _ _ c.loop-k.invariant.7 _ _ (omega arith) c.requires.fact_1 refl refl (omega arith))
 
 pub loop-k-preserved : goal.loop-k-preserved
 loop-k-preserved c = let z = sym (flag_on _ _ c.is_zero.ensures (ap not c.if-not-is_zero.false)) in
-    (c.loop-k.invariant.0, c.loop-k.invariant.1, c.loop-k.invariant.2, c.loop-k.invariant.3, c.loop-k.invariant.4, c.loop-k.invariant.5, c.loop-k.invariant.6, gathered-zero _ _ _ _ _ _ _ c.loop-k.invariant.7 _ _ (omega arith) c.requires.fact_1 c.wide-c.ensures refl z)
+    (c.loop-k.invariant.0, c.loop-k.invariant.1, c.loop-k.invariant.2, c.loop-k.invariant.3, c.loop-k.invariant.4, c.loop-k.invariant.5, c.loop-k.invariant.6, gathered-zero _ _ _ _ _ _ _ c.loop-k.invariant.7 _ _ (omega arith) c.requires.fact_1 refl refl z)
 
 pub returns : goal.returns
 returns c = record { sums = gathered_done _ _ _ _ _ _ _ c.loop-k.invariant.7 (omega arith) c.requires.fact_1; words = c.loop-k.invariant.5; blocks = c.loop-k.invariant.6; next = (c.loop-k.invariant.4, gathered_next _ _ _ _ _ _ _ c.loop-k.invariant.7 (omega arith) c.requires.fact_1) }

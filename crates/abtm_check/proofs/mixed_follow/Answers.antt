@@ -1,4 +1,5 @@
 -- `abtm_check::mixed_follow` meets its contract. Assumes nothing.
+use mathlib.Core.Path.{refl}
 use Rattle.std.proofs.Common.{◌-◌, rules}
 use Rattle.topology.proofs.ScanLaws.{bits_none}
 use Rattle.abtm_check.proofs.RunLaws.{kind_holds}
@@ -13,7 +14,7 @@ loop-i-init c = (scanning_none kind_holds _ _ _ _ c.requires.0 c.requires.1 c.if
 
 pub loop-i-preserved : goal.loop-i-preserved
 loop-i-preserved c = let h = c.loop-i-test.true in
-    (scanning_more kind_holds _ _ _ _ _ _ c.loop-i.invariant.0 h _ _ c.wide.ensures c.also_tile-holds.ensures, more_set _ _ _ _ _ c.loop-i.invariant.0.offsets.after h c.loop-i.invariant.1 c.popcount.ensures c.wrapping_add_usize-bits.ensures.value)
+    (scanning_more kind_holds _ _ _ _ _ _ c.loop-i.invariant.0 h _ _ refl c.also_tile-holds.ensures, more_set _ _ _ _ _ c.loop-i.invariant.0.offsets.after h c.loop-i.invariant.1 c.popcount.ensures c.wrapping_add_usize-bits.ensures.value)
 
 pub returns : goal.returns
 returns c = (scanning_done kind_holds _ _ _ _ _ _ c.loop-i.invariant.0 (search rules) _ c.also_tile.ensures, all_set _ _ _ _ _ c.loop-i.invariant.0.offsets.after c.loop-i.invariant.0.offsets.inside (search rules) c.loop-i.invariant.1 c.popcount-2.ensures c.wrapping_add_usize.ensures.value)

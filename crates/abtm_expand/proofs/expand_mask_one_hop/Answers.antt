@@ -7,10 +7,10 @@ use Rattle.abtm_expand.proofs.ExpandLaws.{expand_facts, expand_used}
 use Rattle.abtm_expand.proofs.CallLaws.{front_long, mask-built}
 use Rattle.abtm_expand.proofs.expand_mask_one_hop.Goals as goal
 
-pub returns-in-Refused : goal.returns-in-Refused
-returns-in-Refused c = let e = c.examine_expand-v.ensures in
-    let r = c.in-Refused.is in
-    record { answer = answer_refused _ _ _ e r; mask = built_refused _ _ _ _ _ _ _ e r c.clear_from_u64.ensures }
+pub returns-in-Err : goal.returns-in-Err
+returns-in-Err c = let e = c.examine_expand-v.ensures in
+    let r = c.in-Err.is in
+    record { answer = answer_refused _ _ _ e r; mask = built_refused _ _ _ _ _ _ _ e r c.clear_from.ensures }
 
 pub slice_bounds-fill_mask-end : goal.slice_bounds-fill_mask-end
 slice_bounds-fill_mask-end c = let e = c.examine_expand-v.ensures in
@@ -35,4 +35,4 @@ pub returns : goal.returns
 returns c = let e = c.examine_expand-v.ensures in
     let r = c.in_default.is in
     let f = expand_facts _ _ _ _ (accepted_by _ _ e r) in
-    record { answer = answer_accepted _ _ e r; mask = built_accepted _ _ _ _ _ _ e r (mask-built _ _ _ _ _ _ f.mask.counted c.fill_mask.ensures (omega (arith, f.room_in, f.mask.counted)) c.clear_from_u64-2.ensures) }
+    record { answer = answer_accepted _ _ e r; mask = built_accepted _ _ _ _ _ _ e r (mask-built _ _ _ _ _ _ f.mask.counted c.fill_mask.ensures (omega (arith, f.room_in, f.mask.counted)) c.clear_from-2.ensures) }

@@ -21,8 +21,8 @@ offset_bounds-row_tile_ptr-row c = omega (arith, rows_few _ _ _ _ c.requires.fac
 pub bounds-row_tile_ptr-row : goal.bounds-row_tile_ptr-row
 bounds-row_tile_ptr-row c = omega (arith, (row_places _ (expand_facts _ _ _ _ c.requires.fact_1).tiles c.loop-next.next _ _ (omega arith) refl refl).here)
 
-pub overflow_add-row : goal.overflow_add-row
-overflow_add-row c = omega (arith, rows_few _ _ _ _ c.requires.fact_1)
+pub overflow_add-end : goal.overflow_add-end
+overflow_add-end c = omega (arith, rows_few _ _ _ _ c.requires.fact_1)
 
 pub offset_bounds-row_tile_ptr-row-then-is_member : goal.offset_bounds-row_tile_ptr-row-then-is_member
 offset_bounds-row_tile_ptr-row-then-is_member c = omega (arith, rows_few _ _ _ _ c.requires.fact_1)
@@ -31,45 +31,45 @@ pub bounds-row_tile_ptr-row-then-is_member : goal.bounds-row_tile_ptr-row-then-i
 bounds-row_tile_ptr-row-then-is_member c = omega (arith, (row_places _ (expand_facts _ _ _ _ c.requires.fact_1).tiles c.loop-next.next _ _ (omega arith) refl refl).next)
 
 pub offset_bounds-masks-start : goal.offset_bounds-masks-start
-offset_bounds-masks-start c = let p = row_places _ (expand_facts _ _ _ _ c.requires.fact_1).tiles c.loop-next.next _ _ (omega arith) c.wide-start.ensures c.wide-end.ensures in
+offset_bounds-masks-start c = let p = row_places _ (expand_facts _ _ _ _ c.requires.fact_1).tiles c.loop-next.next _ _ (omega arith) refl refl in
     omega (arith, p.order, p.in_masks)
 
 pub slice_bounds-join_tiles-count : goal.slice_bounds-join_tiles-count
-slice_bounds-join_tiles-count c = let p = row_places _ (expand_facts _ _ _ _ c.requires.fact_1).tiles c.loop-next.next _ _ (omega arith) c.wide-start.ensures c.wide-end.ensures in
+slice_bounds-join_tiles-count c = let p = row_places _ (expand_facts _ _ _ _ c.requires.fact_1).tiles c.loop-next.next _ _ (omega arith) refl refl in
     omega (arith, p.order, p.in_masks)
 
 pub slice_bounds-join_tiles-start : goal.slice_bounds-join_tiles-start
-slice_bounds-join_tiles-start c = let p = row_places _ (expand_facts _ _ _ _ c.requires.fact_1).tiles c.loop-next.next _ _ (omega arith) c.wide-start.ensures c.wide-end.ensures in
+slice_bounds-join_tiles-start c = let p = row_places _ (expand_facts _ _ _ _ c.requires.fact_1).tiles c.loop-next.next _ _ (omega arith) refl refl in
     omega (arith, p.order, p.in_masks)
 
 pub slice_bounds-join_tiles-end : goal.slice_bounds-join_tiles-end
-slice_bounds-join_tiles-end c = let p = row_places _ (expand_facts _ _ _ _ c.requires.fact_1).tiles c.loop-next.next _ _ (omega arith) c.wide-start.ensures c.wide-end.ensures in
+slice_bounds-join_tiles-end c = let p = row_places _ (expand_facts _ _ _ _ c.requires.fact_1).tiles c.loop-next.next _ _ (omega arith) refl refl in
     omega (arith, p.order, p.in_masks)
 
 pub offset_bounds-metas-start : goal.offset_bounds-metas-start
-offset_bounds-metas-start c = let p = row_places _ (expand_facts _ _ _ _ c.requires.fact_1).tiles c.loop-next.next _ _ (omega arith) c.wide-start.ensures c.wide-end.ensures in
+offset_bounds-metas-start c = let p = row_places _ (expand_facts _ _ _ _ c.requires.fact_1).tiles c.loop-next.next _ _ (omega arith) refl refl in
     omega (arith, p.order, p.in_metas)
 
 pub slice_bounds-join_tiles-count-then-is_member : goal.slice_bounds-join_tiles-count-then-is_member
-slice_bounds-join_tiles-count-then-is_member c = let p = row_places _ (expand_facts _ _ _ _ c.requires.fact_1).tiles c.loop-next.next _ _ (omega arith) c.wide-start.ensures c.wide-end.ensures in
+slice_bounds-join_tiles-count-then-is_member c = let p = row_places _ (expand_facts _ _ _ _ c.requires.fact_1).tiles c.loop-next.next _ _ (omega arith) refl refl in
     omega (arith, p.order, p.in_metas)
 
 pub slice_bounds-join_tiles-start-then-is_member : goal.slice_bounds-join_tiles-start-then-is_member
-slice_bounds-join_tiles-start-then-is_member c = let p = row_places _ (expand_facts _ _ _ _ c.requires.fact_1).tiles c.loop-next.next _ _ (omega arith) c.wide-start.ensures c.wide-end.ensures in
+slice_bounds-join_tiles-start-then-is_member c = let p = row_places _ (expand_facts _ _ _ _ c.requires.fact_1).tiles c.loop-next.next _ _ (omega arith) refl refl in
     omega (arith, p.order, p.in_metas)
 
 pub slice_bounds-join_tiles-end-then-is_member : goal.slice_bounds-join_tiles-end-then-is_member
-slice_bounds-join_tiles-end-then-is_member c = let p = row_places _ (expand_facts _ _ _ _ c.requires.fact_1).tiles c.loop-next.next _ _ (omega arith) c.wide-start.ensures c.wide-end.ensures in
+slice_bounds-join_tiles-end-then-is_member c = let p = row_places _ (expand_facts _ _ _ _ c.requires.fact_1).tiles c.loop-next.next _ _ (omega arith) refl refl in
     omega (arith, p.order, p.in_metas)
 
 pub join_tiles-requires : goal.join_tiles-requires
-join_tiles-requires c = record { fact_1 = lent_metas _ (expand_facts _ _ _ _ c.requires.fact_1).tiles c.loop-next.next _ _ (omega arith) c.wide-start.ensures c.wide-end.ensures; fact_2 = lent_words _ _ _ _ c.requires.fact_1 c.loop-next.next _ _ (omega arith) c.wide-start.ensures c.wide-end.ensures _ c.loop-next.invariant (λ k. (c.shared_slice_known-2-1.given k).fits) }
+join_tiles-requires c = record { fact_1 = lent_metas _ (expand_facts _ _ _ _ c.requires.fact_1).tiles c.loop-next.next _ _ (omega arith) refl refl; fact_2 = lent_words _ _ _ _ c.requires.fact_1 c.loop-next.next _ _ (omega arith) refl refl _ c.loop-next.invariant (λ k. (c.shared_slice_known-2-1.given k).fits) }
 
 pub loop-next-smaller-then-is_member : goal.loop-next-smaller-then-is_member
 loop-next-smaller-then-is_member c = omega arith
 
 pub loop-next-preserved-then-is_member : goal.loop-next-preserved-then-is_member
-loop-next-preserved-then-is_member c = expanding_member _ _ _ _ c.requires.fact_1 c.loop-next.next _ _ (omega arith) c.wide-start.ensures c.wide-end.ensures _ c.loop-next.invariant _ (sym c.if-is_member.true ∙ c.is_member.ensures) c.join_tiles.ensures
+loop-next-preserved-then-is_member c = expanding_member _ _ _ _ c.requires.fact_1 c.loop-next.next _ _ (omega arith) refl refl _ c.loop-next.invariant _ (sym c.if-is_member.true ∙ c.is_member.ensures) c.join_tiles.ensures
 
 pub loop-next-smaller : goal.loop-next-smaller
 loop-next-smaller c = omega arith

@@ -12,8 +12,8 @@ returns-then-row_ptr-nrows-2 c = framed-not _ _ _ (λ f. omega (arith, f.long))
 pub returns-then-row_ptr-ne0 : goal.returns-then-row_ptr-ne0
 returns-then-row_ptr-ne0 c = framed-not _ _ _ (λ f. omega (arith, f.zeroth))
 
-pub returns-then-wide-places : goal.returns-then-wide-places
-returns-then-wide-places c = framed-not _ _ _ (λ f. omega (arith, f.last))
+pub returns-then-row_ptr-nrows-3 : goal.returns-then-row_ptr-nrows-3
+returns-then-row_ptr-nrows-3 c = framed-not _ _ _ (λ f. omega (arith, f.last))
 
 pub returns : goal.returns
 returns c = framed-rest _ _ _ _ (omega arith) (omega arith) (omega arith) c.no_fall.ensures

@@ -7,18 +7,18 @@ use Rattle.hybit_core.proofs.BoolLaws.{tests}
 use Rattle.csr32.specs.Csr.{apply_answer}
 use Rattle.csr32_apply.proofs.examine_apply.Goals as goal
 
-pub returns-in-Refused : goal.returns-in-Refused
+pub returns-in_err-check : goal.returns-in_err-check
 unfolding apply_answer
-returns-in-Refused c = search (checks, tests, rules)
+returns-in_err-check c = search (checks, tests, rules)
 
 pub returns-then-x-ncols : goal.returns-then-x-ncols
 unfolding apply_answer
-returns-then-x-ncols c = call_accepted _ _ _ _ c.check-v.ensures c.in_default.is (length_wrong c.args.ncols (length c.args.x.now) _ (λ h. omega arith))
+returns-then-x-ncols c = call_accepted _ _ _ _ c.check.ensures c.in_ok-check.was (length_wrong c.args.ncols (length c.args.x.now) _ (λ h. omega arith))
 
 pub returns-then-ny-nrows : goal.returns-then-ny-nrows
 unfolding apply_answer
-returns-then-ny-nrows c = call_accepted _ _ _ _ c.check-v.ensures c.in_default.is (length_right c.args.ncols (length c.args.x.now) _ _ (omega arith) (last_length_wrong c.args.nrows c.args.ny (λ h. omega arith)))
+returns-then-ny-nrows c = call_accepted _ _ _ _ c.check.ensures c.in_ok-check.was (length_right c.args.ncols (length c.args.x.now) _ _ (omega arith) (last_length_wrong c.args.nrows c.args.ny (λ h. omega arith)))
 
 pub returns : goal.returns
 unfolding apply_answer
-returns c = call_accepted _ _ _ _ c.check-v.ensures c.in_default.is (length_right c.args.ncols (length c.args.x.now) _ _ (omega arith) (last_length_right c.args.nrows c.args.ny (omega arith)))
+returns c = call_accepted _ _ _ _ c.check.ensures c.in_ok-check.was (length_right c.args.ncols (length c.args.x.now) _ _ (omega arith) (last_length_right c.args.nrows c.args.ny (omega arith)))

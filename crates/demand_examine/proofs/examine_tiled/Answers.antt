@@ -1,15 +1,16 @@
 -- `demand_examine::examine_tiled` meets its contract. Assumes nothing.
-use Rattle.hybit_core.proofs.AnswerLaws.{call_refused, call_accepted, accepted_by}
+use Rattle.std.proofs.Common.{rules}
+use Rattle.hybit_core.proofs.AnswerLaws.{told_refused, call_refused, call_accepted, accepted_by}
 use Rattle.demand_examine.proofs.examine_tiled.Goals as goal
 
-pub returns-in-Refused : goal.returns-in-Refused
-returns-in-Refused c = call_refused _ _ _ _ c.examine_records-v.ensures c.in-Refused.is
+pub returns-in_err-examine_records : goal.returns-in_err-examine_records
+returns-in_err-examine_records c = told_refused _ _ _ (search rules) (call_refused _ _ _ _ c.examine_records.ensures c.in_err-examine_records.was)
 
-pub returns-in-Refused-t : goal.returns-in-Refused-t
-returns-in-Refused-t c = call_accepted _ _ _ _ c.examine_records-v.ensures c.in_default.is (call_refused _ _ _ _ c.validate-t.ensures c.in-Refused-t.is)
+pub returns-in_err-validate : goal.returns-in_err-validate
+returns-in_err-validate c = told_refused _ _ _ (search rules) (call_accepted _ _ _ _ c.examine_records.ensures c.in_ok-examine_records.was (call_refused _ _ _ _ c.validate.ensures c.in_err-validate.was))
 
 pub examine_question-requires : goal.examine_question-requires
-examine_question-requires c = accepted_by _ _ c.examine_records-v.ensures c.in_default.is
+examine_question-requires c = accepted_by _ _ c.examine_records.ensures c.in_ok-examine_records.was
 
 pub returns : goal.returns
-returns c = call_accepted _ _ _ _ c.examine_records-v.ensures c.in_default.is (call_accepted _ _ _ _ c.validate-t.ensures c.in_default-t.is c.examine_question.ensures)
+returns c = call_accepted _ _ _ _ c.examine_records.ensures c.in_ok-examine_records.was (call_accepted _ _ _ _ c.validate.ensures c.in_ok-validate.was c.examine_question.ensures)

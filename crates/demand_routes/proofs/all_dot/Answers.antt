@@ -25,10 +25,10 @@ pub shape_of-packed-then-all-words : goal.shape_of-packed-then-all-words
 shape_of-packed-then-all-words c = c.clear_store.auto.packed
 
 pub shape_of-all-then-all-words : goal.shape_of-all-then-all-words
-shape_of-all-then-all-words c = c.clear_from_u64.auto.s
+shape_of-all-then-all-words c = c.clear_from.auto.s
 
 pub returns-then-all-words : goal.returns-then-all-words
-returns-then-all-words c = let rest = all_none _ _ _ _ _ _ _ _ _ _ _ c.if-all-words.true c.clear_from_u64.ensures c.clear_store.ensures.pointers c.clear_store.ensures.numbers c.clear_store.ensures.bits c.clear_store.ensures.starts c.clear_store.ensures.values in record { answer = rest.0; all = rest.1.0; store = rest.1.1 }
+returns-then-all-words c = let rest = all_none _ _ _ _ _ _ _ _ _ _ _ c.if-all-words.true c.clear_from.ensures c.clear_store.ensures.pointers c.clear_store.ensures.numbers c.clear_store.ensures.bits c.clear_store.ensures.starts c.clear_store.ensures.values in record { answer = rest.0; all = rest.1.0; store = rest.1.1 }
 
 pub slice_bounds-fill_active-end : goal.slice_bounds-fill_active-end
 slice_bounds-fill_active-end c = omega arith
@@ -40,10 +40,10 @@ pub fill_active-requires : goal.fill_active-requires
 fill_active-requires c = record { fact_1 = c.requires; fact_2 = simp length-take (omega arith) }
 
 pub slice_bounds-pack_dot-end : goal.slice_bounds-pack_dot-end
-slice_bounds-pack_dot-end c = let l = front_long _ c.fill_active.new.words c.args.all.now c.fill_active.auto.words c.if-all-words.false in omega (arith, c.clear_from_u64-2.auto.s, c.if-all-words.false)
+slice_bounds-pack_dot-end c = let l = front_long _ c.fill_active.new.words c.args.all.now c.fill_active.auto.words c.if-all-words.false in omega (arith, c.clear_from-2.auto.s, c.if-all-words.false)
 
 pub slice_bounds-pack_dot-end-2 : goal.slice_bounds-pack_dot-end-2
-slice_bounds-pack_dot-end-2 c = let l = front_long _ c.fill_active.new.words c.args.all.now c.fill_active.auto.words c.if-all-words.false in simp length-take (omega (arith, c.clear_from_u64-2.auto.s, c.if-all-words.false))
+slice_bounds-pack_dot-end-2 c = let l = front_long _ c.fill_active.new.words c.args.all.now c.fill_active.auto.words c.if-all-words.false in simp length-take (omega (arith, c.clear_from-2.auto.s, c.if-all-words.false))
 
 pub shape_of-row_word_ptr : goal.shape_of-row_word_ptr
 shape_of-row_word_ptr c = c.pack_dot.auto.row_word_ptr
@@ -61,7 +61,7 @@ pub shape_of-packed : goal.shape_of-packed
 shape_of-packed c = c.pack_dot.auto.packed
 
 pub shape_of-all : goal.shape_of-all
-shape_of-all c = c.clear_from_u64-2.auto.s ∙ front_long _ c.fill_active.new.words c.args.all.now c.fill_active.auto.words c.if-all-words.false
+shape_of-all c = c.clear_from-2.auto.s ∙ front_long _ c.fill_active.new.words c.args.all.now c.fill_active.auto.words c.if-all-words.false
 
 pub returns : goal.returns
-returns c = let rest = all-some _ _ _ _ _ _ _ _ _ _ _ _ _ c.if-all-words.false refl (all_filled _ _ c.fill_active.new.words c.args.all.now _ c.fill_active.ensures refl c.if-all-words.false c.clear_from_u64-2.ensures) c.pack_dot.ensures.answer c.pack_dot.ensures.store in record { answer = rest.0; all = rest.1.0; store = rest.1.1 }
+returns c = let rest = all-some _ _ _ _ _ _ _ _ _ _ _ _ _ c.if-all-words.false refl (all_filled _ _ c.fill_active.new.words c.args.all.now _ c.fill_active.ensures refl c.if-all-words.false c.clear_from-2.ensures) c.pack_dot.ensures.answer c.pack_dot.ensures.store in record { answer = rest.0; all = rest.1.0; store = rest.1.1 }

@@ -2,13 +2,13 @@
 use Rattle.demand_routes.proofs.clear_restricted.Goals as goal
 
 pub shape_of-out_row_ptr : goal.shape_of-out_row_ptr
-shape_of-out_row_ptr c = c.clear_from_u32.auto.s
+shape_of-out_row_ptr c = c.clear_from.auto.s
 
 pub shape_of-out_col_idx : goal.shape_of-out_col_idx
-shape_of-out_col_idx c = c.clear_from_u32-2.auto.s
+shape_of-out_col_idx c = c.clear_from-2.auto.s
 
 pub shape_of-out_values : goal.shape_of-out_values
-shape_of-out_values c = c.clear_from_f64.auto.s
+shape_of-out_values c = c.clear_from-3.auto.s
 
 pub shape_of-row_word_ptr : goal.shape_of-row_word_ptr
 shape_of-row_word_ptr c = c.clear_store.auto.row_word_ptr
@@ -26,7 +26,7 @@ pub shape_of-packed : goal.shape_of-packed
 shape_of-packed c = c.clear_store.auto.packed
 
 pub shape_of-all : goal.shape_of-all
-shape_of-all c = c.clear_from_u64.auto.s
+shape_of-all c = c.clear_from-4.auto.s
 
 pub returns : goal.returns
-returns c = record { list = (c.clear_from_u32.ensures, c.clear_from_u32-2.ensures, c.clear_from_f64.ensures); pointers = c.clear_store.ensures.pointers; numbers = c.clear_store.ensures.numbers; bits = c.clear_store.ensures.bits; starts = c.clear_store.ensures.starts; values = c.clear_store.ensures.values; all = c.clear_from_u64.ensures }
+returns c = record { list = (c.clear_from.ensures, c.clear_from-2.ensures, c.clear_from-3.ensures); pointers = c.clear_store.ensures.pointers; numbers = c.clear_store.ensures.numbers; bits = c.clear_store.ensures.bits; starts = c.clear_store.ensures.starts; values = c.clear_store.ensures.values; all = c.clear_from-4.ensures }

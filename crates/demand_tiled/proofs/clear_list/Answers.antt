@@ -2,4 +2,4 @@
 use Rattle.demand_tiled.proofs.clear_list.Goals as goal
 
 pub returns : goal.returns
-returns c = record { pointers = c.clear_from_u32.ensures; columns = c.clear_from_u32-2.ensures; values = c.clear_from_f64.ensures; product = c.clear_from_f64-2.ensures }
+returns c = record { pointers = c.clear_from.ensures; columns = c.clear_from-2.ensures; values = c.clear_from-3.ensures; product = c.clear_from-4.ensures }

@@ -7,13 +7,13 @@ use Rattle.denimrasp_answers.specs.Answers.{part_of}
 use Rattle.denimrasp.proofs.CallLaws.{refuses_by, gives_by}
 use Rattle.denimrasp.proofs.denimrasp_topology_row_words.Goals as goal
 
-pub returns-in-Refused : goal.returns-in-Refused
+pub returns-in-Err : goal.returns-in-Err
 unfolding row_answer
-returns-in-Refused c = c.part_refused.ensures ∙ ap part_of (refuses_by _ _ _ (call_refused _ _ _ _ c.check-v.ensures c.in-Refused.is))
+returns-in-Err c = c.into.ensures ∙ ap part_of (refuses_by _ _ _ (call_refused _ _ _ _ c.check-v.ensures c.in-Err.is))
 
 pub returns-then-row-nrows : goal.returns-then-row-nrows
 unfolding row_answer
-returns-then-row-nrows c = c.part_refused-then-row-nrows.ensures ∙ ap part_of (refuses_by _ _ _ (call_accepted _ _ _ _ c.check-v.ensures c.in_default.is (last_fails _ _ (is_not_below _ _ c.if-row-nrows.true))))
+returns-then-row-nrows c = c.into-then-row-nrows.ensures ∙ ap part_of (refuses_by _ _ _ (call_accepted _ _ _ _ c.check-v.ensures c.in_default.is (last_fails _ _ (is_not_below _ _ c.if-row-nrows.true))))
 
 pub returns : goal.returns
 unfolding row_answer

@@ -46,19 +46,19 @@ pub bounds-col_idx-p : goal.bounds-col_idx-p
 bounds-col_idx-p c = row_here c.loop-p.invariant.row c.loop-p.p (sums_left _ _ _ _ _ _ _ _ _ c.loop-p.invariant c.if-p-end.false)
 
 pub overflow_mul-col : goal.overflow_mul-col
-overflow_mul-col c = let q = tail_block c.loop-p.invariant.row c.loop-p.invariant.ends c.loop-p.p _ c.wide-col.ensures c.loop-p.invariant.within c.loop-p-test.false c.if-p-end.false in
+overflow_mul-col c = let q = tail_block c.loop-p.invariant.row c.loop-p.invariant.ends c.loop-p.p _ refl c.loop-p.invariant.within c.loop-p-test.false c.if-p-end.false in
     q.column_fits
 
 pub overflow_sub-ncols : goal.overflow_sub-ncols
-overflow_sub-ncols c = let q = tail_block c.loop-p.invariant.row c.loop-p.invariant.ends c.loop-p.p _ c.wide-col.ensures c.loop-p.invariant.within c.loop-p-test.false c.if-p-end.false in
+overflow_sub-ncols c = let q = tail_block c.loop-p.invariant.row c.loop-p.invariant.ends c.loop-p.p _ refl c.loop-p.invariant.within c.loop-p-test.false c.if-p-end.false in
     q.inside
 
 pub overflow_mul-p : goal.overflow_mul-p
-overflow_mul-p c = let q = tail_block c.loop-p.invariant.row c.loop-p.invariant.ends c.loop-p.p _ c.wide-col.ensures c.loop-p.invariant.within c.loop-p-test.false c.if-p-end.false in
+overflow_mul-p c = let q = tail_block c.loop-p.invariant.row c.loop-p.invariant.ends c.loop-p.p _ refl c.loop-p.invariant.within c.loop-p-test.false c.if-p-end.false in
     q.value_fits _ (mul_comm 9 c.loop-p.p)
 
 pub add_tail3-requires : goal.add_tail3-requires
-add_tail3-requires c = let q = tail_block c.loop-p.invariant.row c.loop-p.invariant.ends c.loop-p.p _ c.wide-col.ensures c.loop-p.invariant.within c.loop-p-test.false c.if-p-end.false in let rest = q.asked _ _ (mul_comm 9 c.loop-p.p) refl in record { fact_1 = rest.0; fact_2 = rest.1.0; fact_3 = rest.1.1 }
+add_tail3-requires c = let q = tail_block c.loop-p.invariant.row c.loop-p.invariant.ends c.loop-p.p _ refl c.loop-p.invariant.within c.loop-p-test.false c.if-p-end.false in let rest = q.asked _ _ (mul_comm 9 c.loop-p.p) refl in record { fact_1 = rest.0; fact_2 = rest.1.0; fact_3 = rest.1.1 }
 
 pub returns : goal.returns
-returns c = sums_tail _ _ _ _ _ _ _ _ _ c.loop-p.invariant (9 * c.loop-p.p) _ (mul_comm 9 c.loop-p.p) (ap (λ (k : ℕ). 3 * k) c.wide-col.ensures) _ c.loop-p-test.false c.if-p-end.false _ refl c.add_tail3.ensures
+returns c = sums_tail _ _ _ _ _ _ _ _ _ c.loop-p.invariant (9 * c.loop-p.p) _ (mul_comm 9 c.loop-p.p) (ap (λ (k : ℕ). 3 * k) refl) _ c.loop-p-test.false c.if-p-end.false _ refl c.add_tail3.ensures

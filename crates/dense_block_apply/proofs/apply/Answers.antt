@@ -1,16 +1,12 @@
 -- `dense_block_apply::apply` meets its contract. Assumes nothing.
-use borrow.Author.Rules.{rules}
-use Rattle.hybit_core.proofs.AnswerLaws.{outcomes, accepted_by, answer_accepted}
-use Rattle.lent.proofs.LentLaws.{kept_refused, kept_accepted}
+use Rattle.hybit_core.proofs.AnswerLaws.{accepted_by, answer_accepted}
+use Rattle.lent.proofs.LentLaws.{kept_accepted}
 use Rattle.dense_block_apply.proofs.apply.Goals as goal
 
-pub returns-in-Refused : goal.returns-in-Refused
-returns-in-Refused c = search (outcomes, kept_refused, rules)
-
 pub fill_product-requires : goal.fill_product-requires
-fill_product-requires c = accepted_by _ _ c.examine_apply-v.ensures c.in_default.is
+fill_product-requires c = accepted_by _ _ c.examine_apply.ensures c.in_ok-examine_apply.was
 
 pub returns : goal.returns
-returns c = let e = c.examine_apply-v.ensures in
-    let t = c.in_default.is in
+returns c = let e = c.examine_apply.ensures in
+    let t = c.in_ok-examine_apply.was in
     record { answer = answer_accepted _ _ e t; product = kept_accepted _ _ _ _ _ e t c.fill_product.ensures }

@@ -21,23 +21,23 @@ pub overflow_sub-full : goal.overflow_sub-full
 overflow_sub-full c = omega arith
 
 pub two_rows3-sums-requires : goal.two_rows3-sums-requires
-two_rows3-sums-requires c = let a = apart three c.args.nrows c.loop-row.row _ c.loop-row-test.true c.smaller-other.ensures in
+two_rows3-sums-requires c = let a = apart three c.args.nrows c.loop-row.row _ c.loop-row-test.true c.min-other.ensures in
     record { fact_1 = answer_rows _ _ _ c.requires; fact_2 = (a.first, a.second) }
 
 pub overflow_mul-row : goal.overflow_mul-row
-overflow_mul-row c = let a = apart three c.args.nrows c.loop-row.row _ c.loop-row-test.true c.smaller-other.ensures in
+overflow_mul-row c = let a = apart three c.args.nrows c.loop-row.row _ c.loop-row-test.true c.min-other.ensures in
     fits_within a.early c.ranges.nrows
 
 pub write3-requires : goal.write3-requires
-write3-requires c = let a = apart three c.args.nrows c.loop-row.row _ c.loop-row-test.true c.smaller-other.ensures in
+write3-requires c = let a = apart three c.args.nrows c.loop-row.row _ c.loop-row-test.true c.min-other.ensures in
     record { fact_1 = room _ _ three _ _ c.loop-row.invariant.1 _ a.first; fact_2 = le_trans a.early (rows_few _ _ _ c.requires) }
 
 pub overflow_mul-other : goal.overflow_mul-other
-overflow_mul-other c = let a = apart three c.args.nrows c.loop-row.row _ c.loop-row-test.true c.smaller-other.ensures in
+overflow_mul-other c = let a = apart three c.args.nrows c.loop-row.row _ c.loop-row-test.true c.min-other.ensures in
     fits_within a.late c.ranges.nrows
 
 pub write3-requires-in-loop-row : goal.write3-requires-in-loop-row
-write3-requires-in-loop-row c = let a = apart three c.args.nrows c.loop-row.row _ c.loop-row-test.true c.smaller-other.ensures in
+write3-requires-in-loop-row c = let a = apart three c.args.nrows c.loop-row.row _ c.loop-row-test.true c.min-other.ensures in
     let one = wrote3 _ _ c.loop-row.row c.loop-row.y _ _ c.two_rows3-sums.ensures.0 c.write3.ensures in
     record { fact_1 = room_still _ _ three _ _ c.loop-row.invariant.1 _ _ _ one _ a.second; fact_2 = le_trans a.late (rows_few _ _ _ c.requires) }
 
@@ -46,7 +46,7 @@ overflow_add-row-in-loop-row c = omega arith
 
 pub loop-row-preserved : goal.loop-row-preserved
 loop-row-preserved c = let t = c.loop-row-test.true in
-    let a = apart three c.args.nrows c.loop-row.row _ t c.smaller-other.ensures in
+    let a = apart three c.args.nrows c.loop-row.row _ t c.min-other.ensures in
     let one = wrote3 _ _ c.loop-row.row _ _ _ c.two_rows3-sums.ensures.0 c.write3.ensures in
     let two = wrote3 _ _ _ _ _ _ c.two_rows3-sums.ensures.1 c.write3-in-loop-row.ensures in
     (rw add-one t, written_more _ _ three _ _ c.loop-row.invariant.1 _ _ _ a one two)

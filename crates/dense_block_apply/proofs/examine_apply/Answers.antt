@@ -7,18 +7,18 @@ use Rattle.hybit_core.proofs.BoolLaws.{tests}
 use Rattle.dense_block_apply.specs.Product.{apply_blocks_answer}
 use Rattle.dense_block_apply.proofs.examine_apply.Goals as goal
 
-pub returns-in-Refused : goal.returns-in-Refused
+pub returns-in_err-check : goal.returns-in_err-check
 unfolding apply_blocks_answer
-returns-in-Refused c = search (checks, tests, rules)
+returns-in_err-check c = search (checks, tests, rules)
 
 pub returns-then-x-ncols : goal.returns-then-x-ncols
 unfolding apply_blocks_answer
-returns-then-x-ncols c = call_accepted _ _ _ _ c.check-v.ensures c.in_default.is (length_wrong c.args.ncols (length c.args.x.now) _ (λ h. omega arith))
+returns-then-x-ncols c = call_accepted _ _ _ _ c.check.ensures c.in_ok-check.was (length_wrong c.args.ncols (length c.args.x.now) _ (λ h. omega arith))
 
 pub returns-then-places-nrows : goal.returns-then-places-nrows
 unfolding apply_blocks_answer
-returns-then-places-nrows c = call_accepted _ _ _ _ c.check-v.ensures c.in_default.is (length_right c.args.ncols (length c.args.x.now) _ _ (omega arith) (last_length_wrong c.args.nrows c.args.places (λ h. omega arith)))
+returns-then-places-nrows c = call_accepted _ _ _ _ c.check.ensures c.in_ok-check.was (length_right c.args.ncols (length c.args.x.now) _ _ (omega arith) (last_length_wrong c.args.nrows c.args.places (λ h. omega arith)))
 
 pub returns : goal.returns
 unfolding apply_blocks_answer
-returns c = call_accepted _ _ _ _ c.check-v.ensures c.in_default.is (length_right c.args.ncols (length c.args.x.now) _ _ (omega arith) (last_length_right c.args.nrows c.args.places (omega arith)))
+returns c = call_accepted _ _ _ _ c.check.ensures c.in_ok-check.was (length_right c.args.ncols (length c.args.x.now) _ _ (omega arith) (last_length_right c.args.nrows c.args.places (omega arith)))

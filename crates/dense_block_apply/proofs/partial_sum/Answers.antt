@@ -39,37 +39,37 @@ pub bounds-col_idx-p : goal.bounds-col_idx-p
 bounds-col_idx-p c = row_here c.loop-p.invariant.row c.loop-p.p c.loop-p-test.true
 
 pub overflow_mul-col : goal.overflow_mul-col
-overflow_mul-col c = let q = last_place c.loop-p.invariant.of c.loop-p.p _ (row_here c.loop-p.invariant.row c.loop-p.p c.loop-p-test.true) c.wide.ensures in
+overflow_mul-col c = let q = last_place c.loop-p.invariant.of c.loop-p.p _ (row_here c.loop-p.invariant.row c.loop-p.p c.loop-p-test.true) refl in
     fits_under q.column c.ranges.ncols
 
 pub overflow_mul-at : goal.overflow_mul-at
-overflow_mul-at c = let q = last_place c.loop-p.invariant.of c.loop-p.p _ (row_here c.loop-p.invariant.row c.loop-p.p c.loop-p-test.true) c.wide.ensures in
+overflow_mul-at c = let q = last_place c.loop-p.invariant.of c.loop-p.p _ (row_here c.loop-p.invariant.row c.loop-p.p c.loop-p-test.true) refl in
     fits_forty q.square
 
 pub overflow_mul-at-in-loop-p : goal.overflow_mul-at-in-loop-p
-overflow_mul-at-in-loop-p c = let q = last_place c.loop-p.invariant.of c.loop-p.p _ (row_here c.loop-p.invariant.row c.loop-p.p c.loop-p-test.true) c.wide.ensures in
+overflow_mul-at-in-loop-p c = let q = last_place c.loop-p.invariant.of c.loop-p.p _ (row_here c.loop-p.invariant.row c.loop-p.p c.loop-p-test.true) refl in
     fits_forty q.first
 
 pub overflow_mul-at-in-loop-p-2 : goal.overflow_mul-at-in-loop-p-2
-overflow_mul-at-in-loop-p-2 c = let q = last_place c.loop-p.invariant.of c.loop-p.p _ (row_here c.loop-p.invariant.row c.loop-p.p c.loop-p-test.true) c.wide.ensures in
+overflow_mul-at-in-loop-p-2 c = let q = last_place c.loop-p.invariant.of c.loop-p.p _ (row_here c.loop-p.invariant.row c.loop-p.p c.loop-p-test.true) refl in
     fits_forty q.row
 
 pub overflow_add-at : goal.overflow_add-at
-overflow_add-at c = let q = last_place c.loop-p.invariant.of c.loop-p.p _ (row_here c.loop-p.invariant.row c.loop-p.p c.loop-p-test.true) c.wide.ensures in
+overflow_add-at c = let q = last_place c.loop-p.invariant.of c.loop-p.p _ (row_here c.loop-p.invariant.row c.loop-p.p c.loop-p-test.true) refl in
     fits_forty q.start
 
 pub overflow_sub-ncols : goal.overflow_sub-ncols
-overflow_sub-ncols c = let q = last_place c.loop-p.invariant.of c.loop-p.p _ (row_here c.loop-p.invariant.row c.loop-p.p c.loop-p-test.true) c.wide.ensures in
+overflow_sub-ncols c = let q = last_place c.loop-p.invariant.of c.loop-p.p _ (row_here c.loop-p.invariant.row c.loop-p.p c.loop-p-test.true) refl in
     q.inside
 
 pub add_terms-block-requires : goal.add_terms-block-requires
-add_terms-block-requires c = let q = last_place c.loop-p.invariant.of c.loop-p.p _ (row_here c.loop-p.invariant.row c.loop-p.p c.loop-p-test.true) c.wide.ensures in let rest = q.terms _ c.smaller-count.ensures in record { fact_1 = rest.0; fact_2 = rest.1.0; fact_3 = rest.1.1 }
+add_terms-block-requires c = let q = last_place c.loop-p.invariant.of c.loop-p.p _ (row_here c.loop-p.invariant.row c.loop-p.p c.loop-p-test.true) refl in let rest = q.terms _ c.min-count.ensures in record { fact_1 = rest.0; fact_2 = rest.1.0; fact_3 = rest.1.1 }
 
 pub overflow_add-p : goal.overflow_add-p
 overflow_add-p c = omega arith
 
 pub loop-p-preserved : goal.loop-p-preserved
-loop-p-preserved c = sum_more _ _ _ _ _ _ _ _ c.loop-p.invariant _ _ _ _ refl (ap (λ (k : ℕ). c.width-width.result * k) c.wide.ensures) c.smaller-count.ensures c.loop-p-test.true c.add_terms-block.ensures
+loop-p-preserved c = sum_more _ _ _ _ _ _ _ _ c.loop-p.invariant _ _ _ _ refl (ap (λ (k : ℕ). c.width-width.result * k) refl) c.min-count.ensures c.loop-p-test.true c.add_terms-block.ensures
 
 pub returns : goal.returns
 returns c = sum_done _ _ _ _ _ _ _ _ c.loop-p.invariant c.loop-p-test.false

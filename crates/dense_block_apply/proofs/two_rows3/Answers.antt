@@ -26,8 +26,8 @@ full_count-requires-2 c = let i = full_row (ready B3 3 _ _ _ _ _ _ _ refl c.requ
 pub loop-i-init : goal.loop-i-init
 unfolding each joined
 loop-i-init c = let k = ready B3 3 _ _ _ _ _ _ _ refl c.requires.fact_1 in (
-  beside_none _ _ _ _ _ _ _ k c.requires.fact_2.0 c.pointer-a.ensures c.full_count.ensures (smaller_left _ _ _ c.smaller-n.ensures) refl,
-  beside_none _ _ _ _ _ _ _ k c.requires.fact_2.1 c.pointer-b.ensures c.full_count-2.ensures (smaller_right _ _ _ c.smaller-n.ensures) refl,
+  beside_none _ _ _ _ _ _ _ k c.requires.fact_2.0 c.pointer-a.ensures c.full_count.ensures (smaller_left _ _ _ c.min-n.ensures) refl,
+  beside_none _ _ _ _ _ _ _ k c.requires.fact_2.1 c.pointer-b.ensures c.full_count-2.ensures (smaller_right _ _ _ c.min-n.ensures) refl,
 )
 
 pub overflow_add-a : goal.overflow_add-a

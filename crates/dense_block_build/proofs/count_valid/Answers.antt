@@ -1,4 +1,5 @@
 -- `dense_block_build::count_valid` meets its contract. Assumes nothing.
+use mathlib.Core.Path.{refl}
 use Prim.Native.Nat.{◌-◌}
 use native.Mathlib.Omega.{arith}
 use Rattle.dense_block.proofs.WidthLaws.{width_six}
@@ -40,48 +41,48 @@ overflow_sub-nrows c = let h = counting_first _ c.args.size c.requires.fact_1 _ 
 pub offset_bounds-out_col_idx-start : goal.offset_bounds-out_col_idx-start
 offset_bounds-out_col_idx-start c = let g = c.well_formed.1.1.1.1.1.1.1.0 in
     let h = in_bands c.args.size _ _ _ c.blocks_for-bands.ensures c.loop-band-test.true in
-    let o = band_order _ c.args.size _ _ c.requires.fact_2.0 c.requires.fact_2.1 _ h _ _ c.wide-start.ensures c.wide-end.ensures in
-    let l = band-inside _ c.args.size _ _ c.requires.fact_2.0 c.requires.fact_2.1 _ h _ _ c.wide-start.ensures c.wide-end.ensures in
+    let o = band_order _ c.args.size _ _ c.requires.fact_2.0 c.requires.fact_2.1 _ h _ _ refl refl in
+    let l = band-inside _ c.args.size _ _ c.requires.fact_2.0 c.requires.fact_2.1 _ h _ _ refl refl in
     search rules
 
 pub slice_bounds-row_slots-count : goal.slice_bounds-row_slots-count
 slice_bounds-row_slots-count c = let g = c.well_formed.1.1.1.1.1.1.1.0 in
     let h = in_bands c.args.size _ _ _ c.blocks_for-bands.ensures c.loop-band-test.true in
-    let o = band_order _ c.args.size _ _ c.requires.fact_2.0 c.requires.fact_2.1 _ h _ _ c.wide-start.ensures c.wide-end.ensures in
-    let l = band-inside _ c.args.size _ _ c.requires.fact_2.0 c.requires.fact_2.1 _ h _ _ c.wide-start.ensures c.wide-end.ensures in
+    let o = band_order _ c.args.size _ _ c.requires.fact_2.0 c.requires.fact_2.1 _ h _ _ refl refl in
+    let l = band-inside _ c.args.size _ _ c.requires.fact_2.0 c.requires.fact_2.1 _ h _ _ refl refl in
     search rules
 
 pub slice_bounds-row_slots-start : goal.slice_bounds-row_slots-start
 slice_bounds-row_slots-start c = let g = c.well_formed.1.1.1.1.1.1.1.0 in
     let h = in_bands c.args.size _ _ _ c.blocks_for-bands.ensures c.loop-band-test.true in
-    let o = band_order _ c.args.size _ _ c.requires.fact_2.0 c.requires.fact_2.1 _ h _ _ c.wide-start.ensures c.wide-end.ensures in
-    let l = band-inside _ c.args.size _ _ c.requires.fact_2.0 c.requires.fact_2.1 _ h _ _ c.wide-start.ensures c.wide-end.ensures in
+    let o = band_order _ c.args.size _ _ c.requires.fact_2.0 c.requires.fact_2.1 _ h _ _ refl refl in
+    let l = band-inside _ c.args.size _ _ c.requires.fact_2.0 c.requires.fact_2.1 _ h _ _ refl refl in
     search rules
 
 pub slice_bounds-row_slots-end : goal.slice_bounds-row_slots-end
 slice_bounds-row_slots-end c = let g = c.well_formed.1.1.1.1.1.1.1.0 in
     let h = in_bands c.args.size _ _ _ c.blocks_for-bands.ensures c.loop-band-test.true in
-    let o = band_order _ c.args.size _ _ c.requires.fact_2.0 c.requires.fact_2.1 _ h _ _ c.wide-start.ensures c.wide-end.ensures in
-    let l = band-inside _ c.args.size _ _ c.requires.fact_2.0 c.requires.fact_2.1 _ h _ _ c.wide-start.ensures c.wide-end.ensures in
+    let o = band_order _ c.args.size _ _ c.requires.fact_2.0 c.requires.fact_2.1 _ h _ _ refl refl in
+    let l = band-inside _ c.args.size _ _ c.requires.fact_2.0 c.requires.fact_2.1 _ h _ _ refl refl in
     search rules
 
 pub row_slots-slots-requires : goal.row_slots-slots-requires
 row_slots-slots-requires c = let h = in_bands c.args.size _ _ _ c.blocks_for-bands.ensures c.loop-band-test.true in
-    record { fact_1 = omega (arith, width_six c.args.size, c.width-width.ensures, c.smaller-rows.ensures); fact_2 = counting_asks _ c.args.size c.requires.fact_1 _ _ c.loop-band.invariant h _ c.width-width.ensures _ (part_is _ c.args.size _ _ c.requires.fact_2.0 c.requires.fact_2.1 _ h _ _ c.wide-start.ensures c.wide-end.ensures) }
+    record { fact_1 = omega (arith, width_six c.args.size, c.width-width.ensures, c.min-rows.ensures); fact_2 = counting_asks _ c.args.size c.requires.fact_1 _ _ c.loop-band.invariant h _ c.width-width.ensures _ (part_is _ c.args.size _ _ c.requires.fact_2.0 c.requires.fact_2.1 _ h _ _ refl refl) }
 
 pub overflow_add-slots : goal.overflow_add-slots
 overflow_add-slots c = let h = in_bands c.args.size _ _ _ c.blocks_for-bands.ensures c.loop-band-test.true in
-    record { fits = counting_fits _ c.args.size c.requires.fact_1 _ _ c.loop-band.invariant h _ c.width-width.ensures _ (part_is _ c.args.size _ _ c.requires.fact_2.0 c.requires.fact_2.1 _ h _ _ c.wide-start.ensures c.wide-end.ensures) _ _ c.smaller-rows.ensures c.row_slots-slots.ensures }
+    record { fits = counting_fits _ c.args.size c.requires.fact_1 _ _ c.loop-band.invariant h _ c.width-width.ensures _ (part_is _ c.args.size _ _ c.requires.fact_2.0 c.requires.fact_2.1 _ h _ _ refl refl) _ _ c.min-rows.ensures c.row_slots-slots.ensures }
 
-pub overflow_add-band-in-loop-band : goal.overflow_add-band-in-loop-band
-overflow_add-band-in-loop-band c = next_fits _ _ (pointers_next _ c.args.size _ _ c.requires.fact_2.0 c.requires.fact_2.1 _ (in_bands c.args.size _ _ _ c.blocks_for-bands.ensures c.loop-band-test.true)) c.well_formed.1.1.1.1.1.1.0.0
+pub overflow_add-end : goal.overflow_add-end
+overflow_add-end c = next_fits _ _ (pointers_next _ c.args.size _ _ c.requires.fact_2.0 c.requires.fact_2.1 _ (in_bands c.args.size _ _ _ c.blocks_for-bands.ensures c.loop-band-test.true)) c.well_formed.1.1.1.1.1.1.0.0
 
 pub loop-band-smaller : goal.loop-band-smaller
 loop-band-smaller c = omega (arith, c.loop-band-test.true)
 
 pub loop-band-preserved : goal.loop-band-preserved
 loop-band-preserved c = let h = in_bands c.args.size _ _ _ c.blocks_for-bands.ensures c.loop-band-test.true in
-    counting_more _ c.args.size c.requires.fact_1 _ _ c.loop-band.invariant h _ c.width-width.ensures _ (part_is _ c.args.size _ _ c.requires.fact_2.0 c.requires.fact_2.1 _ h _ _ c.wide-start.ensures c.wide-end.ensures) _ _ c.smaller-rows.ensures c.row_slots-slots.ensures
+    counting_more _ c.args.size c.requires.fact_1 _ _ c.loop-band.invariant h _ c.width-width.ensures _ (part_is _ c.args.size _ _ c.requires.fact_2.0 c.requires.fact_2.1 _ h _ _ refl refl) _ _ c.min-rows.ensures c.row_slots-slots.ensures
 
 pub returns : goal.returns
 returns c = counting_done _ c.args.size c.requires.fact_1 _ _ c.loop-band.invariant _ c.blocks_for-bands.ensures c.loop-band-test.false

@@ -1,4 +1,5 @@
 -- `dense_block_build::fill_values` meets its contract. Assumes nothing.
+use mathlib.Core.Path.{refl}
 use Prim.Native.Nat.{◌-◌}
 use native.Mathlib.Omega.{arith}
 use Rattle.dense_block_build.proofs.SizeLaws.{square_is, square_small, next_fits}
@@ -34,39 +35,39 @@ bounds-out_row_ptr-band-in-loop-band c = pointers_next _ c.args.size _ _ c.requi
 pub offset_bounds-out_col_idx-start : goal.offset_bounds-out_col_idx-start
 offset_bounds-out_col_idx-start c = let g = c.well_formed.1.1.1.1.1.1.1.0 in
     let h = in_bands c.args.size _ _ _ c.blocks_for-bands.ensures c.loop-band-test.true in
-    let o = band_order _ c.args.size _ _ c.requires.fact_2.0 c.requires.fact_2.1 _ h _ _ c.wide-start.ensures c.wide-end.ensures in
-    let l = band-inside _ c.args.size _ _ c.requires.fact_2.0 c.requires.fact_2.1 _ h _ _ c.wide-start.ensures c.wide-end.ensures in
+    let o = band_order _ c.args.size _ _ c.requires.fact_2.0 c.requires.fact_2.1 _ h _ _ refl refl in
+    let l = band-inside _ c.args.size _ _ c.requires.fact_2.0 c.requires.fact_2.1 _ h _ _ refl refl in
     search rules
 
 pub slice_bounds-note_columns-count : goal.slice_bounds-note_columns-count
 slice_bounds-note_columns-count c = let g = c.well_formed.1.1.1.1.1.1.1.0 in
     let h = in_bands c.args.size _ _ _ c.blocks_for-bands.ensures c.loop-band-test.true in
-    let o = band_order _ c.args.size _ _ c.requires.fact_2.0 c.requires.fact_2.1 _ h _ _ c.wide-start.ensures c.wide-end.ensures in
-    let l = band-inside _ c.args.size _ _ c.requires.fact_2.0 c.requires.fact_2.1 _ h _ _ c.wide-start.ensures c.wide-end.ensures in
+    let o = band_order _ c.args.size _ _ c.requires.fact_2.0 c.requires.fact_2.1 _ h _ _ refl refl in
+    let l = band-inside _ c.args.size _ _ c.requires.fact_2.0 c.requires.fact_2.1 _ h _ _ refl refl in
     search rules
 
 pub slice_bounds-note_columns-start : goal.slice_bounds-note_columns-start
 slice_bounds-note_columns-start c = let g = c.well_formed.1.1.1.1.1.1.1.0 in
     let h = in_bands c.args.size _ _ _ c.blocks_for-bands.ensures c.loop-band-test.true in
-    let o = band_order _ c.args.size _ _ c.requires.fact_2.0 c.requires.fact_2.1 _ h _ _ c.wide-start.ensures c.wide-end.ensures in
-    let l = band-inside _ c.args.size _ _ c.requires.fact_2.0 c.requires.fact_2.1 _ h _ _ c.wide-start.ensures c.wide-end.ensures in
+    let o = band_order _ c.args.size _ _ c.requires.fact_2.0 c.requires.fact_2.1 _ h _ _ refl refl in
+    let l = band-inside _ c.args.size _ _ c.requires.fact_2.0 c.requires.fact_2.1 _ h _ _ refl refl in
     search rules
 
 pub slice_bounds-note_columns-end : goal.slice_bounds-note_columns-end
 slice_bounds-note_columns-end c = let g = c.well_formed.1.1.1.1.1.1.1.0 in
     let h = in_bands c.args.size _ _ _ c.blocks_for-bands.ensures c.loop-band-test.true in
-    let o = band_order _ c.args.size _ _ c.requires.fact_2.0 c.requires.fact_2.1 _ h _ _ c.wide-start.ensures c.wide-end.ensures in
-    let l = band-inside _ c.args.size _ _ c.requires.fact_2.0 c.requires.fact_2.1 _ h _ _ c.wide-start.ensures c.wide-end.ensures in
+    let o = band_order _ c.args.size _ _ c.requires.fact_2.0 c.requires.fact_2.1 _ h _ _ refl refl in
+    let l = band-inside _ c.args.size _ _ c.requires.fact_2.0 c.requires.fact_2.1 _ h _ _ refl refl in
     search rules
 
 pub note_columns-requires : goal.note_columns-requires
-note_columns-requires c = let h = in_bands c.args.size _ _ _ c.blocks_for-bands.ensures c.loop-band-test.true in let rest = filling_notes _ c.args.size _ _ c.requires.fact_2.0 c.requires.fact_2.1 _ _ _ _ _ c.loop-band.invariant h _ _ c.wide-start.ensures c.wide-end.ensures c.requires.fact_1 _ c.blocks_for-n.ensures c.requires.fact_4 in record { fact_1 = rest.0; fact_2 = rest.1.0; fact_3 = rest.1.1.0; fact_4 = rest.1.1.1 }
+note_columns-requires c = let h = in_bands c.args.size _ _ _ c.blocks_for-bands.ensures c.loop-band-test.true in let rest = filling_notes _ c.args.size _ _ c.requires.fact_2.0 c.requires.fact_2.1 _ _ _ _ _ c.loop-band.invariant h _ _ refl refl c.requires.fact_1 _ c.blocks_for-n.ensures c.requires.fact_4 in record { fact_1 = rest.0; fact_2 = rest.1.0; fact_3 = rest.1.1.0; fact_4 = rest.1.1.1 }
 
 pub overflow_mul-start : goal.overflow_mul-start
 overflow_mul-start c = let h = in_bands c.args.size _ _ _ c.blocks_for-bands.ensures c.loop-band-test.true in
     let e = square_is c.args.size _ c.width-width.ensures in
-    let o = filling_start _ c.args.size _ _ c.requires.fact_2.0 c.requires.fact_2.1 _ _ _ _ _ c.loop-band.invariant h _ _ c.wide-start.ensures c.wide-end.ensures _ e in
-    let l = filling_end _ c.args.size _ _ c.requires.fact_2.0 c.requires.fact_2.1 _ _ _ _ _ c.loop-band.invariant h _ _ c.wide-start.ensures c.wide-end.ensures _ e in
+    let o = filling_start _ c.args.size _ _ c.requires.fact_2.0 c.requires.fact_2.1 _ _ _ _ _ c.loop-band.invariant h _ _ refl refl _ e in
+    let l = filling_end _ c.args.size _ _ c.requires.fact_2.0 c.requires.fact_2.1 _ _ _ _ _ c.loop-band.invariant h _ _ refl refl _ e in
     let q = filling_same _ c.args.size _ _ c.requires.fact_2.0 c.requires.fact_2.1 _ _ _ _ _ c.loop-band.invariant _ c.requires.fact_5 in
     let g = c.well_formed.1.1.1.1.1.1.1.1.1.1.0 in
     search rules
@@ -74,8 +75,8 @@ overflow_mul-start c = let h = in_bands c.args.size _ _ _ c.blocks_for-bands.ens
 pub overflow_mul-end : goal.overflow_mul-end
 overflow_mul-end c = let h = in_bands c.args.size _ _ _ c.blocks_for-bands.ensures c.loop-band-test.true in
     let e = square_is c.args.size _ c.width-width.ensures in
-    let o = filling_start _ c.args.size _ _ c.requires.fact_2.0 c.requires.fact_2.1 _ _ _ _ _ c.loop-band.invariant h _ _ c.wide-start.ensures c.wide-end.ensures _ e in
-    let l = filling_end _ c.args.size _ _ c.requires.fact_2.0 c.requires.fact_2.1 _ _ _ _ _ c.loop-band.invariant h _ _ c.wide-start.ensures c.wide-end.ensures _ e in
+    let o = filling_start _ c.args.size _ _ c.requires.fact_2.0 c.requires.fact_2.1 _ _ _ _ _ c.loop-band.invariant h _ _ refl refl _ e in
+    let l = filling_end _ c.args.size _ _ c.requires.fact_2.0 c.requires.fact_2.1 _ _ _ _ _ c.loop-band.invariant h _ _ refl refl _ e in
     let q = filling_same _ c.args.size _ _ c.requires.fact_2.0 c.requires.fact_2.1 _ _ _ _ _ c.loop-band.invariant _ c.requires.fact_5 in
     let g = c.well_formed.1.1.1.1.1.1.1.1.1.1.0 in
     search rules
@@ -83,8 +84,8 @@ overflow_mul-end c = let h = in_bands c.args.size _ _ _ c.blocks_for-bands.ensur
 pub offset_bounds-out_values-start : goal.offset_bounds-out_values-start
 offset_bounds-out_values-start c = let h = in_bands c.args.size _ _ _ c.blocks_for-bands.ensures c.loop-band-test.true in
     let e = square_is c.args.size _ c.width-width.ensures in
-    let o = filling_start _ c.args.size _ _ c.requires.fact_2.0 c.requires.fact_2.1 _ _ _ _ _ c.loop-band.invariant h _ _ c.wide-start.ensures c.wide-end.ensures _ e in
-    let l = filling_end _ c.args.size _ _ c.requires.fact_2.0 c.requires.fact_2.1 _ _ _ _ _ c.loop-band.invariant h _ _ c.wide-start.ensures c.wide-end.ensures _ e in
+    let o = filling_start _ c.args.size _ _ c.requires.fact_2.0 c.requires.fact_2.1 _ _ _ _ _ c.loop-band.invariant h _ _ refl refl _ e in
+    let l = filling_end _ c.args.size _ _ c.requires.fact_2.0 c.requires.fact_2.1 _ _ _ _ _ c.loop-band.invariant h _ _ refl refl _ e in
     let q = filling_same _ c.args.size _ _ c.requires.fact_2.0 c.requires.fact_2.1 _ _ _ _ _ c.loop-band.invariant _ c.requires.fact_5 in
     let g = c.well_formed.1.1.1.1.1.1.1.1.1.1.0 in
     search rules
@@ -92,8 +93,8 @@ offset_bounds-out_values-start c = let h = in_bands c.args.size _ _ _ c.blocks_f
 pub slice_bounds-add_band-count : goal.slice_bounds-add_band-count
 slice_bounds-add_band-count c = let h = in_bands c.args.size _ _ _ c.blocks_for-bands.ensures c.loop-band-test.true in
     let e = square_is c.args.size _ c.width-width.ensures in
-    let o = filling_start _ c.args.size _ _ c.requires.fact_2.0 c.requires.fact_2.1 _ _ _ _ _ c.loop-band.invariant h _ _ c.wide-start.ensures c.wide-end.ensures _ e in
-    let l = filling_end _ c.args.size _ _ c.requires.fact_2.0 c.requires.fact_2.1 _ _ _ _ _ c.loop-band.invariant h _ _ c.wide-start.ensures c.wide-end.ensures _ e in
+    let o = filling_start _ c.args.size _ _ c.requires.fact_2.0 c.requires.fact_2.1 _ _ _ _ _ c.loop-band.invariant h _ _ refl refl _ e in
+    let l = filling_end _ c.args.size _ _ c.requires.fact_2.0 c.requires.fact_2.1 _ _ _ _ _ c.loop-band.invariant h _ _ refl refl _ e in
     let q = filling_same _ c.args.size _ _ c.requires.fact_2.0 c.requires.fact_2.1 _ _ _ _ _ c.loop-band.invariant _ c.requires.fact_5 in
     let g = c.well_formed.1.1.1.1.1.1.1.1.1.1.0 in
     search rules
@@ -101,8 +102,8 @@ slice_bounds-add_band-count c = let h = in_bands c.args.size _ _ _ c.blocks_for-
 pub slice_bounds-add_band-start : goal.slice_bounds-add_band-start
 slice_bounds-add_band-start c = let h = in_bands c.args.size _ _ _ c.blocks_for-bands.ensures c.loop-band-test.true in
     let e = square_is c.args.size _ c.width-width.ensures in
-    let o = filling_start _ c.args.size _ _ c.requires.fact_2.0 c.requires.fact_2.1 _ _ _ _ _ c.loop-band.invariant h _ _ c.wide-start.ensures c.wide-end.ensures _ e in
-    let l = filling_end _ c.args.size _ _ c.requires.fact_2.0 c.requires.fact_2.1 _ _ _ _ _ c.loop-band.invariant h _ _ c.wide-start.ensures c.wide-end.ensures _ e in
+    let o = filling_start _ c.args.size _ _ c.requires.fact_2.0 c.requires.fact_2.1 _ _ _ _ _ c.loop-band.invariant h _ _ refl refl _ e in
+    let l = filling_end _ c.args.size _ _ c.requires.fact_2.0 c.requires.fact_2.1 _ _ _ _ _ c.loop-band.invariant h _ _ refl refl _ e in
     let q = filling_same _ c.args.size _ _ c.requires.fact_2.0 c.requires.fact_2.1 _ _ _ _ _ c.loop-band.invariant _ c.requires.fact_5 in
     let g = c.well_formed.1.1.1.1.1.1.1.1.1.1.0 in
     search rules
@@ -110,46 +111,46 @@ slice_bounds-add_band-start c = let h = in_bands c.args.size _ _ _ c.blocks_for-
 pub slice_bounds-add_band-end : goal.slice_bounds-add_band-end
 slice_bounds-add_band-end c = let h = in_bands c.args.size _ _ _ c.blocks_for-bands.ensures c.loop-band-test.true in
     let e = square_is c.args.size _ c.width-width.ensures in
-    let o = filling_start _ c.args.size _ _ c.requires.fact_2.0 c.requires.fact_2.1 _ _ _ _ _ c.loop-band.invariant h _ _ c.wide-start.ensures c.wide-end.ensures _ e in
-    let l = filling_end _ c.args.size _ _ c.requires.fact_2.0 c.requires.fact_2.1 _ _ _ _ _ c.loop-band.invariant h _ _ c.wide-start.ensures c.wide-end.ensures _ e in
+    let o = filling_start _ c.args.size _ _ c.requires.fact_2.0 c.requires.fact_2.1 _ _ _ _ _ c.loop-band.invariant h _ _ refl refl _ e in
+    let l = filling_end _ c.args.size _ _ c.requires.fact_2.0 c.requires.fact_2.1 _ _ _ _ _ c.loop-band.invariant h _ _ refl refl _ e in
     let q = filling_same _ c.args.size _ _ c.requires.fact_2.0 c.requires.fact_2.1 _ _ _ _ _ c.loop-band.invariant _ c.requires.fact_5 in
     let g = c.well_formed.1.1.1.1.1.1.1.1.1.1.0 in
     search rules
 
 pub add_band-requires : goal.add_band-requires
 add_band-requires c = let h = in_bands c.args.size _ _ _ c.blocks_for-bands.ensures c.loop-band-test.true in
-    let e = square_is c.args.size _ c.width-width.ensures in let rest = filling_asks _ c.args.size _ _ c.requires.fact_2.0 c.requires.fact_2.1 _ _ _ _ _ c.loop-band.invariant h _ _ c.wide-start.ensures c.wide-end.ensures _ e c.requires.fact_1 _ _ _ c.blocks_for-n.ensures c.note_columns.ensures.bits c.note_columns.ensures.ranks in record { fact_1 = rest.0; fact_2 = rest.1.0; fact_3 = rest.1.1.0; fact_4 = rest.1.1.1.0; fact_5 = rest.1.1.1.1 }
+    let e = square_is c.args.size _ c.width-width.ensures in let rest = filling_asks _ c.args.size _ _ c.requires.fact_2.0 c.requires.fact_2.1 _ _ _ _ _ c.loop-band.invariant h _ _ refl refl _ e c.requires.fact_1 _ _ _ c.blocks_for-n.ensures c.note_columns.ensures.bits c.note_columns.ensures.ranks in record { fact_1 = rest.0; fact_2 = rest.1.0; fact_3 = rest.1.1.0; fact_4 = rest.1.1.1.0; fact_5 = rest.1.1.1.1 }
 
 pub offset_bounds-out_col_idx-start-in-loop-band : goal.offset_bounds-out_col_idx-start-in-loop-band
 offset_bounds-out_col_idx-start-in-loop-band c = let g = c.well_formed.1.1.1.1.1.1.1.0 in
     let h = in_bands c.args.size _ _ _ c.blocks_for-bands.ensures c.loop-band-test.true in
-    let o = band_order _ c.args.size _ _ c.requires.fact_2.0 c.requires.fact_2.1 _ h _ _ c.wide-start.ensures c.wide-end.ensures in
-    let l = band-inside _ c.args.size _ _ c.requires.fact_2.0 c.requires.fact_2.1 _ h _ _ c.wide-start.ensures c.wide-end.ensures in
+    let o = band_order _ c.args.size _ _ c.requires.fact_2.0 c.requires.fact_2.1 _ h _ _ refl refl in
+    let l = band-inside _ c.args.size _ _ c.requires.fact_2.0 c.requires.fact_2.1 _ h _ _ refl refl in
     search rules
 
 pub slice_bounds-forget-count : goal.slice_bounds-forget-count
 slice_bounds-forget-count c = let g = c.well_formed.1.1.1.1.1.1.1.0 in
     let h = in_bands c.args.size _ _ _ c.blocks_for-bands.ensures c.loop-band-test.true in
-    let o = band_order _ c.args.size _ _ c.requires.fact_2.0 c.requires.fact_2.1 _ h _ _ c.wide-start.ensures c.wide-end.ensures in
-    let l = band-inside _ c.args.size _ _ c.requires.fact_2.0 c.requires.fact_2.1 _ h _ _ c.wide-start.ensures c.wide-end.ensures in
+    let o = band_order _ c.args.size _ _ c.requires.fact_2.0 c.requires.fact_2.1 _ h _ _ refl refl in
+    let l = band-inside _ c.args.size _ _ c.requires.fact_2.0 c.requires.fact_2.1 _ h _ _ refl refl in
     search rules
 
 pub slice_bounds-forget-start : goal.slice_bounds-forget-start
 slice_bounds-forget-start c = let g = c.well_formed.1.1.1.1.1.1.1.0 in
     let h = in_bands c.args.size _ _ _ c.blocks_for-bands.ensures c.loop-band-test.true in
-    let o = band_order _ c.args.size _ _ c.requires.fact_2.0 c.requires.fact_2.1 _ h _ _ c.wide-start.ensures c.wide-end.ensures in
-    let l = band-inside _ c.args.size _ _ c.requires.fact_2.0 c.requires.fact_2.1 _ h _ _ c.wide-start.ensures c.wide-end.ensures in
+    let o = band_order _ c.args.size _ _ c.requires.fact_2.0 c.requires.fact_2.1 _ h _ _ refl refl in
+    let l = band-inside _ c.args.size _ _ c.requires.fact_2.0 c.requires.fact_2.1 _ h _ _ refl refl in
     search rules
 
 pub slice_bounds-forget-end : goal.slice_bounds-forget-end
 slice_bounds-forget-end c = let g = c.well_formed.1.1.1.1.1.1.1.0 in
     let h = in_bands c.args.size _ _ _ c.blocks_for-bands.ensures c.loop-band-test.true in
-    let o = band_order _ c.args.size _ _ c.requires.fact_2.0 c.requires.fact_2.1 _ h _ _ c.wide-start.ensures c.wide-end.ensures in
-    let l = band-inside _ c.args.size _ _ c.requires.fact_2.0 c.requires.fact_2.1 _ h _ _ c.wide-start.ensures c.wide-end.ensures in
+    let o = band_order _ c.args.size _ _ c.requires.fact_2.0 c.requires.fact_2.1 _ h _ _ refl refl in
+    let l = band-inside _ c.args.size _ _ c.requires.fact_2.0 c.requires.fact_2.1 _ h _ _ refl refl in
     search rules
 
-pub overflow_add-band-in-loop-band : goal.overflow_add-band-in-loop-band
-overflow_add-band-in-loop-band c = next_fits _ _ (pointers_next _ c.args.size _ _ c.requires.fact_2.0 c.requires.fact_2.1 _ (in_bands c.args.size _ _ _ c.blocks_for-bands.ensures c.loop-band-test.true)) c.well_formed.1.1.1.1.1.1.0.0
+pub overflow_add-end : goal.overflow_add-end
+overflow_add-end c = next_fits _ _ (pointers_next _ c.args.size _ _ c.requires.fact_2.0 c.requires.fact_2.1 _ (in_bands c.args.size _ _ _ c.blocks_for-bands.ensures c.loop-band-test.true)) c.well_formed.1.1.1.1.1.1.0.0
 
 pub loop-band-smaller : goal.loop-band-smaller
 loop-band-smaller c = omega (arith, c.loop-band-test.true)
@@ -157,7 +158,7 @@ loop-band-smaller c = omega (arith, c.loop-band-test.true)
 pub loop-band-preserved : goal.loop-band-preserved
 loop-band-preserved c = let h = in_bands c.args.size _ _ _ c.blocks_for-bands.ensures c.loop-band-test.true in
     let e = square_is c.args.size _ c.width-width.ensures in
-    filling_more _ c.args.size _ _ c.requires.fact_2.0 c.requires.fact_2.1 _ _ _ _ _ c.loop-band.invariant h _ _ c.wide-start.ensures c.wide-end.ensures _ e _ _ _ _ _ c.blocks_for-n.ensures c.note_columns.ensures.bits c.forget.ensures c.note_columns.auto.starts c.add_band.ensures
+    filling_more _ c.args.size _ _ c.requires.fact_2.0 c.requires.fact_2.1 _ _ _ _ _ c.loop-band.invariant h _ _ refl refl _ e _ _ _ _ _ c.blocks_for-n.ensures c.note_columns.ensures.bits c.forget.ensures c.note_columns.auto.starts c.add_band.ensures
 
 pub shape_of-bits : goal.shape_of-bits
 shape_of-bits c = filling_bits _ c.args.size _ _ c.requires.fact_2.0 c.requires.fact_2.1 _ _ _ _ _ c.loop-band.invariant _ c.requires.fact_3

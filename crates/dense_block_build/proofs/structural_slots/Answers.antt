@@ -6,4 +6,4 @@ pub returns-in_default : goal.returns-in_default
 returns-in_default c = count_never _ _ _ _ _ c.requires c.structural_slots-answer.ensures c.in_default.is
 
 pub returns : goal.returns
-returns c = count_given _ _ _ _ c.requires c.structural_slots-answer.ensures c.in-Count.is
+returns c = count_given _ _ _ _ c.requires c.structural_slots-answer.ensures c.in-Ok.is

@@ -1,4 +1,5 @@
 -- `dense_block_counts::count_structural` meets its contract. Assumes nothing.
+use mathlib.Core.Path.{refl}
 use Prim.Native.Nat.{◌-◌}
 use native.Mathlib.Omega.{arith}
 use Rattle.csr32.proofs.CsrLaws.{valid}
@@ -43,13 +44,13 @@ pub slice_bounds-distinct-end-in-loop-row : goal.slice_bounds-distinct-end-in-lo
 slice_bounds-distinct-end-in-loop-row c = summed-part _ _ _ _ c.loop-row.invariant.1
 
 pub distinct-slots-requires : goal.distinct-slots-requires
-distinct-slots-requires c = let rest = summed_asks _ _ _ _ c.loop-row.invariant.1 _ _ c.wide-start.ensures c.wide-end.ensures in record { fact_1 = rest.0; fact_2 = rest.1.0; fact_3 = rest.1.1 }
+distinct-slots-requires c = let rest = summed_asks _ _ _ _ c.loop-row.invariant.1 _ _ refl refl in record { fact_1 = rest.0; fact_2 = rest.1.0; fact_3 = rest.1.1 }
 
 pub overflow_add-slots : goal.overflow_add-slots
-overflow_add-slots c = omega (arith, summed_fits _ _ _ _ c.loop-row.invariant.1 _ _ c.wide-start.ensures c.wide-end.ensures _ c.distinct-slots.ensures.count (search rules))
+overflow_add-slots c = omega (arith, summed_fits _ _ _ _ c.loop-row.invariant.1 _ _ refl refl _ c.distinct-slots.ensures.count (search rules))
 
 pub loop-row-preserved : goal.loop-row-preserved
-loop-row-preserved c = (search rules, summed_more _ _ _ _ c.loop-row.invariant.1 _ _ c.wide-start.ensures c.wide-end.ensures _ c.distinct-slots.ensures.count _ c.distinct-slots.ensures.bits)
+loop-row-preserved c = (search rules, summed_more _ _ _ _ c.loop-row.invariant.1 _ _ refl refl _ c.distinct-slots.ensures.count _ c.distinct-slots.ensures.bits)
 
 pub returns : goal.returns
 returns c = summed_done _ _ _ _ c.loop-row.invariant.1 (search rules) (search rules)

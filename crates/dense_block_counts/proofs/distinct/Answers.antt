@@ -1,6 +1,6 @@
 -- `dense_block_counts::distinct` meets its contract. Assumes nothing.
+use mathlib.Core.Path.{refl, ap, sym, ◌∙◌}
 use mathlib.Core.Bool.{not}
-use mathlib.Core.Path.{ap, sym, ◌∙◌}
 use Prim.Native.Nat.{◌-◌}
 use lib.ListN.{length}
 use native.Mathlib.Omega.{arith}
@@ -12,16 +12,16 @@ pub loop-k-init : goal.loop-k-init
 loop-k-init c = distinct_none _ _ _ c.requires.fact_1 c.requires.fact_2 c.requires.fact_3
 
 pub offset_bounds-bits-col : goal.offset_bounds-bits-col
-offset_bounds-bits-col c = omega (arith, c.loop-k.invariant.small, distinct_inside _ _ _ _ _ c.loop-k.invariant (search rules) _ c.wide-col.ensures)
+offset_bounds-bits-col c = omega (arith, c.loop-k.invariant.small, distinct_inside _ _ _ _ _ c.loop-k.invariant (search rules) _ refl)
 
 pub bounds-bits-col : goal.bounds-bits-col
-bounds-bits-col c = distinct_place _ _ _ _ _ c.loop-k.invariant (search rules) _ c.wide-col.ensures
+bounds-bits-col c = distinct_place _ _ _ _ _ c.loop-k.invariant (search rules) _ refl
 
 pub overflow_add-found : goal.overflow_add-found
-overflow_add-found c = omega (arith, distinct_fits _ _ _ _ _ c.loop-k.invariant _ (not c.contains_offset.result) c.one_if-found.ensures)
+overflow_add-found c = omega (arith, distinct_fits _ _ _ _ _ c.loop-k.invariant _ (not c.contains_offset.result) c.from-found.ensures)
 
 pub loop-k-preserved : goal.loop-k-preserved
-loop-k-preserved c = distinct_more _ _ _ _ _ c.loop-k.invariant (search rules) _ c.wide-col.ensures _ _ _ c.contains_offset.ensures c.one_if-found.ensures c.mark.ensures
+loop-k-preserved c = distinct_more _ _ _ _ _ c.loop-k.invariant (search rules) _ refl _ _ _ c.contains_offset.ensures c.from-found.ensures c.mark.ensures
 
 pub shape_of-bits : goal.shape_of-bits
 shape_of-bits c = ap length (distinct_empty _ _ _ _ _ c.loop-k.invariant (search rules) _ c.forget.ensures ∙ sym c.requires.fact_3)

@@ -3,8 +3,5 @@ use borrow.Author.Rules.{rules}
 use Rattle.hybit_core.proofs.AnswerLaws.{outcomes}
 use Rattle.mask.proofs.contains.Goals as goal
 
-pub returns-in-Refused : goal.returns-in-Refused
-returns-in-Refused c = search (outcomes, rules)
-
 pub returns : goal.returns
 returns c = search (outcomes, rules)

@@ -6,14 +6,14 @@ use Rattle.hybit_core.proofs.BoolLaws.{tests, is_below, is_not_below}
 use Rattle.mask.specs.Calls.{set_answer}
 use Rattle.mask_build.proofs.examine_set.Goals as goal
 
-pub returns-in-Refused : goal.returns-in-Refused
+pub returns-in_err-check : goal.returns-in_err-check
 unfolding set_answer
-returns-in-Refused c = search (checks, tests, rules)
+returns-in_err-check c = search (checks, tests, rules)
 
 pub returns-then-len-index : goal.returns-then-len-index
 unfolding set_answer
-returns-then-len-index c = call_accepted _ _ _ _ c.check-v.ensures c.in_default.is (last_fails _ _ (is_not_below c.args.index c.args.len (omega arith)))
+returns-then-len-index c = call_accepted _ _ _ _ c.check.ensures c.in_ok-check.was (last_fails _ _ (is_not_below c.args.index c.args.len (omega arith)))
 
 pub returns : goal.returns
 unfolding set_answer
-returns c = call_accepted _ _ _ _ c.check-v.ensures c.in_default.is (last_passes _ _ (is_below c.args.index c.args.len (omega arith)))
+returns c = call_accepted _ _ _ _ c.check.ensures c.in_ok-check.was (last_passes _ _ (is_below c.args.index c.args.len (omega arith)))

@@ -5,15 +5,15 @@ use Rattle.lent.proofs.LentLaws.{built_refused, built_accepted}
 use Rattle.mask_build.proofs.BuildLaws.{from_indices_below, from_indices_room, cleared_room, cleared_self, cleared_then}
 use Rattle.mask_build.proofs.from_indices.Goals as goal
 
-pub returns-in-Refused : goal.returns-in-Refused
-returns-in-Refused c = search (outcomes, built_refused, rules)
+pub returns-in-Err : goal.returns-in-Err
+returns-in-Err c = search (outcomes, built_refused, rules)
 
 pub set_all-requires : goal.set_all-requires
 set_all-requires c = let ok = accepted_by _ _ c.examine_indices-v.ensures c.in_default.is in
-    let e = c.clear_from_u64.ensures in
+    let e = c.clear_from.ensures in
     record { indices_value = from_indices_below _ _ _ ok; len_in_bounds = cleared_room _ _ e _ (from_indices_room _ _ _ ok); words_value = cleared_self _ _ e }
 
 pub returns : goal.returns
 returns c = let e = c.examine_indices-v.ensures in
     let t = c.in_default.is in
-    record { answer = answer_accepted _ _ e t; list = built_accepted _ _ _ _ _ _ e t (cleared_then _ _ c.clear_from_u64.ensures _ _ c.set_all.ensures) }
+    record { answer = answer_accepted _ _ e t; list = built_accepted _ _ _ _ _ _ e t (cleared_then _ _ c.clear_from.ensures _ _ c.set_all.ensures) }

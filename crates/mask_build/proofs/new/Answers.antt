@@ -3,4 +3,4 @@ use Rattle.mask_build.proofs.BuildLaws.{new_list}
 use Rattle.mask_build.proofs.new.Goals as goal
 
 pub returns : goal.returns
-returns c = record { answer = c.examine_new-v.ensures; list = new_list _ _ _ c.clear_from_u64.ensures }
+returns c = record { answer = c.examine_new-v.ensures; list = new_list _ _ _ c.clear_from.ensures }

@@ -5,14 +5,14 @@ use Rattle.metadata_first.specs.Store.{store_row_answer}
 use borrow.Author.Rules.{rules}
 use Rattle.metadata_first.proofs.check_row.Goals as goal
 
-pub returns-in-Refused : goal.returns-in-Refused
+pub returns-in_err-check : goal.returns-in_err-check
 unfolding store_row_answer
-returns-in-Refused c = search (checks, rules)
+returns-in_err-check c = search (checks, rules)
 
 pub returns-then-row-nrows : goal.returns-then-row-nrows
 unfolding store_row_answer
-returns-then-row-nrows c = call_accepted _ _ _ _ c.check-v.ensures c.in_default.is (last_fails _ _ (is_not_below _ _ c.if-row-nrows.true))
+returns-then-row-nrows c = call_accepted _ _ _ _ c.check.ensures c.in_ok-check.was (last_fails _ _ (is_not_below _ _ c.if-row-nrows.true))
 
 pub returns : goal.returns
 unfolding store_row_answer
-returns c = call_accepted _ _ _ _ c.check-v.ensures c.in_default.is (last_passes _ _ (is_below _ _ c.if-row-nrows.false))
+returns c = call_accepted _ _ _ _ c.check.ensures c.in_ok-check.was (last_passes _ _ (is_below _ _ c.if-row-nrows.false))

@@ -1,4 +1,5 @@
 -- `metadata_first::counts_hold` meets its contract. Assumes nothing.
+use mathlib.Core.Path.{refl}
 use mathlib.Core.Bool.{true}
 use Prim.Native.Nat.{◌-◌, ◌≤◌, ◌^◌}
 use native.Mathlib.Omega.{arith}
@@ -40,27 +41,27 @@ pub bounds-row_value_ptr-row-in-loop-row : goal.bounds-row_value_ptr-row-in-loop
 bounds-row_value_ptr-row-in-loop-row c = (values_here _ _ _ _ c.requires.fact_2 c.loop-row-test.true).next
 
 pub overflow_sub-last : goal.overflow_sub-last
-overflow_sub-last c = let k = values_here _ _ _ _ c.requires.fact_2 c.loop-row-test.true in omega (arith, k.order, c.wide-last.ensures, c.wide-first.ensures)
+overflow_sub-last c = let k = values_here _ _ _ _ c.requires.fact_2 c.loop-row-test.true in omega (arith, k.order)
 
 pub offset_bounds-masks-start : goal.offset_bounds-masks-start
-offset_bounds-masks-start c = let k : get_or c.args.row_word_ptr.now c.loop-row.row 0 ≤ 2 ^ 24 = start_small _ _ _ _ _ _ c.requires.fact_1 _ c.loop-row-test.true in omega (arith, c.wide-start.ensures)
+offset_bounds-masks-start c = let k : get_or c.args.row_word_ptr.now c.loop-row.row 0 ≤ 2 ^ 24 = start_small _ _ _ _ _ _ c.requires.fact_1 _ c.loop-row-test.true in omega arith
 
 pub slice_bounds-count_bits-count : goal.slice_bounds-count_bits-count
-slice_bounds-count_bits-count c = let k = masks_here _ _ _ _ _ _ c.requires.fact_1 _ c.loop-row-test.true in omega (arith, k.order, c.wide-end.ensures, c.wide-start.ensures)
+slice_bounds-count_bits-count c = let k = masks_here _ _ _ _ _ _ c.requires.fact_1 _ c.loop-row-test.true in omega (arith, k.order)
 
 pub slice_bounds-count_bits-start : goal.slice_bounds-count_bits-start
-slice_bounds-count_bits-start c = let k = masks_here _ _ _ _ _ _ c.requires.fact_1 _ c.loop-row-test.true in omega (arith, k.order, c.wide-end.ensures, c.wide-start.ensures)
+slice_bounds-count_bits-start c = let k = masks_here _ _ _ _ _ _ c.requires.fact_1 _ c.loop-row-test.true in omega (arith, k.order)
 
 pub slice_bounds-count_bits-end : goal.slice_bounds-count_bits-end
-slice_bounds-count_bits-end c = let k = masks_here _ _ _ _ _ _ c.requires.fact_1 _ c.loop-row-test.true in omega (arith, k.inside, c.wide-end.ensures)
+slice_bounds-count_bits-end c = let k = masks_here _ _ _ _ _ _ c.requires.fact_1 _ c.loop-row-test.true in omega (arith, k.inside)
 
 pub returns-then-last-first : goal.returns-then-last-first
 unfolding value_rules
-returns-then-last-first c = rows_fail _ _ _ c.loop-row.invariant c.loop-row-test.true (counts_differ _ _ _ _ _ _ c.requires.fact_1 _ c.loop-row-test.true _ _ c.requires.fact_2 (small_is _ (λ j. (c.shared_slice_known-3-1.given j).fits)) _ _ _ _ _ c.wide-start.ensures c.wide-end.ensures c.wide-first.ensures c.wide-last.ensures c.count_bits.ensures c.if-last-first.true)
+returns-then-last-first c = rows_fail _ _ _ c.loop-row.invariant c.loop-row-test.true (counts_differ _ _ _ _ _ _ c.requires.fact_1 _ c.loop-row-test.true _ _ c.requires.fact_2 (small_is _ (λ j. (c.shared_slice_known-3-1.given j).fits)) _ _ _ _ _ refl refl refl refl c.count_bits.ensures c.if-last-first.true)
 
 pub loop-row-preserved : goal.loop-row-preserved
 unfolding value_rules
-loop-row-preserved c = rows_more _ _ _ c.loop-row.invariant c.loop-row-test.true (counts_same _ _ _ _ _ _ c.requires.fact_1 _ c.loop-row-test.true _ _ c.requires.fact_2 (small_is _ (λ j. (c.shared_slice_known-3-1.given j).fits)) _ _ _ _ _ c.wide-start.ensures c.wide-end.ensures c.wide-first.ensures c.wide-last.ensures c.count_bits.ensures c.if-last-first.false)
+loop-row-preserved c = rows_more _ _ _ c.loop-row.invariant c.loop-row-test.true (counts_same _ _ _ _ _ _ c.requires.fact_1 _ c.loop-row-test.true _ _ c.requires.fact_2 (small_is _ (λ j. (c.shared_slice_known-3-1.given j).fits)) _ _ _ _ _ refl refl refl refl c.count_bits.ensures c.if-last-first.false)
 
 pub returns : goal.returns
 unfolding value_rules

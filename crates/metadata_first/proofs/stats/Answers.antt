@@ -1,30 +1,25 @@
 -- `metadata_first::stats` meets its contract. Assumes nothing.
 use native.Mathlib.Omega.{arith}
-use Rattle.hybit_core.proofs.AnswerLaws.{outcomes}
 use Rattle.metadata_first.proofs.CallLaws.{checked, stats_given}
-use borrow.Author.Rules.{rules}
 use Rattle.metadata_first.proofs.stats.Goals as goal
 
-pub returns-in-Refused : goal.returns-in-Refused
-returns-in-Refused c = search (outcomes, rules)
-
 pub overflow_add-result : goal.overflow_add-result
-overflow_add-result c = let k = checked _ _ c.check-v.ensures c.in_default.is in omega (arith, k.words_facts.rows_in)
+overflow_add-result c = let k = checked _ _ c.check.ensures c.in_ok-check.was in omega (arith, k.words_facts.rows_in)
 
 pub overflow_mul-result : goal.overflow_mul-result
-overflow_mul-result c = let k = checked _ _ c.check-v.ensures c.in_default.is in omega (arith, k.words_facts.rows_in)
+overflow_mul-result c = let k = checked _ _ c.check.ensures c.in_ok-check.was in omega (arith, k.words_facts.rows_in)
 
 pub overflow_mul-result-2 : goal.overflow_mul-result-2
-overflow_mul-result-2 c = let k = checked _ _ c.check-v.ensures c.in_default.is in omega (arith, k.words_facts.words_in)
+overflow_mul-result-2 c = let k = checked _ _ c.check.ensures c.in_ok-check.was in omega (arith, k.words_facts.words_in)
 
 pub overflow_add-result-2 : goal.overflow_add-result-2
-overflow_add-result-2 c = let k = checked _ _ c.check-v.ensures c.in_default.is in omega (arith, k.words_facts.rows_in, k.words_facts.words_in)
+overflow_add-result-2 c = let k = checked _ _ c.check.ensures c.in_ok-check.was in omega (arith, k.words_facts.rows_in, k.words_facts.words_in)
 
 pub overflow_mul-result-3 : goal.overflow_mul-result-3
-overflow_mul-result-3 c = let k = checked _ _ c.check-v.ensures c.in_default.is in omega (arith, k.words_facts.rows_in, k.frame.long)
+overflow_mul-result-3 c = let k = checked _ _ c.check.ensures c.in_ok-check.was in omega (arith, k.words_facts.rows_in, k.frame.long)
 
 pub overflow_mul-result-4 : goal.overflow_mul-result-4
-overflow_mul-result-4 c = let k = checked _ _ c.check-v.ensures c.in_default.is in omega (arith, k.values_in)
+overflow_mul-result-4 c = let k = checked _ _ c.check.ensures c.in_ok-check.was in omega (arith, k.values_in)
 
 pub returns : goal.returns
-returns c = stats_given _ _ c.check-v.ensures c.in_default.is
+returns c = stats_given _ _ c.check.ensures c.in_ok-check.was

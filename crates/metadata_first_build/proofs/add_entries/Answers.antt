@@ -1,4 +1,5 @@
 -- `metadata_first_build::add_entries` meets its contract. Assumes nothing.
+use mathlib.Core.Path.{refl}
 use Prim.Native.Nat.{◌-◌}
 use native.Mathlib.Omega.{arith}
 use Rattle.metadata_first_build.proofs.AddLaws.{adding_none, adding_same, adding_done, adding_bits, adding_starts, adding_fits, adding_place, adding_more}
@@ -9,40 +10,40 @@ pub loop-k-init : goal.loop-k-init
 loop-k-init c = adding_none _ _ _ _ c.requires.fact_4
 
 pub offset_bounds-starts-index : goal.offset_bounds-starts-index
-offset_bounds-starts-index c = let h = adding_starts _ _ _ _ _ c.loop-k.invariant _ _ c.requires.fact_3 c.requires.fact_1.1 c.requires.fact_2 c.loop-k-test.true _ c.wide-c.ensures in
+offset_bounds-starts-index c = let h = adding_starts _ _ _ _ _ c.loop-k.invariant _ _ c.requires.fact_3 c.requires.fact_1.1 c.requires.fact_2 c.loop-k-test.true _ refl in
     search rules
 
 pub bounds-starts-index : goal.bounds-starts-index
-bounds-starts-index c = adding_starts _ _ _ _ _ c.loop-k.invariant _ _ c.requires.fact_3 c.requires.fact_1.1 c.requires.fact_2 c.loop-k-test.true _ c.wide-c.ensures
+bounds-starts-index c = adding_starts _ _ _ _ _ c.loop-k.invariant _ _ c.requires.fact_3 c.requires.fact_1.1 c.requires.fact_2 c.loop-k-test.true _ refl
 
 pub offset_bounds-bits-index : goal.offset_bounds-bits-index
-offset_bounds-bits-index c = let h = adding_bits _ _ _ _ _ c.loop-k.invariant _ _ c.requires.fact_3 c.requires.fact_1.1 c.requires.fact_2 c.loop-k-test.true _ c.wide-c.ensures in
+offset_bounds-bits-index c = let h = adding_bits _ _ _ _ _ c.loop-k.invariant _ _ c.requires.fact_3 c.requires.fact_1.1 c.requires.fact_2 c.loop-k-test.true _ refl in
     search rules
 
 pub bounds-bits-index : goal.bounds-bits-index
-bounds-bits-index c = adding_bits _ _ _ _ _ c.loop-k.invariant _ _ c.requires.fact_3 c.requires.fact_1.1 c.requires.fact_2 c.loop-k-test.true _ c.wide-c.ensures
+bounds-bits-index c = adding_bits _ _ _ _ _ c.loop-k.invariant _ _ c.requires.fact_3 c.requires.fact_1.1 c.requires.fact_2 c.loop-k-test.true _ refl
 
 pub overflow_add-place : goal.overflow_add-place
-overflow_add-place c = omega (arith, adding_fits _ _ _ _ _ c.loop-k.invariant _ _ c.requires.fact_3 c.requires.fact_1.1 c.requires.fact_2 c.loop-k-test.true _ c.wide-c.ensures _ _ c.wide.ensures c.ones_below.ensures, c.requires.fact_1.0)
+overflow_add-place c = omega (arith, adding_fits _ _ _ _ _ c.loop-k.invariant _ _ c.requires.fact_3 c.requires.fact_1.1 c.requires.fact_2 c.loop-k-test.true _ refl _ _ refl c.ones_below.ensures, c.requires.fact_1.0)
 
 pub offset_bounds-out-place : goal.offset_bounds-out-place
-offset_bounds-out-place c = let h = adding_fits _ _ _ _ _ c.loop-k.invariant _ _ c.requires.fact_3 c.requires.fact_1.1 c.requires.fact_2 c.loop-k-test.true _ c.wide-c.ensures _ _ c.wide.ensures c.ones_below.ensures in
+offset_bounds-out-place c = let h = adding_fits _ _ _ _ _ c.loop-k.invariant _ _ c.requires.fact_3 c.requires.fact_1.1 c.requires.fact_2 c.loop-k-test.true _ refl _ _ refl c.ones_below.ensures in
     let k = c.requires.fact_1.0 in
     search rules
 
 pub bounds-out-place : goal.bounds-out-place
-bounds-out-place c = adding_place _ _ _ _ _ c.loop-k.invariant _ _ c.requires.fact_3 c.requires.fact_1.1 c.requires.fact_2 c.loop-k-test.true _ c.wide-c.ensures _ _ c.wide.ensures c.ones_below.ensures
+bounds-out-place c = adding_place _ _ _ _ _ c.loop-k.invariant _ _ c.requires.fact_3 c.requires.fact_1.1 c.requires.fact_2 c.loop-k-test.true _ refl _ _ refl c.ones_below.ensures
 
 pub offset_bounds-out-place-in-loop-k : goal.offset_bounds-out-place-in-loop-k
-offset_bounds-out-place-in-loop-k c = let h = adding_fits _ _ _ _ _ c.loop-k.invariant _ _ c.requires.fact_3 c.requires.fact_1.1 c.requires.fact_2 c.loop-k-test.true _ c.wide-c.ensures _ _ c.wide.ensures c.ones_below.ensures in
+offset_bounds-out-place-in-loop-k c = let h = adding_fits _ _ _ _ _ c.loop-k.invariant _ _ c.requires.fact_3 c.requires.fact_1.1 c.requires.fact_2 c.loop-k-test.true _ refl _ _ refl c.ones_below.ensures in
     let k = c.requires.fact_1.0 in
     search rules
 
 pub bounds-out-place-in-loop-k : goal.bounds-out-place-in-loop-k
-bounds-out-place-in-loop-k c = adding_place _ _ _ _ _ c.loop-k.invariant _ _ c.requires.fact_3 c.requires.fact_1.1 c.requires.fact_2 c.loop-k-test.true _ c.wide-c.ensures _ _ c.wide.ensures c.ones_below.ensures
+bounds-out-place-in-loop-k c = adding_place _ _ _ _ _ c.loop-k.invariant _ _ c.requires.fact_3 c.requires.fact_1.1 c.requires.fact_2 c.loop-k-test.true _ refl _ _ refl c.ones_below.ensures
 
 pub loop-k-preserved : goal.loop-k-preserved
-loop-k-preserved c = adding_more _ _ _ _ _ c.loop-k.invariant _ _ c.requires.fact_3 c.requires.fact_1.1 c.requires.fact_2 c.loop-k-test.true _ c.wide-c.ensures _ _ c.wide.ensures c.ones_below.ensures
+loop-k-preserved c = adding_more _ _ _ _ _ c.loop-k.invariant _ _ c.requires.fact_3 c.requires.fact_1.1 c.requires.fact_2 c.loop-k-test.true _ refl _ _ refl c.ones_below.ensures
 
 pub shape_of-out : goal.shape_of-out
 shape_of-out c = adding_same _ _ _ _ _ c.loop-k.invariant _ c.requires.fact_4

@@ -26,28 +26,28 @@ pub returns-in_default : goal.returns-in_default
 returns-in_default c = let rest = pack_refused _ _ _ _ _ _ (no_words _ _ _ _ _ _ _ c.from_csr32-t.ensures.answer _ c.in_default.is) _ _ _ _ _ _ _ _ _ _ _ c.refusal.ensures c.clear_all.ensures.pointers c.clear_all.ensures.numbers c.clear_all.ensures.bits c.clear_all.ensures.starts c.clear_all.ensures.values (search rules) (search rules) (search rules) (search rules) (search rules) in record { answer = rest.0; pointers = rest.1.0; numbers = rest.1.1.0; bits = rest.1.1.1.0; starts = rest.1.1.1.1.0; values = rest.1.1.1.1.1 }
 
 pub overflow_add-nrows : goal.overflow_add-nrows
-overflow_add-nrows c = let u = used _ _ _ _ _ c.from_csr32-t.ensures.answer _ _ c.in-Built.is in omega (arith, u.rows_in)
+overflow_add-nrows c = let u = used _ _ _ _ _ c.from_csr32-t.ensures.answer _ _ c.in-Ok.is in omega (arith, u.rows_in)
 
 pub slice_bounds-fill_values-end : goal.slice_bounds-fill_values-end
-slice_bounds-fill_values-end c = let u = used _ _ _ _ _ c.from_csr32-t.ensures.answer _ _ c.in-Built.is in omega (arith, u.ptr_in, c.from_csr32-t.auto.row_word_ptr)
+slice_bounds-fill_values-end c = let u = used _ _ _ _ _ c.from_csr32-t.ensures.answer _ _ c.in-Ok.is in omega (arith, u.ptr_in, c.from_csr32-t.auto.row_word_ptr)
 
 pub slice_bounds-fill_values-end-2 : goal.slice_bounds-fill_values-end-2
-slice_bounds-fill_values-end-2 c = let u = used _ _ _ _ _ c.from_csr32-t.ensures.answer _ _ c.in-Built.is in simp length-take (omega (arith, u.ptr_in, c.from_csr32-t.auto.row_word_ptr))
+slice_bounds-fill_values-end-2 c = let u = used _ _ _ _ _ c.from_csr32-t.ensures.answer _ _ c.in-Ok.is in simp length-take (omega (arith, u.ptr_in, c.from_csr32-t.auto.row_word_ptr))
 
 pub slice_bounds-fill_values-end-3 : goal.slice_bounds-fill_values-end-3
-slice_bounds-fill_values-end-3 c = let u = used _ _ _ _ _ c.from_csr32-t.ensures.answer _ _ c.in-Built.is in omega (arith, u.word_in, c.from_csr32-t.auto.word_indices)
+slice_bounds-fill_values-end-3 c = let u = used _ _ _ _ _ c.from_csr32-t.ensures.answer _ _ c.in-Ok.is in omega (arith, u.word_in, c.from_csr32-t.auto.word_indices)
 
 pub slice_bounds-fill_values-end-4 : goal.slice_bounds-fill_values-end-4
-slice_bounds-fill_values-end-4 c = let u = used _ _ _ _ _ c.from_csr32-t.ensures.answer _ _ c.in-Built.is in simp length-take (omega (arith, u.word_in, c.from_csr32-t.auto.word_indices))
+slice_bounds-fill_values-end-4 c = let u = used _ _ _ _ _ c.from_csr32-t.ensures.answer _ _ c.in-Ok.is in simp length-take (omega (arith, u.word_in, c.from_csr32-t.auto.word_indices))
 
 pub slice_bounds-fill_values-end-5 : goal.slice_bounds-fill_values-end-5
-slice_bounds-fill_values-end-5 c = let u = used _ _ _ _ _ c.from_csr32-t.ensures.answer _ _ c.in-Built.is in omega (arith, u.mask_in, c.from_csr32-t.auto.masks)
+slice_bounds-fill_values-end-5 c = let u = used _ _ _ _ _ c.from_csr32-t.ensures.answer _ _ c.in-Ok.is in omega (arith, u.mask_in, c.from_csr32-t.auto.masks)
 
 pub slice_bounds-fill_values-end-6 : goal.slice_bounds-fill_values-end-6
-slice_bounds-fill_values-end-6 c = let u = used _ _ _ _ _ c.from_csr32-t.ensures.answer _ _ c.in-Built.is in simp length-take (omega (arith, u.mask_in, c.from_csr32-t.auto.masks))
+slice_bounds-fill_values-end-6 c = let u = used _ _ _ _ _ c.from_csr32-t.ensures.answer _ _ c.in-Ok.is in simp length-take (omega (arith, u.mask_in, c.from_csr32-t.auto.masks))
 
 pub fill_values-requires : goal.fill_values-requires
-fill_values-requires c = record { fact_1 = pack_source _ _ _ _ _ c.from_csr32-t.ensures.answer _ _ c.in-Built.is _ _ _ c.from_csr32-t.ensures.pointers c.from_csr32-t.ensures.numbers c.from_csr32-t.ensures.bits; fact_2 = values_many _ _ _ _ _ c.from_csr32-t.ensures.answer _ _ c.in-Built.is }
+fill_values-requires c = record { fact_1 = pack_source _ _ _ _ _ c.from_csr32-t.ensures.answer _ _ c.in-Ok.is _ _ _ c.from_csr32-t.ensures.pointers c.from_csr32-t.ensures.numbers c.from_csr32-t.ensures.bits; fact_2 = values_many _ _ _ _ _ c.from_csr32-t.ensures.answer _ _ c.in-Ok.is }
 
 pub shape_of-row_word_ptr-then-not-fill_values : goal.shape_of-row_word_ptr-then-not-fill_values
 shape_of-row_word_ptr-then-not-fill_values c = c.clear_all-then-not-fill_values.auto.row_word_ptr ∙ c.from_csr32-t.auto.row_word_ptr
@@ -65,7 +65,7 @@ pub shape_of-packed-then-not-fill_values : goal.shape_of-packed-then-not-fill_va
 shape_of-packed-then-not-fill_values c = c.clear_all-then-not-fill_values.auto.packed ∙ c.fill_values.auto.packed
 
 pub returns-then-not-fill_values : goal.returns-then-not-fill_values
-returns-then-not-fill_values c = let rest = pack_refused _ _ _ _ _ _ (no_values_written _ _ _ _ _ _ _ c.from_csr32-t.ensures.answer _ _ c.in-Built.is _ _ _ c.fill_values.ensures (ap not c.if-not-fill_values.true)) _ _ _ _ _ _ _ _ _ _ _ c.refusal-then-not-fill_values.ensures c.clear_all-then-not-fill_values.ensures.pointers c.clear_all-then-not-fill_values.ensures.numbers c.clear_all-then-not-fill_values.ensures.bits c.clear_all-then-not-fill_values.ensures.starts c.clear_all-then-not-fill_values.ensures.values c.from_csr32-t.auto.row_word_ptr c.from_csr32-t.auto.word_indices c.from_csr32-t.auto.masks (search rules) (search rules) in record { answer = rest.0; pointers = rest.1.0; numbers = rest.1.1.0; bits = rest.1.1.1.0; starts = rest.1.1.1.1.0; values = rest.1.1.1.1.1 }
+returns-then-not-fill_values c = let rest = pack_refused _ _ _ _ _ _ (no_values_written _ _ _ _ _ _ _ c.from_csr32-t.ensures.answer _ _ c.in-Ok.is _ _ _ c.fill_values.ensures (ap not c.if-not-fill_values.true)) _ _ _ _ _ _ _ _ _ _ _ c.refusal-then-not-fill_values.ensures c.clear_all-then-not-fill_values.ensures.pointers c.clear_all-then-not-fill_values.ensures.numbers c.clear_all-then-not-fill_values.ensures.bits c.clear_all-then-not-fill_values.ensures.starts c.clear_all-then-not-fill_values.ensures.values c.from_csr32-t.auto.row_word_ptr c.from_csr32-t.auto.word_indices c.from_csr32-t.auto.masks (search rules) (search rules) in record { answer = rest.0; pointers = rest.1.0; numbers = rest.1.1.0; bits = rest.1.1.1.0; starts = rest.1.1.1.1.0; values = rest.1.1.1.1.1 }
 
 pub shape_of-row_word_ptr : goal.shape_of-row_word_ptr
 shape_of-row_word_ptr c = c.from_csr32-t.auto.row_word_ptr
@@ -83,4 +83,4 @@ pub shape_of-packed : goal.shape_of-packed
 shape_of-packed c = c.fill_values.auto.packed
 
 pub returns : goal.returns
-returns c = let rest = pack_built _ _ _ _ _ _ _ c.from_csr32-t.ensures.answer _ _ c.in-Built.is _ _ _ c.fill_values.ensures (ap not c.if-not-fill_values.false) _ _ _ c.from_csr32-t.ensures.pointers c.from_csr32-t.ensures.numbers c.from_csr32-t.ensures.bits in record { answer = rest.0; pointers = rest.1.0; numbers = rest.1.1.0; bits = rest.1.1.1.0; starts = rest.1.1.1.1.0; values = rest.1.1.1.1.1 }
+returns c = let rest = pack_built _ _ _ _ _ _ _ c.from_csr32-t.ensures.answer _ _ c.in-Ok.is _ _ _ c.fill_values.ensures (ap not c.if-not-fill_values.false) _ _ _ c.from_csr32-t.ensures.pointers c.from_csr32-t.ensures.numbers c.from_csr32-t.ensures.bits in record { answer = rest.0; pointers = rest.1.0; numbers = rest.1.1.0; bits = rest.1.1.1.0; starts = rest.1.1.1.1.0; values = rest.1.1.1.1.1 }

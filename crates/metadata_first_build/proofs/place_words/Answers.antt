@@ -1,4 +1,5 @@
 -- `metadata_first_build::place_words` meets its contract. Assumes nothing.
+use mathlib.Core.Path.{refl}
 use Prim.Native.Nat.{◌-◌}
 use native.Mathlib.Omega.{arith}
 use Rattle.metadata_first_build.proofs.PlaceLaws.{placing_none, placing_word, placing_fits, placing_more, placing_done, word_read, words_read}
@@ -9,29 +10,29 @@ pub loop-i-init : goal.loop-i-init
 loop-i-init c = placing_none _ _ _ _
 
 pub offset_bounds-bits-index : goal.offset_bounds-bits-index
-offset_bounds-bits-index c = let x = word_read _ _ _ c.requires.fact_2 c.requires.fact_3 (λ j. (c.shared_slice_known-2-1.given j).fits) _ _ c.loop-i-test.true c.wide-index.ensures in
+offset_bounds-bits-index c = let x = word_read _ _ _ c.requires.fact_2 c.requires.fact_3 (λ j. (c.shared_slice_known-2-1.given j).fits) _ _ c.loop-i-test.true refl in
     let h = placing_word _ _ _ _ _ _ _ _ c.loop-i.invariant _ _ x _ c.requires.fact_4.0 in
     search rules
 
 pub bounds-bits-index : goal.bounds-bits-index
-bounds-bits-index c = let x = word_read _ _ _ c.requires.fact_2 c.requires.fact_3 (λ j. (c.shared_slice_known-2-1.given j).fits) _ _ c.loop-i-test.true c.wide-index.ensures in
+bounds-bits-index c = let x = word_read _ _ _ c.requires.fact_2 c.requires.fact_3 (λ j. (c.shared_slice_known-2-1.given j).fits) _ _ c.loop-i-test.true refl in
     omega (arith, placing_word _ _ _ _ _ _ _ _ c.loop-i.invariant _ _ x _ c.requires.fact_4.0, c.loop-i.invariant.same_bits)
 
 pub offset_bounds-starts-index : goal.offset_bounds-starts-index
-offset_bounds-starts-index c = let x = word_read _ _ _ c.requires.fact_2 c.requires.fact_3 (λ j. (c.shared_slice_known-2-1.given j).fits) _ _ c.loop-i-test.true c.wide-index.ensures in
+offset_bounds-starts-index c = let x = word_read _ _ _ c.requires.fact_2 c.requires.fact_3 (λ j. (c.shared_slice_known-2-1.given j).fits) _ _ c.loop-i-test.true refl in
     let h = placing_word _ _ _ _ _ _ _ _ c.loop-i.invariant _ _ x _ c.requires.fact_4.1 in
     search rules
 
 pub bounds-starts-index : goal.bounds-starts-index
-bounds-starts-index c = let x = word_read _ _ _ c.requires.fact_2 c.requires.fact_3 (λ j. (c.shared_slice_known-2-1.given j).fits) _ _ c.loop-i-test.true c.wide-index.ensures in
+bounds-starts-index c = let x = word_read _ _ _ c.requires.fact_2 c.requires.fact_3 (λ j. (c.shared_slice_known-2-1.given j).fits) _ _ c.loop-i-test.true refl in
     omega (arith, placing_word _ _ _ _ _ _ _ _ c.loop-i.invariant _ _ x _ c.requires.fact_4.1, c.loop-i.invariant.same_starts)
 
 pub overflow_add-place : goal.overflow_add-place
-overflow_add-place c = let x = word_read _ _ _ c.requires.fact_2 c.requires.fact_3 (λ j. (c.shared_slice_known-2-1.given j).fits) _ _ c.loop-i-test.true c.wide-index.ensures in
+overflow_add-place c = let x = word_read _ _ _ c.requires.fact_2 c.requires.fact_3 (λ j. (c.shared_slice_known-2-1.given j).fits) _ _ c.loop-i-test.true refl in
     omega (arith, placing_fits _ _ _ _ _ _ _ _ c.loop-i.invariant _ _ x, c.popcount-place.ensures, c.requires.fact_1)
 
 pub loop-i-preserved : goal.loop-i-preserved
-loop-i-preserved c = let x = word_read _ _ _ c.requires.fact_2 c.requires.fact_3 (λ j. (c.shared_slice_known-2-1.given j).fits) _ _ c.loop-i-test.true c.wide-index.ensures in
+loop-i-preserved c = let x = word_read _ _ _ c.requires.fact_2 c.requires.fact_3 (λ j. (c.shared_slice_known-2-1.given j).fits) _ _ c.loop-i-test.true refl in
     rw c.popcount-place.ensures (placing_more _ _ _ _ _ _ _ _ c.loop-i.invariant _ _ x _ c.requires.fact_1 c.narrow.ensures c.requires.fact_4.0 c.requires.fact_4.1)
 
 pub shape_of-bits : goal.shape_of-bits

@@ -6,10 +6,10 @@ use Rattle.lent.proofs.LentLaws.{built_refused, built_accepted}
 use Rattle.metadata_first_dot.proofs.CallLaws.{rows_operands, sums_room, counts_room, sums_built, counts_built}
 use Rattle.metadata_first_dot.proofs.sparse_dot_rows.Goals as goal
 
-pub returns-in-Refused : goal.returns-in-Refused
-returns-in-Refused c = let e = c.examine_rows-v.ensures in
-    let r = c.in-Refused.is in
-    record { answer = answer_refused _ _ _ e r; sums = built_refused _ _ _ _ _ _ _ e r c.clear_from_f64.ensures; counts = built_refused _ _ _ _ _ _ _ e r c.clear_from_u32.ensures }
+pub returns-in-Err : goal.returns-in-Err
+returns-in-Err c = let e = c.examine_rows-v.ensures in
+    let r = c.in-Err.is in
+    record { answer = answer_refused _ _ _ e r; sums = built_refused _ _ _ _ _ _ _ e r c.clear_from.ensures; counts = built_refused _ _ _ _ _ _ _ e r c.clear_from-in-Err.ensures }
 
 pub slice_bounds-fill_rows-end : goal.slice_bounds-fill_rows-end
 slice_bounds-fill_rows-end c = let h = sums_room _ _ _ _ c.in_default.is _ _ c.examine_rows-v.ensures in
@@ -35,4 +35,4 @@ fill_rows-requires c = let h = sums_room _ _ _ _ c.in_default.is _ _ c.examine_r
 pub returns : goal.returns
 returns c = let e = c.examine_rows-v.ensures in
     let r = c.in_default.is in
-    record { answer = answer_accepted _ _ e r; sums = built_accepted _ _ _ _ _ _ e r (sums_built _ _ _ _ _ _ c.fill_rows.ensures.sums (sums_room _ _ _ _ c.in_default.is _ _ c.examine_rows-v.ensures) c.clear_from_f64-2.ensures); counts = built_accepted _ _ _ _ _ _ e r (counts_built _ _ _ _ _ _ c.fill_rows.ensures.counts (counts_room _ _ _ _ c.in_default.is _ _ c.examine_rows-v.ensures) c.clear_from_u32-2.ensures) }
+    record { answer = answer_accepted _ _ e r; sums = built_accepted _ _ _ _ _ _ e r (sums_built _ _ _ _ _ _ c.fill_rows.ensures.sums (sums_room _ _ _ _ c.in_default.is _ _ c.examine_rows-v.ensures) c.clear_from-2.ensures); counts = built_accepted _ _ _ _ _ _ e r (counts_built _ _ _ _ _ _ c.fill_rows.ensures.counts (counts_room _ _ _ _ c.in_default.is _ _ c.examine_rows-v.ensures) c.clear_from-3.ensures) }

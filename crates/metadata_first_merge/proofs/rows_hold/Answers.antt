@@ -50,14 +50,14 @@ slice_bounds-row_holds-end-in-loop-row c = let i = row_of_values (valid _ c.requ
 
 pub row_holds-requires : goal.row_holds-requires
 row_holds-requires c = let v = valid _ c.requires.fact_1 in
-    let r = row_lent v c.loop-row.row _ _ c.args.ncols c.wide-start.ensures c.wide-end.ensures refl in
+    let r = row_lent v c.loop-row.row _ _ c.args.ncols refl refl refl in
     record { fact_1 = (v.cols_in, omega (arith, c.requires.fact_2), omega (arith, c.requires.fact_2)); fact_2 = r.0; fact_3 = r.1; fact_4 = zeros_as c.loop-row.sums _ _ c.loop-row.invariant.2 (sym c.loop-row.invariant.1) }
 
 pub returns-then-not-row_holds : goal.returns-then-not-row_holds
-returns-then-not-row_holds c = rows_fails (as_csr c.args.nrows c.args.ncols c.args.row_ptr.now c.args.col_idx.now c.args.values.now) c.loop-row.row _ _ c.wide-start.ensures c.wide-end.ensures _ c.row_holds.ensures.answer (omega arith) (ap not c.if-not-row_holds.true)
+returns-then-not-row_holds c = rows_fails (as_csr c.args.nrows c.args.ncols c.args.row_ptr.now c.args.col_idx.now c.args.values.now) c.loop-row.row _ _ refl refl _ c.row_holds.ensures.answer (omega arith) (ap not c.if-not-row_holds.true)
 
 pub loop-row-preserved : goal.loop-row-preserved
-loop-row-preserved c = (omega arith, c.row_holds.auto.sums ∙ c.loop-row.invariant.1, zeros_as _ _ _ c.row_holds.ensures.window c.loop-row.invariant.1, rows_more (as_csr c.args.nrows c.args.ncols c.args.row_ptr.now c.args.col_idx.now c.args.values.now) c.loop-row.row _ _ c.wide-start.ensures c.wide-end.ensures _ c.row_holds.ensures.answer c.loop-row.invariant.3 (ap not c.if-not-row_holds.false))
+loop-row-preserved c = (omega arith, c.row_holds.auto.sums ∙ c.loop-row.invariant.1, zeros_as _ _ _ c.row_holds.ensures.window c.loop-row.invariant.1, rows_more (as_csr c.args.nrows c.args.ncols c.args.row_ptr.now c.args.col_idx.now c.args.values.now) c.loop-row.row _ _ refl refl _ c.row_holds.ensures.answer c.loop-row.invariant.3 (ap not c.if-not-row_holds.false))
 
 pub returns : goal.returns
 returns c = rows_done _ c.loop-row.row c.loop-row.invariant.3 c.loop-row.invariant.0 (omega arith)

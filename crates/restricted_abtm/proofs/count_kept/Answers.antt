@@ -1,5 +1,4 @@
 -- `restricted_abtm::count_kept` meets its contract. Assumes nothing.
-use mathlib.Core.Path.{◌∙◌}
 use Prim.Native.Nat.{◌-◌}
 use native.Mathlib.Omega.{arith}
 use Rattle.restricted_abtm.proofs.KeptLaws.{counted_none, counted_word, counted-few, counted_more, counted_done}
@@ -9,16 +8,16 @@ pub loop-k-init : goal.loop-k-init
 loop-k-init c = counted_none _ _ _
 
 pub offset_bounds-mask-word : goal.offset_bounds-mask-word
-offset_bounds-mask-word c = omega (arith, counted_word _ _ _ c.requires.fact_2 _ _ c.loop-k.invariant (omega arith) _ (c.wide-word.ensures ∙ c.word_in.ensures) c.requires.fact_3)
+offset_bounds-mask-word c = omega (arith, counted_word _ _ _ c.requires.fact_2 _ _ c.loop-k.invariant (omega arith) _ (c.word_in-word.ensures) c.requires.fact_3)
 
 pub bounds-mask-word : goal.bounds-mask-word
-bounds-mask-word c = counted_word _ _ _ c.requires.fact_2 _ _ c.loop-k.invariant (omega arith) _ (c.wide-word.ensures ∙ c.word_in.ensures) c.requires.fact_3
+bounds-mask-word c = counted_word _ _ _ c.requires.fact_2 _ _ c.loop-k.invariant (omega arith) _ (c.word_in-word.ensures) c.requires.fact_3
 
 pub overflow_add-kept : goal.overflow_add-kept
-overflow_add-kept c = omega (arith, c.loop-k.invariant.few, counted-few c.args.masks.now c.args.metas.now c.args.mask.now c.requires.fact_2 _ _ c.loop-k.invariant (omega arith) _ (c.wide-word.ensures ∙ c.word_in.ensures) _ _ c.intersection.ensures c.popcount-kept.ensures)
+overflow_add-kept c = omega (arith, c.loop-k.invariant.few, counted-few c.args.masks.now c.args.metas.now c.args.mask.now c.requires.fact_2 _ _ c.loop-k.invariant (omega arith) _ (c.word_in-word.ensures) _ _ c.intersection.ensures c.popcount-kept.ensures)
 
 pub loop-k-preserved : goal.loop-k-preserved
-loop-k-preserved c = counted_more _ _ _ c.requires.fact_2 _ _ c.loop-k.invariant (omega arith) _ (c.wide-word.ensures ∙ c.word_in.ensures) _ _ c.intersection.ensures c.popcount-kept.ensures
+loop-k-preserved c = counted_more _ _ _ c.requires.fact_2 _ _ c.loop-k.invariant (omega arith) _ (c.word_in-word.ensures) _ _ c.intersection.ensures c.popcount-kept.ensures
 
 pub returns : goal.returns
 returns c = counted_done _ _ _ c.requires.fact_2 _ _ c.loop-k.invariant (omega arith)

@@ -8,18 +8,18 @@ use Rattle.restricted_abtm.proofs.FillLaws.{rows_few}
 use Rattle.restricted_abtm.proofs.CallLaws.{records_refuse, last_decides, wiped, restriction_is}
 use Rattle.restricted_abtm.proofs.from_abtm.Goals as goal
 
-pub returns-in-Refused : goal.returns-in-Refused
-returns-in-Refused c = let no = c.in-Refused.is in
+pub returns-in-Err : goal.returns-in-Err
+returns-in-Err c = let no = c.in-Err.is in
     let said = records_refuse _ _ _ _ _ c.examine-v.ensures no in
     record { answer = given_refused _ _ _ _ said no; pointers = built_refused _ _ _ _ _ _ _ said no c.clear_lists.ensures.pointers; columns = built_refused _ _ _ _ _ _ _ said no c.clear_lists.ensures.columns; values = built_refused _ _ _ _ _ _ _ said no c.clear_lists.ensures.values }
 
 pub fill-f-requires : goal.fill-f-requires
 fill-f-requires c = accepted_by _ _ c.examine-v.ensures c.in_default.is
 
-pub returns-in-Refused-w : goal.returns-in-Refused-w
-returns-in-Refused-w c = let no = c.in-Refused-w.is in
+pub returns-in-Err-w : goal.returns-in-Err-w
+returns-in-Err-w c = let no = c.in-Err-w.is in
     let said = last_decides _ _ _ _ c.fill-f.result.verdict c.examine-v.ensures c.in_default.is c.fill-f.ensures.answer in
-    record { answer = given_refused _ _ _ _ said no; pointers = built_refused _ _ _ _ _ _ _ said no (wiped _ _ _ _ c.fill-f.auto.out_row_ptr c.clear_lists-in-Refused-w.ensures.pointers); columns = built_refused _ _ _ _ _ _ _ said no (wiped _ _ _ _ c.fill-f.auto.out_col_idx c.clear_lists-in-Refused-w.ensures.columns); values = built_refused _ _ _ _ _ _ _ said no (wiped _ _ _ _ c.fill-f.auto.out_values c.clear_lists-in-Refused-w.ensures.values) }
+    record { answer = given_refused _ _ _ _ said no; pointers = built_refused _ _ _ _ _ _ _ said no (wiped _ _ _ _ c.fill-f.auto.out_row_ptr c.clear_lists-in-Err-w.ensures.pointers); columns = built_refused _ _ _ _ _ _ _ said no (wiped _ _ _ _ c.fill-f.auto.out_col_idx c.clear_lists-in-Err-w.ensures.columns); values = built_refused _ _ _ _ _ _ _ said no (wiped _ _ _ _ c.fill-f.auto.out_values c.clear_lists-in-Err-w.ensures.values) }
 
 pub overflow_add-nrows : goal.overflow_add-nrows
 overflow_add-nrows c = omega (arith, rows_few _ _ _ (accepted_by _ _ c.examine-v.ensures c.in_default.is))

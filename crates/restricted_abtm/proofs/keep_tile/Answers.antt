@@ -1,5 +1,4 @@
 -- `restricted_abtm::keep_tile` meets its contract. Assumes nothing.
-use mathlib.Core.Path.{◌∙◌}
 use native.Mathlib.Omega.{arith}
 use Rattle.word.proofs.WalkLaws.{walk_less}
 use Rattle.restricted_abtm.proofs.BitsLaws.{keeping_none, keeping_few, keeping_column_room, keeping_value_room, keeping_low, keeping_place, keeping_more, keeping_past, kept_next, kept_columns, kept_values}
@@ -34,7 +33,7 @@ loop-rest-smaller-then-at-room c = walk_less _ c.loop-rest.invariant.fits c.loop
 
 pub loop-rest-preserved-then-at-room : goal.loop-rest-preserved-then-at-room
 loop-rest-preserved-then-at-room c = keeping_more _ _ _ _ _ _ _ _ _ _ _ _ _ c.loop-rest.invariant c.loop-rest-test.true _ c.lowest-bit.ensures _ c.without_lowest-rest.ensures c.without_lowest-rest.type_inv _ _ _ c.if-at-room.true c.requires.fact_3.0 c.requires.fact_3.1
-    (c.wide-base.ensures ∙ c.word_in.ensures) c.requires.fact_1 c.narrow.ensures c.place_in.ensures
+    (c.word_in.ensures) c.requires.fact_1 c.narrow.ensures c.place_in.ensures
 
 pub loop-rest-smaller : goal.loop-rest-smaller
 loop-rest-smaller c = walk_less _ c.loop-rest.invariant.fits c.loop-rest-test.true _ c.without_lowest-rest.ensures

@@ -1,4 +1,5 @@
 -- `restricted_csr32::count_active` meets its contract. Assumes nothing.
+use mathlib.Core.Path.{refl}
 use Prim.Native.Nat.{◌-◌}
 use native.Mathlib.Omega.{arith}
 use Rattle.restricted.proofs.KeepLaws.{counted_none, counted-le, counted_more, counted_done, byte_small}
@@ -8,10 +9,10 @@ pub loop-p-init : goal.loop-p-init
 loop-p-init c = counted_none _ _
 
 pub overflow_add-kept : goal.overflow_add-kept
-overflow_add-kept c = omega (arith, counted-le _ _ _ _ c.loop-p.invariant, byte_small c.is_member.result _ c.one_if-kept.ensures)
+overflow_add-kept c = omega (arith, counted-le _ _ _ _ c.loop-p.invariant, byte_small c.is_member.result _ c.from-kept.ensures)
 
 pub loop-p-preserved : goal.loop-p-preserved
-loop-p-preserved c = counted_more _ _ _ _ c.loop-p.invariant _ _ (omega arith) _ c.wide.ensures c.is_member.ensures c.one_if-kept.ensures
+loop-p-preserved c = counted_more _ _ _ _ c.loop-p.invariant _ _ (omega arith) _ refl c.is_member.ensures c.from-kept.ensures
 
 pub returns : goal.returns
 returns c = counted_done _ _ _ _ c.loop-p.invariant (omega arith)

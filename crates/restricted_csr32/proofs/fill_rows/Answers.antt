@@ -39,47 +39,47 @@ bounds-row_ptr-next c = let p = row_places _ _ _ c.requires c.loop-row.row c.loo
     omega arith
 
 pub offset_bounds-col_idx-start : goal.offset_bounds-col_idx-start
-offset_bounds-col_idx-start c = let p = row_places _ _ _ c.requires c.loop-row.row c.loop-row-test.true _ _ c.wide-start.ensures c.wide-end.ensures in
+offset_bounds-col_idx-start c = let p = row_places _ _ _ c.requires c.loop-row.row c.loop-row-test.true _ _ refl refl in
     omega arith
 
 pub slice_bounds-keep_row-count : goal.slice_bounds-keep_row-count
-slice_bounds-keep_row-count c = let p = row_places _ _ _ c.requires c.loop-row.row c.loop-row-test.true _ _ c.wide-start.ensures c.wide-end.ensures in
+slice_bounds-keep_row-count c = let p = row_places _ _ _ c.requires c.loop-row.row c.loop-row-test.true _ _ refl refl in
     omega arith
 
 pub slice_bounds-keep_row-start : goal.slice_bounds-keep_row-start
-slice_bounds-keep_row-start c = let p = row_places _ _ _ c.requires c.loop-row.row c.loop-row-test.true _ _ c.wide-start.ensures c.wide-end.ensures in
+slice_bounds-keep_row-start c = let p = row_places _ _ _ c.requires c.loop-row.row c.loop-row-test.true _ _ refl refl in
     omega arith
 
 pub slice_bounds-keep_row-end : goal.slice_bounds-keep_row-end
-slice_bounds-keep_row-end c = let p = row_places _ _ _ c.requires c.loop-row.row c.loop-row-test.true _ _ c.wide-start.ensures c.wide-end.ensures in
+slice_bounds-keep_row-end c = let p = row_places _ _ _ c.requires c.loop-row.row c.loop-row-test.true _ _ refl refl in
     omega arith
 
 pub offset_bounds-values-start : goal.offset_bounds-values-start
-offset_bounds-values-start c = let p = row_places _ _ _ c.requires c.loop-row.row c.loop-row-test.true _ _ c.wide-start.ensures c.wide-end.ensures in
+offset_bounds-values-start c = let p = row_places _ _ _ c.requires c.loop-row.row c.loop-row-test.true _ _ refl refl in
     omega arith
 
 pub slice_bounds-keep_row-count-in-loop-row : goal.slice_bounds-keep_row-count-in-loop-row
-slice_bounds-keep_row-count-in-loop-row c = let p = row_places _ _ _ c.requires c.loop-row.row c.loop-row-test.true _ _ c.wide-start.ensures c.wide-end.ensures in
+slice_bounds-keep_row-count-in-loop-row c = let p = row_places _ _ _ c.requires c.loop-row.row c.loop-row-test.true _ _ refl refl in
     omega arith
 
 pub slice_bounds-keep_row-start-in-loop-row : goal.slice_bounds-keep_row-start-in-loop-row
-slice_bounds-keep_row-start-in-loop-row c = let p = row_places _ _ _ c.requires c.loop-row.row c.loop-row-test.true _ _ c.wide-start.ensures c.wide-end.ensures in
+slice_bounds-keep_row-start-in-loop-row c = let p = row_places _ _ _ c.requires c.loop-row.row c.loop-row-test.true _ _ refl refl in
     omega arith
 
 pub slice_bounds-keep_row-end-in-loop-row : goal.slice_bounds-keep_row-end-in-loop-row
-slice_bounds-keep_row-end-in-loop-row c = let p = row_places _ _ _ c.requires c.loop-row.row c.loop-row-test.true _ _ c.wide-start.ensures c.wide-end.ensures in
+slice_bounds-keep_row-end-in-loop-row c = let p = row_places _ _ _ c.requires c.loop-row.row c.loop-row-test.true _ _ refl refl in
     omega arith
 
 pub keep_row-at-requires : goal.keep_row-at-requires
 keep_row-at-requires c = let f = restrict_facts _ _ _ c.requires in
-    record { fact_1 = (row_lent f.list _ _ _ _ c.wide-start.ensures c.wide-end.ensures refl).0; fact_2 = filling_column _ _ _ _ _ _ _ _ _ _ c.loop-row.invariant.1 _ f (omega arith) _ _ c.wide-start.ensures c.wide-end.ensures refl; fact_3 = filling_value _ _ _ _ _ _ _ _ _ _ c.loop-row.invariant.1 _ f (omega arith) _ _ c.wide-start.ensures c.wide-end.ensures refl }
+    record { fact_1 = (row_lent f.list _ _ _ _ refl refl refl).0; fact_2 = filling_column _ _ _ _ _ _ _ _ _ _ c.loop-row.invariant.1 _ f (omega arith) _ _ refl refl refl; fact_3 = filling_value _ _ _ _ _ _ _ _ _ _ c.loop-row.invariant.1 _ f (omega arith) _ _ refl refl refl }
 
 pub loop-row-smaller : goal.loop-row-smaller
 loop-row-smaller c = omega arith
 
 pub loop-row-preserved : goal.loop-row-preserved
 loop-row-preserved c = let f = restrict_facts _ _ _ c.requires in
-    (omega arith, filling_more _ _ _ _ _ _ _ _ _ _ c.loop-row.invariant.1 _ f (omega arith) _ _ c.wide-start.ensures c.wide-end.ensures _ c.narrow.ensures refl _ _ _ c.keep_row-at.ensures.columns c.keep_row-at.ensures.values c.keep_row-at.auto.out_col_idx c.keep_row-at.auto.out_values)
+    (omega arith, filling_more _ _ _ _ _ _ _ _ _ _ c.loop-row.invariant.1 _ f (omega arith) _ _ refl refl _ c.narrow.ensures refl _ _ _ c.keep_row-at.ensures.columns c.keep_row-at.ensures.values c.keep_row-at.auto.out_col_idx c.keep_row-at.auto.out_values)
 
 pub offset_bounds-out_row_ptr-nrows : goal.offset_bounds-out_row_ptr-nrows
 offset_bounds-out_row_ptr-nrows c = let f = restrict_facts _ _ _ c.requires in

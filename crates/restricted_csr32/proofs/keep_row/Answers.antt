@@ -9,25 +9,25 @@ pub loop-next-init : goal.loop-next-init
 loop-next-init c = keeping_none _ _ _ _ _ _ _
 
 pub offset_bounds-out_col_idx-at : goal.offset_bounds-out_col_idx-at
-offset_bounds-out_col_idx-at c = omega (arith, keeping_column _ _ _ _ _ _ _ _ _ _ _ c.loop-next.invariant c.requires.fact_1 (omega arith) _ c.wide.ensures (sym c.if-is_member.true ∙ c.is_member.ensures) c.requires.fact_2)
+offset_bounds-out_col_idx-at c = omega (arith, keeping_column _ _ _ _ _ _ _ _ _ _ _ c.loop-next.invariant c.requires.fact_1 (omega arith) _ refl (sym c.if-is_member.true ∙ c.is_member.ensures) c.requires.fact_2)
 
 pub bounds-out_col_idx-at : goal.bounds-out_col_idx-at
-bounds-out_col_idx-at c = keeping_column _ _ _ _ _ _ _ _ _ _ _ c.loop-next.invariant c.requires.fact_1 (omega arith) _ c.wide.ensures (sym c.if-is_member.true ∙ c.is_member.ensures) c.requires.fact_2
+bounds-out_col_idx-at c = keeping_column _ _ _ _ _ _ _ _ _ _ _ c.loop-next.invariant c.requires.fact_1 (omega arith) _ refl (sym c.if-is_member.true ∙ c.is_member.ensures) c.requires.fact_2
 
 pub offset_bounds-out_values-at : goal.offset_bounds-out_values-at
-offset_bounds-out_values-at c = omega (arith, keeping_value _ _ _ _ _ _ _ _ _ _ _ c.loop-next.invariant c.requires.fact_1 (omega arith) _ c.wide.ensures (sym c.if-is_member.true ∙ c.is_member.ensures) c.requires.fact_3)
+offset_bounds-out_values-at c = omega (arith, keeping_value _ _ _ _ _ _ _ _ _ _ _ c.loop-next.invariant c.requires.fact_1 (omega arith) _ refl (sym c.if-is_member.true ∙ c.is_member.ensures) c.requires.fact_3)
 
 pub bounds-out_values-at : goal.bounds-out_values-at
-bounds-out_values-at c = keeping_value _ _ _ _ _ _ _ _ _ _ _ c.loop-next.invariant c.requires.fact_1 (omega arith) _ c.wide.ensures (sym c.if-is_member.true ∙ c.is_member.ensures) c.requires.fact_3
+bounds-out_values-at c = keeping_value _ _ _ _ _ _ _ _ _ _ _ c.loop-next.invariant c.requires.fact_1 (omega arith) _ refl (sym c.if-is_member.true ∙ c.is_member.ensures) c.requires.fact_3
 
 pub overflow_add-at : goal.overflow_add-at
-overflow_add-at c = omega (arith, keeping_column _ _ _ _ _ _ _ _ _ _ _ c.loop-next.invariant c.requires.fact_1 (omega arith) _ c.wide.ensures (sym c.if-is_member.true ∙ c.is_member.ensures) c.requires.fact_2)
+overflow_add-at c = omega (arith, keeping_column _ _ _ _ _ _ _ _ _ _ _ c.loop-next.invariant c.requires.fact_1 (omega arith) _ refl (sym c.if-is_member.true ∙ c.is_member.ensures) c.requires.fact_2)
 
 pub loop-next-preserved-then-is_member : goal.loop-next-preserved-then-is_member
-loop-next-preserved-then-is_member c = keeping_more _ _ _ _ _ _ _ _ _ _ _ c.loop-next.invariant c.requires.fact_1 (omega arith) _ c.wide.ensures (sym c.if-is_member.true ∙ c.is_member.ensures) _ refl c.requires.fact_2 c.requires.fact_3
+loop-next-preserved-then-is_member c = keeping_more _ _ _ _ _ _ _ _ _ _ _ c.loop-next.invariant c.requires.fact_1 (omega arith) _ refl (sym c.if-is_member.true ∙ c.is_member.ensures) _ refl c.requires.fact_2 c.requires.fact_3
 
 pub loop-next-preserved : goal.loop-next-preserved
-loop-next-preserved c = keeping_other _ _ _ _ _ _ _ _ _ _ _ c.loop-next.invariant c.requires.fact_1 (omega arith) _ c.wide.ensures (sym c.if-is_member.false ∙ c.is_member.ensures)
+loop-next-preserved c = keeping_other _ _ _ _ _ _ _ _ _ _ _ c.loop-next.invariant c.requires.fact_1 (omega arith) _ refl (sym c.if-is_member.false ∙ c.is_member.ensures)
 
 pub shape_of-out_col_idx : goal.shape_of-out_col_idx
 shape_of-out_col_idx c = c.loop-next.invariant.long_columns

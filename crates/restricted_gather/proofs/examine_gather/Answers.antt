@@ -7,18 +7,18 @@ use Rattle.hybit_core.proofs.BoolLaws.{tests}
 use Rattle.restricted.specs.Local.{gather_answer}
 use Rattle.restricted_gather.proofs.examine_gather.Goals as goal
 
-pub returns-in-Refused : goal.returns-in-Refused
+pub returns-in_err-check : goal.returns-in_err-check
 unfolding gather_answer
-returns-in-Refused c = search (checks, tests, rules)
+returns-in_err-check c = search (checks, tests, rules)
 
 pub returns-then-global-global_size : goal.returns-then-global-global_size
 unfolding gather_answer
-returns-then-global-global_size c = call_accepted _ _ _ _ c.check-v.ensures c.in_default.is (length_wrong c.args.global_size (length c.args.global.now) _ (λ h. omega arith))
+returns-then-global-global_size c = call_accepted _ _ _ _ c.check.ensures c.in_ok-check.was (length_wrong c.args.global_size (length c.args.global.now) _ (λ h. omega arith))
 
 pub returns-then-local_len-members : goal.returns-then-local_len-members
 unfolding gather_answer
-returns-then-local_len-members c = call_accepted _ _ _ _ c.check-v.ensures c.in_default.is (length_right c.args.global_size (length c.args.global.now) _ _ (omega arith) (last_length_wrong (length c.args.members.now) c.args.local_len (λ h. omega arith)))
+returns-then-local_len-members c = call_accepted _ _ _ _ c.check.ensures c.in_ok-check.was (length_right c.args.global_size (length c.args.global.now) _ _ (omega arith) (last_length_wrong (length c.args.members.now) c.args.local_len (λ h. omega arith)))
 
 pub returns : goal.returns
 unfolding gather_answer
-returns c = call_accepted _ _ _ _ c.check-v.ensures c.in_default.is (length_right c.args.global_size (length c.args.global.now) _ _ (omega arith) (last_length_right (length c.args.members.now) c.args.local_len (omega arith)))
+returns c = call_accepted _ _ _ _ c.check.ensures c.in_ok-check.was (length_right c.args.global_size (length c.args.global.now) _ _ (omega arith) (last_length_right (length c.args.members.now) c.args.local_len (omega arith)))

@@ -16,4 +16,4 @@ pub overflow_add-rows : goal.overflow_add-rows
 overflow_add-rows c = omega (arith, members-few c.requires.fact_1 _ c.requires.fact_2)
 
 pub returns : goal.returns
-returns c = record { pointers = appended_cleared _ _ _ _ _ _ c.fill_rows-kept.ensures.pointers c.fill_rows-kept.auto.out_row_ptr c.clear_from_u32.ensures; columns = appended_cleared _ _ _ _ _ _ c.fill_rows-kept.ensures.columns c.fill_rows-kept.auto.out_col_idx c.clear_from_u32-2.ensures; values = appended_cleared _ _ _ _ _ _ c.fill_rows-kept.ensures.values c.fill_rows-kept.auto.out_values c.clear_from_f64.ensures }
+returns c = record { pointers = appended_cleared _ _ _ _ _ _ c.fill_rows-kept.ensures.pointers c.fill_rows-kept.auto.out_row_ptr c.clear_from.ensures; columns = appended_cleared _ _ _ _ _ _ c.fill_rows-kept.ensures.columns c.fill_rows-kept.auto.out_col_idx c.clear_from-2.ensures; values = appended_cleared _ _ _ _ _ _ c.fill_rows-kept.ensures.values c.fill_rows-kept.auto.out_values c.clear_from-3.ensures }

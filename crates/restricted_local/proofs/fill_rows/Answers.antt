@@ -17,52 +17,52 @@ pub bounds-out_row_ptr-i : goal.bounds-out_row_ptr-i
 bounds-out_row_ptr-i c = rowing_pointer _ _ _ _ _ c.requires.fact_1 c.requires.fact_4 _ _ _ _ _ c.loop-i.invariant.1
 
 pub offset_bounds-row_ptr-row : goal.offset_bounds-row_ptr-row
-offset_bounds-row_ptr-row c = omega (arith, rows_few c.requires.fact_1, member_row c.requires.fact_1 _ c.loop-i.i _ c.requires.fact_2 (omega arith) c.wide-row.ensures)
+offset_bounds-row_ptr-row c = omega (arith, rows_few c.requires.fact_1, member_row c.requires.fact_1 _ c.loop-i.i _ c.requires.fact_2 (omega arith) refl)
 
 pub bounds-row_ptr-row : goal.bounds-row_ptr-row
-bounds-row_ptr-row c = omega (arith, (row_at_lem c.requires.fact_1 c.wide-row.result (member_row c.requires.fact_1 _ c.loop-i.i _ c.requires.fact_2 (omega arith) c.wide-row.ensures)).here)
+bounds-row_ptr-row c = omega (arith, (row_at_lem c.requires.fact_1 _ (member_row c.requires.fact_1 _ c.loop-i.i _ c.requires.fact_2 (omega arith) refl)).here)
 
-pub overflow_add-row : goal.overflow_add-row
-overflow_add-row c = omega (arith, rows_few c.requires.fact_1, member_row c.requires.fact_1 _ c.loop-i.i _ c.requires.fact_2 (omega arith) c.wide-row.ensures)
+pub overflow_add-end : goal.overflow_add-end
+overflow_add-end c = omega (arith, rows_few c.requires.fact_1, member_row c.requires.fact_1 _ c.loop-i.i _ c.requires.fact_2 (omega arith) refl)
 
 pub offset_bounds-row_ptr-row-in-loop-i : goal.offset_bounds-row_ptr-row-in-loop-i
-offset_bounds-row_ptr-row-in-loop-i c = omega (arith, rows_few c.requires.fact_1, member_row c.requires.fact_1 _ c.loop-i.i _ c.requires.fact_2 (omega arith) c.wide-row.ensures)
+offset_bounds-row_ptr-row-in-loop-i c = omega (arith, rows_few c.requires.fact_1, member_row c.requires.fact_1 _ c.loop-i.i _ c.requires.fact_2 (omega arith) refl)
 
 pub bounds-row_ptr-row-in-loop-i : goal.bounds-row_ptr-row-in-loop-i
-bounds-row_ptr-row-in-loop-i c = omega (arith, (row_at_lem c.requires.fact_1 c.wide-row.result (member_row c.requires.fact_1 _ c.loop-i.i _ c.requires.fact_2 (omega arith) c.wide-row.ensures)).next)
+bounds-row_ptr-row-in-loop-i c = omega (arith, (row_at_lem c.requires.fact_1 _ (member_row c.requires.fact_1 _ c.loop-i.i _ c.requires.fact_2 (omega arith) refl)).next)
 
 pub offset_bounds-col_idx-start : goal.offset_bounds-col_idx-start
-offset_bounds-col_idx-start c = omega (arith, row_at_lem c.requires.fact_1 c.wide-row.result (member_row c.requires.fact_1 _ c.loop-i.i _ c.requires.fact_2 (omega arith) c.wide-row.ensures), c.wide-row.ensures, c.wide-start.ensures, c.wide-end.ensures)
+offset_bounds-col_idx-start c = omega (arith, row_at_lem c.requires.fact_1 _ (member_row c.requires.fact_1 _ c.loop-i.i _ c.requires.fact_2 (omega arith) refl))
 
 pub slice_bounds-keep_row-count : goal.slice_bounds-keep_row-count
-slice_bounds-keep_row-count c = omega (arith, row_at_lem c.requires.fact_1 c.wide-row.result (member_row c.requires.fact_1 _ c.loop-i.i _ c.requires.fact_2 (omega arith) c.wide-row.ensures), c.wide-row.ensures, c.wide-start.ensures, c.wide-end.ensures)
+slice_bounds-keep_row-count c = omega (arith, row_at_lem c.requires.fact_1 _ (member_row c.requires.fact_1 _ c.loop-i.i _ c.requires.fact_2 (omega arith) refl))
 
 pub slice_bounds-keep_row-start : goal.slice_bounds-keep_row-start
-slice_bounds-keep_row-start c = omega (arith, row_at_lem c.requires.fact_1 c.wide-row.result (member_row c.requires.fact_1 _ c.loop-i.i _ c.requires.fact_2 (omega arith) c.wide-row.ensures), c.wide-row.ensures, c.wide-start.ensures, c.wide-end.ensures)
+slice_bounds-keep_row-start c = omega (arith, row_at_lem c.requires.fact_1 _ (member_row c.requires.fact_1 _ c.loop-i.i _ c.requires.fact_2 (omega arith) refl))
 
 pub slice_bounds-keep_row-end : goal.slice_bounds-keep_row-end
-slice_bounds-keep_row-end c = omega (arith, row_at_lem c.requires.fact_1 c.wide-row.result (member_row c.requires.fact_1 _ c.loop-i.i _ c.requires.fact_2 (omega arith) c.wide-row.ensures), c.wide-row.ensures, c.wide-start.ensures, c.wide-end.ensures)
+slice_bounds-keep_row-end c = omega (arith, row_at_lem c.requires.fact_1 _ (member_row c.requires.fact_1 _ c.loop-i.i _ c.requires.fact_2 (omega arith) refl))
 
 pub offset_bounds-values-start : goal.offset_bounds-values-start
-offset_bounds-values-start c = omega (arith, row_at_values c.requires.fact_1 c.wide-row.result (member_row c.requires.fact_1 _ c.loop-i.i _ c.requires.fact_2 (omega arith) c.wide-row.ensures), c.wide-row.ensures, c.wide-start.ensures, c.wide-end.ensures)
+offset_bounds-values-start c = omega (arith, row_at_values c.requires.fact_1 _ (member_row c.requires.fact_1 _ c.loop-i.i _ c.requires.fact_2 (omega arith) refl))
 
 pub slice_bounds-keep_row-count-in-loop-i : goal.slice_bounds-keep_row-count-in-loop-i
-slice_bounds-keep_row-count-in-loop-i c = omega (arith, row_at_values c.requires.fact_1 c.wide-row.result (member_row c.requires.fact_1 _ c.loop-i.i _ c.requires.fact_2 (omega arith) c.wide-row.ensures), c.wide-row.ensures, c.wide-start.ensures, c.wide-end.ensures)
+slice_bounds-keep_row-count-in-loop-i c = omega (arith, row_at_values c.requires.fact_1 _ (member_row c.requires.fact_1 _ c.loop-i.i _ c.requires.fact_2 (omega arith) refl))
 
 pub slice_bounds-keep_row-start-in-loop-i : goal.slice_bounds-keep_row-start-in-loop-i
-slice_bounds-keep_row-start-in-loop-i c = omega (arith, row_at_values c.requires.fact_1 c.wide-row.result (member_row c.requires.fact_1 _ c.loop-i.i _ c.requires.fact_2 (omega arith) c.wide-row.ensures), c.wide-row.ensures, c.wide-start.ensures, c.wide-end.ensures)
+slice_bounds-keep_row-start-in-loop-i c = omega (arith, row_at_values c.requires.fact_1 _ (member_row c.requires.fact_1 _ c.loop-i.i _ c.requires.fact_2 (omega arith) refl))
 
 pub slice_bounds-keep_row-end-in-loop-i : goal.slice_bounds-keep_row-end-in-loop-i
-slice_bounds-keep_row-end-in-loop-i c = omega (arith, row_at_values c.requires.fact_1 c.wide-row.result (member_row c.requires.fact_1 _ c.loop-i.i _ c.requires.fact_2 (omega arith) c.wide-row.ensures), c.wide-row.ensures, c.wide-start.ensures, c.wide-end.ensures)
+slice_bounds-keep_row-end-in-loop-i c = omega (arith, row_at_values c.requires.fact_1 _ (member_row c.requires.fact_1 _ c.loop-i.i _ c.requires.fact_2 (omega arith) refl))
 
 pub keep_row-at-requires : goal.keep_row-at-requires
-keep_row-at-requires c = record { fact_1 = columns_lent c.requires.fact_1 _ _ _ c.wide-start.ensures c.wide-end.ensures; fact_2 = c.requires.fact_3; fact_3 = rowing_columns _ _ _ _ _ c.requires.fact_1 c.requires.fact_4 _ _ _ _ _ c.loop-i.invariant.1 _ _ _ _ c.requires.fact_2 (omega arith) c.wide-row.ensures c.wide-start.ensures c.wide-end.ensures; fact_4 = rowing_values _ _ _ _ _ c.requires.fact_1 c.requires.fact_4 _ _ _ _ _ c.loop-i.invariant.1 _ _ _ _ c.requires.fact_2 (omega arith) c.wide-row.ensures c.wide-start.ensures c.wide-end.ensures }
+keep_row-at-requires c = record { fact_1 = columns_lent c.requires.fact_1 _ _ _ refl refl; fact_2 = c.requires.fact_3; fact_3 = rowing_columns _ _ _ _ _ c.requires.fact_1 c.requires.fact_4 _ _ _ _ _ c.loop-i.invariant.1 _ _ _ _ c.requires.fact_2 (omega arith) refl refl refl; fact_4 = rowing_values _ _ _ _ _ c.requires.fact_1 c.requires.fact_4 _ _ _ _ _ c.loop-i.invariant.1 _ _ _ _ c.requires.fact_2 (omega arith) refl refl refl }
 
 pub overflow_add-i : goal.overflow_add-i
 overflow_add-i c = omega (arith, rowing_few _ _ _ _ _ c.requires.fact_1 c.requires.fact_4 _ _ _ _ _ c.loop-i.invariant.1)
 
 pub loop-i-preserved : goal.loop-i-preserved
-loop-i-preserved c = (c.loop-i.invariant.0, rowing_more _ _ _ _ _ c.requires.fact_1 c.requires.fact_4 _ _ _ _ _ c.loop-i.invariant.1 _ _ _ _ c.requires.fact_2 (omega arith) c.wide-row.ensures c.wide-start.ensures c.wide-end.ensures _ c.narrow.ensures _ _ _ c.keep_row-at.auto.out_col_idx c.keep_row-at.auto.out_values c.keep_row-at.ensures.columns c.keep_row-at.ensures.values)
+loop-i-preserved c = (c.loop-i.invariant.0, rowing_more _ _ _ _ _ c.requires.fact_1 c.requires.fact_4 _ _ _ _ _ c.loop-i.invariant.1 _ _ _ _ c.requires.fact_2 (omega arith) refl refl refl _ c.narrow.ensures _ _ _ c.keep_row-at.auto.out_col_idx c.keep_row-at.auto.out_values c.keep_row-at.ensures.columns c.keep_row-at.ensures.values)
 
 pub offset_bounds-out_row_ptr-nodes : goal.offset_bounds-out_row_ptr-nodes
 offset_bounds-out_row_ptr-nodes c = omega (arith, rowing_pointer _ _ _ _ _ c.requires.fact_1 c.requires.fact_4 _ _ _ _ _ c.loop-i.invariant.1)

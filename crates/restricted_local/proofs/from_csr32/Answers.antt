@@ -6,10 +6,10 @@ use Rattle.restricted_local.proofs.CountLaws.{rows_few, local_fits}
 use Rattle.restricted_local.proofs.CheckLaws.{local_accepted, built_accepts, built_answer, built_nothing, built-all, front_used}
 use Rattle.restricted_local.proofs.from_csr32.Goals as goal
 
-pub returns-in-Refused : goal.returns-in-Refused
-returns-in-Refused c = let e = c.examine-v.ensures in
-    let k = c.in-Refused.is in
-    record { answer = built_answer _ _ _ _ _ e _ k; members = built_nothing _ _ _ _ _ e _ _ _ _ _ k c.clear_from_u32.ensures; pointers = built_nothing _ _ _ _ _ e _ _ _ _ _ k c.clear_from_u32-in-Refused.ensures; columns = built_nothing _ _ _ _ _ e _ _ _ _ _ k c.clear_from_u32-in-Refused-2.ensures; values = built_nothing _ _ _ _ _ e _ _ _ _ _ k c.clear_from_f64.ensures }
+pub returns-in-Err : goal.returns-in-Err
+returns-in-Err c = let e = c.examine-v.ensures in
+    let k = c.in-Err.is in
+    record { answer = built_answer _ _ _ _ _ e _ k; members = built_nothing _ _ _ _ _ e _ _ _ _ _ k c.clear_from.ensures; pointers = built_nothing _ _ _ _ _ e _ _ _ _ _ k c.clear_from-in-Err.ensures; columns = built_nothing _ _ _ _ _ e _ _ _ _ _ k c.clear_from-in-Err-2.ensures; values = built_nothing _ _ _ _ _ e _ _ _ _ _ k c.clear_from-in-Err-3.ensures }
 
 pub write_members-nodes-requires : goal.write_members-nodes-requires
 write_members-nodes-requires c = let ok = built_accepts _ _ _ _ _ c.examine-v.ensures _ c.in_default.is in

@@ -1,6 +1,6 @@
 -- `restricted_local::keep_row` meets its contract. Assumes nothing.
+use mathlib.Core.Path.{refl, ◌∙◌, sym, ap}
 use mathlib.Core.List.{zip}
-use mathlib.Core.Path.{◌∙◌, sym, ap}
 use Prim.Native.Nat.{◌-◌}
 use native.Mathlib.Omega.{arith}
 use Rattle.csr32.specs.Made.{entries_in}
@@ -15,28 +15,28 @@ pub loop-next-init : goal.loop-next-init
 loop-next-init c = keeping_none _ _ _ _ _ _ _
 
 pub local_number-requires : goal.local_number-requires
-local_number-requires c = record { fact_1 = c.requires.fact_2; fact_2 = column_below _ _ _ _ c.requires.fact_1.1 (omega arith) c.wide-c.ensures }
+local_number-requires c = record { fact_1 = c.requires.fact_2; fact_2 = column_below _ _ _ _ c.requires.fact_1.1 (omega arith) refl }
 
 pub offset_bounds-out_col_idx-at : goal.offset_bounds-out_col_idx-at
-offset_bounds-out_col_idx-at c = omega (arith, keeping_column _ _ _ _ _ _ _ _ _ _ _ c.loop-next.invariant c.requires.fact_1.0 (omega arith) _ c.wide-c.ensures (sym c.if-is_member.true ∙ c.is_member.ensures) c.requires.fact_3)
+offset_bounds-out_col_idx-at c = omega (arith, keeping_column _ _ _ _ _ _ _ _ _ _ _ c.loop-next.invariant c.requires.fact_1.0 (omega arith) _ refl (sym c.if-is_member.true ∙ c.is_member.ensures) c.requires.fact_3)
 
 pub bounds-out_col_idx-at : goal.bounds-out_col_idx-at
-bounds-out_col_idx-at c = keeping_column _ _ _ _ _ _ _ _ _ _ _ c.loop-next.invariant c.requires.fact_1.0 (omega arith) _ c.wide-c.ensures (sym c.if-is_member.true ∙ c.is_member.ensures) c.requires.fact_3
+bounds-out_col_idx-at c = keeping_column _ _ _ _ _ _ _ _ _ _ _ c.loop-next.invariant c.requires.fact_1.0 (omega arith) _ refl (sym c.if-is_member.true ∙ c.is_member.ensures) c.requires.fact_3
 
 pub offset_bounds-out_values-at : goal.offset_bounds-out_values-at
-offset_bounds-out_values-at c = omega (arith, keeping_value _ _ _ _ _ _ _ _ _ _ _ c.loop-next.invariant c.requires.fact_1.0 (omega arith) _ c.wide-c.ensures (sym c.if-is_member.true ∙ c.is_member.ensures) c.requires.fact_4)
+offset_bounds-out_values-at c = omega (arith, keeping_value _ _ _ _ _ _ _ _ _ _ _ c.loop-next.invariant c.requires.fact_1.0 (omega arith) _ refl (sym c.if-is_member.true ∙ c.is_member.ensures) c.requires.fact_4)
 
 pub bounds-out_values-at : goal.bounds-out_values-at
-bounds-out_values-at c = keeping_value _ _ _ _ _ _ _ _ _ _ _ c.loop-next.invariant c.requires.fact_1.0 (omega arith) _ c.wide-c.ensures (sym c.if-is_member.true ∙ c.is_member.ensures) c.requires.fact_4
+bounds-out_values-at c = keeping_value _ _ _ _ _ _ _ _ _ _ _ c.loop-next.invariant c.requires.fact_1.0 (omega arith) _ refl (sym c.if-is_member.true ∙ c.is_member.ensures) c.requires.fact_4
 
 pub overflow_add-at : goal.overflow_add-at
-overflow_add-at c = omega (arith, keeping_column _ _ _ _ _ _ _ _ _ _ _ c.loop-next.invariant c.requires.fact_1.0 (omega arith) _ c.wide-c.ensures (sym c.if-is_member.true ∙ c.is_member.ensures) c.requires.fact_3)
+overflow_add-at c = omega (arith, keeping_column _ _ _ _ _ _ _ _ _ _ _ c.loop-next.invariant c.requires.fact_1.0 (omega arith) _ refl (sym c.if-is_member.true ∙ c.is_member.ensures) c.requires.fact_3)
 
 pub loop-next-preserved-then-is_member : goal.loop-next-preserved-then-is_member
-loop-next-preserved-then-is_member c = keeping_more _ _ _ _ _ _ _ _ _ _ _ c.loop-next.invariant c.requires.fact_1.0 (omega arith) _ c.wide-c.ensures (sym c.if-is_member.true ∙ c.is_member.ensures) _ (c.local_number.ensures ∙ ap (count (active _)) c.wide-c.ensures) c.requires.fact_3 c.requires.fact_4
+loop-next-preserved-then-is_member c = keeping_more _ _ _ _ _ _ _ _ _ _ _ c.loop-next.invariant c.requires.fact_1.0 (omega arith) _ refl (sym c.if-is_member.true ∙ c.is_member.ensures) _ (c.local_number.ensures ∙ ap (count (active _)) refl) c.requires.fact_3 c.requires.fact_4
 
 pub loop-next-preserved : goal.loop-next-preserved
-loop-next-preserved c = keeping_other _ _ _ _ _ _ _ _ _ _ _ c.loop-next.invariant c.requires.fact_1.0 (omega arith) _ c.wide-c.ensures (sym c.if-is_member.false ∙ c.is_member.ensures)
+loop-next-preserved c = keeping_other _ _ _ _ _ _ _ _ _ _ _ c.loop-next.invariant c.requires.fact_1.0 (omega arith) _ refl (sym c.if-is_member.false ∙ c.is_member.ensures)
 
 pub shape_of-out_col_idx : goal.shape_of-out_col_idx
 shape_of-out_col_idx c = c.loop-next.invariant.long_columns

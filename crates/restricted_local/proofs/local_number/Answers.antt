@@ -1,4 +1,5 @@
 -- `restricted_local::local_number` meets its contract. Assumes nothing.
+use mathlib.Core.Path.{refl}
 use native.Mathlib.Omega.{arith}
 use Rattle.restricted_local.proofs.RegionLaws.{number_small, number-told}
 use Rattle.restricted_local.proofs.local_number.Goals as goal
@@ -10,7 +11,7 @@ pub bounds-region-w : goal.bounds-region-w
 bounds-region-w c = omega (arith, c.requires.fact_1.words_room)
 
 pub overflow_add-before : goal.overflow_add-before
-overflow_add-before c = omega (arith, number_small _ _ _ c.requires.fact_1 c.requires.fact_2 _ _ c.wide-before.ensures c.ones_below.ensures)
+overflow_add-before c = omega (arith, number_small _ _ _ c.requires.fact_1 c.requires.fact_2 _ _ refl c.ones_below.ensures)
 
 pub returns : goal.returns
-returns c = number-told _ _ _ c.requires.fact_1 c.requires.fact_2 _ _ c.wide-before.ensures c.ones_below.ensures _ c.narrow.ensures
+returns c = number-told _ _ _ c.requires.fact_1 c.requires.fact_2 _ _ refl c.ones_below.ensures _ c.narrow.ensures

@@ -4,20 +4,20 @@ use native.Mathlib.Omega.{arith}
 use Rattle.text.proofs.DecimalLaws.{parts_before, parts_behind, parts_long, parts-small, parts-good}
 use Rattle.text.proofs.with_point.Goals as goal
 
-pub returns-in_default : goal.returns-in_default
-returns-in_default c = search (parts_before, rules)
+pub returns-in_err-a : goal.returns-in_err-a
+returns-in_err-a c = rw c.from_residual.ensures (search (parts_before, rules))
 
-pub returns-in_default-read_whole : goal.returns-in_default-read_whole
-returns-in_default-read_whole c = search (parts_behind, rules)
+pub returns-in_err-b : goal.returns-in_err-b
+returns-in_err-b c = rw c.from_residual-in_err-b.ensures (search (parts_behind, rules))
 
 pub returns-then-before-behind-gt15 : goal.returns-then-before-behind-gt15
 returns-then-before-behind-gt15 c = search (parts_long, rules)
 
 pub overflow_mul-a : goal.overflow_mul-a
-overflow_mul-a c = omega (arith, parts-small _ _ _ _ _ _ _ c.read_whole.ensures c.in-Value.is c.read_whole-2.ensures c.in-Value-read_whole.is (omega arith) c.power_of_ten-power.ensures)
+overflow_mul-a c = omega (arith, parts-small _ _ _ _ _ _ _ c.read_whole.ensures c.in_ok-a.was c.read_whole-2.ensures c.in_ok-b.was (omega arith) c.power_of_ten-power.ensures)
 
 pub overflow_add-a : goal.overflow_add-a
-overflow_add-a c = omega (arith, parts-small _ _ _ _ _ _ _ c.read_whole.ensures c.in-Value.is c.read_whole-2.ensures c.in-Value-read_whole.is (omega arith) c.power_of_ten-power.ensures)
+overflow_add-a c = omega (arith, parts-small _ _ _ _ _ _ _ c.read_whole.ensures c.in_ok-a.was c.read_whole-2.ensures c.in_ok-b.was (omega arith) c.power_of_ten-power.ensures)
 
 pub returns : goal.returns
-returns c = parts-good _ _ _ _ _ _ _ c.read_whole.ensures c.in-Value.is c.read_whole-2.ensures c.in-Value-read_whole.is (omega arith) c.power_of_ten-power.ensures _ c.ratio.ensures
+returns c = parts-good _ _ _ _ _ _ _ c.read_whole.ensures c.in_ok-a.was c.read_whole-2.ensures c.in_ok-b.was (omega arith) c.power_of_ten-power.ensures _ c.ratio.ensures

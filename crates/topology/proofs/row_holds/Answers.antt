@@ -1,8 +1,8 @@
 -- `topology::row_holds` meets its contract. Assumes nothing.
+use mathlib.Core.Path.{refl, ap}
 use Rattle.hybit_core.proofs.BoolLaws.{flag_on, flag_off}
 use Rattle.topology.proofs.LastLaws.{row_empty, row_not_climbing, row_with_empty, row_by_last}
 use Rattle.std.proofs.Common.{rules}
-use mathlib.Core.Path.{ap}
 use mathlib.Core.Bool.{not}
 use Rattle.topology.proofs.row_holds.Goals as goal
 
@@ -16,7 +16,7 @@ pub returns-then-not-masks_hold : goal.returns-then-not-masks_hold
 returns-then-not-masks_hold c = row_with_empty _ _ _ c.requires (flag_off _ _ c.masks_hold.ensures (ap not c.if-not-masks_hold.true))
 
 pub word_holds-requires : goal.word_holds-requires
-word_holds-requires c = rw c.wide.ensures (c.shared_slice_known-3-1.given _).fits
+word_holds-requires c = (c.shared_slice_known-3-1.given _).fits
 
 pub returns : goal.returns
-returns c = row_by_last _ _ _ c.requires (λ k. (c.shared_slice_known-2-1.given k).fits) c.if-words-eq0.false (flag_on _ _ c.numbers_climb.ensures (ap not c.if-not-numbers_climb.false)) (flag_on _ _ c.masks_hold.ensures (ap not c.if-not-masks_hold.false)) _ _ c.wide.ensures c.word_holds.ensures
+returns c = row_by_last _ _ _ c.requires (λ k. (c.shared_slice_known-2-1.given k).fits) c.if-words-eq0.false (flag_on _ _ c.numbers_climb.ensures (ap not c.if-not-numbers_climb.false)) (flag_on _ _ c.masks_hold.ensures (ap not c.if-not-masks_hold.false)) _ _ refl c.word_holds.ensures

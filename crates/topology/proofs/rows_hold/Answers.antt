@@ -3,7 +3,7 @@ use Rattle.std.proofs.Common.{ℕ, List, length, sym, ap, ◌∙◌, ap₂, rule
 use Rattle.topology.proofs.ScanLaws.{rows_none, rows_more, rows_fail, rows_done}
 use Rattle.hybit_core.proofs.BoolLaws.{flag_on, flag_off}
 use Rattle.topology.specs.Words.{row_rule, row_rules}
-use Rattle.csr32.proofs.FrameLaws.{row_left, row_right, lists_sides, part_lengths}
+use Rattle.csr32.proofs.FrameLaws.{lists_sides, part_lengths}
 use mathlib.Core.Bool.{not}
 use Rattle.topology.proofs.rows_hold.Goals as goal
 
@@ -11,22 +11,16 @@ pub loop-row-init : goal.loop-row-init
 unfolding row_rules
 loop-row-init c = rows_none _ _
 
-pub words_of-words-requires : goal.words_of-words-requires
-words_of-words-requires c = row_left _ _ _ _ c.requires _ (search rules)
-
-pub masks_of-requires : goal.masks_of-requires
-masks_of-requires c = row_right _ _ _ _ c.requires _ (search rules)
-
 pub row_holds-requires : goal.row_holds-requires
-row_holds-requires c = ap length c.masks_of.ensures ∙ part_lengths _ _ _ _ (sym (lists_sides _ _ _ _ c.requires)) ∙ sym (ap length c.words_of-words.ensures)
+row_holds-requires c = ap length c.part.ensures ∙ part_lengths _ _ _ _ (sym (lists_sides _ _ _ _ c.requires)) ∙ sym (ap length c.part-words.ensures)
 
 pub returns-then-not-row_holds : goal.returns-then-not-row_holds
 unfolding row_rules
-returns-then-not-row_holds c = rows_fail _ _ _ c.loop-row.invariant (search rules) (flag_off _ _ (c.row_holds.ensures ∙ ap₂ (λ (s t : List ℕ). row_rule c.args.ncols s t) c.words_of-words.ensures c.masks_of.ensures) (ap not c.if-not-row_holds.true))
+returns-then-not-row_holds c = rows_fail _ _ _ c.loop-row.invariant (search rules) (flag_off _ _ (c.row_holds.ensures ∙ ap₂ (λ (s t : List ℕ). row_rule c.args.ncols s t) c.part-words.ensures c.part.ensures) (ap not c.if-not-row_holds.true))
 
 pub loop-row-preserved : goal.loop-row-preserved
 unfolding row_rules
-loop-row-preserved c = rows_more _ _ _ c.loop-row.invariant (search rules) (flag_on _ _ (c.row_holds.ensures ∙ ap₂ (λ (s t : List ℕ). row_rule c.args.ncols s t) c.words_of-words.ensures c.masks_of.ensures) (ap not c.if-not-row_holds.false))
+loop-row-preserved c = rows_more _ _ _ c.loop-row.invariant (search rules) (flag_on _ _ (c.row_holds.ensures ∙ ap₂ (λ (s t : List ℕ). row_rule c.args.ncols s t) c.part-words.ensures c.part.ensures) (ap not c.if-not-row_holds.false))
 
 pub returns : goal.returns
 unfolding row_rules

@@ -9,10 +9,10 @@ use Rattle.topology_combine.proofs.CallLaws.{ready, ready_rows, end_frame, end_l
 use borrow.Author.Rules.{rules}
 use Rattle.topology_combine.proofs.combine.Goals as goal
 
-pub returns-in-Refused : goal.returns-in-Refused
-returns-in-Refused c = let e = c.examine-v.ensures in
+pub returns-in-Err : goal.returns-in-Err
+returns-in-Err c = let e = c.examine-v.ensures in
     let p = c.clear_past.ensures in
-    let k = c.in-Refused.is in
+    let k = c.in-Err.is in
     record { answer = search (given_refused, rules); pointers = search (built_refused, rules); numbers = search (built_refused, rules); bits = search (built_refused, rules) }
 
 pub merge_rows-words-requires : goal.merge_rows-words-requires

@@ -4,7 +4,7 @@ use mathlib.Core.Path.{ap}
 use lib.ListN.{length}
 use native.Mathlib.Omega.{arith}
 use Rattle.topology_combine.proofs.FillLaws.{filling_none, filling_ptr, filling_room, filling_more, filled_pointers, filled_words, filled_masks}
-use Rattle.topology_combine.proofs.RowsLaws.{rows_in, lent_rows, lent_words, lent_masks}
+use Rattle.topology_combine.proofs.RowsLaws.{lent_rows, lent_words, lent_masks}
 use borrow.Author.Rules.{rules}
 use Rattle.topology_combine.proofs.merge_rows.Goals as goal
 
@@ -17,22 +17,10 @@ offset_bounds-out_ptr-row c = let h = filling_room _ _ _ _ _ _ _ _ _ _ _ c.loop-
 pub bounds-out_ptr-row : goal.bounds-out_ptr-row
 bounds-out_ptr-row c = let h = filling_room _ _ _ _ _ _ _ _ _ _ _ c.loop-row.invariant (search rules) in search rules
 
-pub words_of-left-requires : goal.words_of-left-requires
-words_of-left-requires c = (rows_in _ _ _ _ _ _ _ _ c.requires.fact_1 c.loop-row.row (search rules)).one
-
-pub masks_of-left_masks-requires : goal.masks_of-left_masks-requires
-masks_of-left_masks-requires c = (rows_in _ _ _ _ _ _ _ _ c.requires.fact_1 c.loop-row.row (search rules)).one_masks
-
-pub words_of-right-requires : goal.words_of-right-requires
-words_of-right-requires c = (rows_in _ _ _ _ _ _ _ _ c.requires.fact_1 c.loop-row.row (search rules)).two
-
-pub masks_of-right_masks-requires : goal.masks_of-right_masks-requires
-masks_of-right_masks-requires c = (rows_in _ _ _ _ _ _ _ _ c.requires.fact_1 c.loop-row.row (search rules)).two_masks
-
 pub merge_row-to-requires : goal.merge_row-to-requires
 merge_row-to-requires c = let h = filling_room _ _ _ _ _ _ _ _ _ _ _ c.loop-row.invariant (search rules) in
-    let e = ap length (lent_words _ _ _ _ _ _ _ _ c.requires.fact_1 c.loop-row.row _ _ _ _ c.words_of-left.ensures c.masks_of-left_masks.ensures c.words_of-right.ensures c.masks_of-right_masks.ensures c.args.operation) in
-    record { fact_1 = lent_rows _ _ _ _ _ _ _ _ c.requires.fact_1 c.loop-row.row _ _ _ _ c.words_of-left.ensures c.masks_of-left_masks.ensures c.words_of-right.ensures c.masks_of-right_masks.ensures (search rules); fact_2 = omega (arith, h.1.0, e); fact_3 = omega (arith, h.1.1, e) }
+    let e = ap length (lent_words _ _ _ _ _ _ _ _ c.requires.fact_1 c.loop-row.row _ _ _ _ c.part-left.ensures c.part-left_masks.ensures c.part-right.ensures c.part-right_masks.ensures c.args.operation) in
+    record { fact_1 = lent_rows _ _ _ _ _ _ _ _ c.requires.fact_1 c.loop-row.row _ _ _ _ c.part-left.ensures c.part-left_masks.ensures c.part-right.ensures c.part-right_masks.ensures (search rules); fact_2 = omega (arith, h.1.0, e); fact_3 = omega (arith, h.1.1, e) }
 
 pub overflow_add-row : goal.overflow_add-row
 overflow_add-row c = let t = c.loop-row-test in let f = c.ranges in search rules
@@ -41,7 +29,7 @@ pub loop-row-smaller : goal.loop-row-smaller
 loop-row-smaller c = let t = c.loop-row-test in let l = c.loop-row in omega arith
 
 pub loop-row-preserved : goal.loop-row-preserved
-loop-row-preserved c = filling_more _ _ _ _ _ _ _ _ _ _ _ c.loop-row.invariant (search rules) _ _ _ _ _ _ c.narrow.ensures (lent_words _ _ _ _ _ _ _ _ c.requires.fact_1 c.loop-row.row _ _ _ _ c.words_of-left.ensures c.masks_of-left_masks.ensures c.words_of-right.ensures c.masks_of-right_masks.ensures c.args.operation) (lent_masks _ _ _ _ _ _ _ _ c.requires.fact_1 c.loop-row.row _ _ _ _ c.words_of-left.ensures c.masks_of-left_masks.ensures c.words_of-right.ensures c.masks_of-right_masks.ensures c.args.operation) c.merge_row-to.ensures.numbers c.merge_row-to.ensures.bits c.merge_row-to.auto.out_words c.merge_row-to.auto.out_masks
+loop-row-preserved c = filling_more _ _ _ _ _ _ _ _ _ _ _ c.loop-row.invariant (search rules) _ _ _ _ _ _ c.narrow.ensures (lent_words _ _ _ _ _ _ _ _ c.requires.fact_1 c.loop-row.row _ _ _ _ c.part-left.ensures c.part-left_masks.ensures c.part-right.ensures c.part-right_masks.ensures c.args.operation) (lent_masks _ _ _ _ _ _ _ _ c.requires.fact_1 c.loop-row.row _ _ _ _ c.part-left.ensures c.part-left_masks.ensures c.part-right.ensures c.part-right_masks.ensures c.args.operation) c.merge_row-to.ensures.numbers c.merge_row-to.ensures.bits c.merge_row-to.auto.out_words c.merge_row-to.auto.out_masks
 
 pub shape_of-out_ptr : goal.shape_of-out_ptr
 shape_of-out_ptr c = filling_ptr _ _ _ _ _ _ _ _ _ _ _ c.loop-row.invariant

@@ -5,9 +5,9 @@ use Rattle.topology.specs.Calls.{row_answer}
 use borrow.Author.Rules.{rules}
 use Rattle.topology_rows.proofs.check_row.Goals as goal
 
-pub returns-in-Refused : goal.returns-in-Refused
+pub returns-in_err-check : goal.returns-in_err-check
 unfolding row_answer
-returns-in-Refused c = search (checks, tests, rules)
+returns-in_err-check c = search (checks, tests, rules)
 
 pub returns-then-row-nrows : goal.returns-then-row-nrows
 unfolding row_answer

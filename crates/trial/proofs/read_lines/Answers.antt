@@ -6,4 +6,4 @@ pub overflow_add-i : goal.overflow_add-i
 overflow_add-i c = omega (arith, c.loop-i.invariant, c.loop-i-test)
 
 pub loop-i-preserved : goal.loop-i-preserved
-loop-i-preserved c = (omega (arith, c.loop-i.invariant, c.loop-i-test), omega (arith, c.loop-i.invariant, c.loop-i-test), omega (arith, c.next_line-l.auto, c.loop-i.invariant))
+loop-i-preserved c = (omega (arith, c.loop-i.invariant, c.loop-i-test), omega (arith, c.loop-i.invariant, c.loop-i-test), omega (arith, c.next_line.auto, c.loop-i.invariant))

@@ -1,7 +1,0 @@
--- `denimrasp::denimrasp_abtm_validate` meets its contract. Assumes nothing.
-use mathlib.Core.Path.{◌∙◌, ap}
-use Rattle.denimrasp_answers.specs.Answers.{verdict_of}
-use Rattle.denimrasp.proofs.denimrasp_abtm_validate.Goals as goal
-
-pub returns : goal.returns
-returns c = c.verdict.ensures ∙ ap verdict_of c.validate.ensures

@@ -1,7 +1,0 @@
--- `denimrasp::denimrasp_mask_and_not_assign` meets its contract. Assumes nothing.
-use mathlib.Core.Path.{◌∙◌, ap}
-use Rattle.denimrasp_answers.specs.Answers.{verdict_of}
-use Rattle.denimrasp.proofs.denimrasp_mask_and_not_assign.Goals as goal
-
-pub returns : goal.returns
-returns c = record { answer = c.verdict.ensures ∙ ap verdict_of c.and_not_assign.ensures.answer; list = c.and_not_assign.ensures.list }

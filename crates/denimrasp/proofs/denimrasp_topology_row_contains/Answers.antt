@@ -1,7 +1,0 @@
--- `denimrasp::denimrasp_topology_row_contains` meets its contract. Assumes nothing.
-use mathlib.Core.Path.{◌∙◌, ap}
-use Rattle.denimrasp_answers.specs.Answers.{bool_of}
-use Rattle.denimrasp.proofs.denimrasp_topology_row_contains.Goals as goal
-
-pub returns : goal.returns
-returns c = c.truth.ensures ∙ ap bool_of c.row_contains-answer.ensures

@@ -1,7 +1,0 @@
--- `denimrasp::denimrasp_topology_row_nonempty_words` meets its contract. Assumes nothing.
-use mathlib.Core.Path.{◌∙◌, ap}
-use Rattle.denimrasp_answers.specs.Answers.{count_of}
-use Rattle.denimrasp.proofs.denimrasp_topology_row_nonempty_words.Goals as goal
-
-pub returns : goal.returns
-returns c = c.count.ensures ∙ ap count_of c.row_nonempty_words-answer.ensures

@@ -27,6 +27,7 @@ fn compact_sum(mask: u64, base: usize, values: &[f64], x: &[f64]) -> f64
     let mut sum: f64 = 0.0;
     let mut p: usize = 0;
     let mut rest = mask;
+    // A walk over the set bits of a word, which no range and no slice lists: each turn takes the lowest that is left.
     while rest != 0 {
         let bit = word::lowest(rest);
         sum = sum + values[p] * x[base + bit];
@@ -43,10 +44,8 @@ fn add_dense(start: f64, base: usize, values: &[f64], x: &[f64]) -> f64
 {
     let limit = 64usize.min(x.len() - base);
     let mut sum = start;
-    let mut j: usize = 0;
-    while j < limit {
+    for j in 0..limit {
         sum = sum + values[j] * x[base + j];
-        j += 1;
     }
     sum
 }
@@ -71,17 +70,15 @@ fn row_sum(masks: &[u64], value_offsets: &[u32], metas: &[u32], values: &[f64], 
     ensures { result ≡ sum_tiles (length x.now) x.now (map (tile_at values.now) (zip masks.now (zip value_offsets.now metas.now))) }
 {
     let mut sum: f64 = 0.0;
-    let mut i: usize = 0;
-    while i < masks.len() {
+    for (i, columns) in masks.iter().enumerate() {
         sum = add_tile(
             sum,
-            masks[i],
+            *columns,
             value_offsets[i] as usize,
             metas[i],
             values,
             x,
         );
-        i += 1;
     }
     sum
 }
@@ -102,8 +99,7 @@ fn fill_product(
     requires { apply_tiles_answer (as_tiles nrows ncols row_tile_ptr.now masks.now value_offsets.now metas.now values.now matrix_nnz) x.now (length y.old) ≡ accepted }
     ensures { y.new ≡ tiles_product (as_tiles nrows ncols row_tile_ptr.now masks.now value_offsets.now metas.now values.now matrix_nnz) x.now }
 {
-    let mut row: usize = 0;
-    while row < nrows {
+    for row in 0..nrows {
         let start = row_tile_ptr[row] as usize;
         let end = row_tile_ptr[row + 1] as usize;
         y[row] = row_sum(
@@ -113,7 +109,6 @@ fn fill_product(
             values,
             x,
         );
-        row += 1;
     }
 }
 

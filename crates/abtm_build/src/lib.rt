@@ -77,21 +77,21 @@ fn gather(
 {
     let width = sums.len();
     let mut next = past;
-    let mut k: usize = 0;
-    while k < cols.len() {
+    for k in 0..cols.len() {
         let c = cols[k] as usize;
-        let v = vals[k];
-        k += 1;
-        if !abtm_values::is_zero(v) {
-            if base <= c {
-                let i = c - base;
-                if i < width {
-                    add_at(i, v, sums, words, blocks);
-                } else {
-                    next = next.min(c);
-                }
-            }
+        let value = vals[k];
+        if abtm_values::is_zero(value) {
+            continue;
         }
+        if c < base {
+            continue;
+        }
+        let i = c - base;
+        if i >= width {
+            next = next.min(c);
+            continue;
+        }
+        add_at(i, value, sums, words, blocks);
     }
     next
 }
@@ -103,18 +103,18 @@ fn clear_window(cols: &[u32], base: usize, sums: &mut [f64], words: &mut [u64], 
     ensures { sums.new ≡ replicate (length sums.old) zero64 }
 {
     let width = sums.len();
-    let mut k: usize = 0;
-    while k < cols.len() {
-        let c = cols[k] as usize;
-        k += 1;
-        if base <= c {
-            let i = c - base;
-            if i < width {
-                sums[i] = 0.0;
-                words[i / 64] = 0;
-                blocks[i / 4096] = 0;
-            }
+    for col in cols {
+        let c = *col as usize;
+        if c < base {
+            continue;
         }
+        let i = c - base;
+        if i >= width {
+            continue;
+        }
+        sums[i] = 0.0;
+        words[i / 64] = 0;
+        blocks[i / 4096] = 0;
     }
 }
 
@@ -133,10 +133,8 @@ fn word_mask(sums: &[f64]) -> u64
     ensures { result ≡ word_of (λ i. not (is_zero (get_or sums.now i nan))) }
 {
     let mut mask: u64 = 0;
-    let mut i: usize = 0;
-    while i < 64 {
+    for i in 0..64 {
         mask = also_marked(mask, i, sums[i]);
-        i += 1;
     }
     mask
 }
@@ -156,10 +154,8 @@ fn write_dense(sums: &[f64], from: usize, values: &mut [f64])
     requires fact_2 { from + 64 ≤ length values.old }
     ensures { Appended (map (λ i. cond (not (is_zero (get_or sums.now i nan))) (get_or sums.now i nan) zero64) (below (λ i. true) 64)) from (from + 64) values.old values.new }
 {
-    let mut i: usize = 0;
-    while i < 64 {
+    for i in 0..64 {
         values[from + i] = dense_value(sums[i]);
-        i += 1;
     }
 }
 
@@ -170,6 +166,7 @@ fn write_present(mask: u64, sums: &[f64], from: usize, values: &mut [f64])
 {
     let mut rest = mask;
     let mut at = from;
+    // A walk over the set bits of a word: no index is counted.
     while rest != 0 {
         values[at] = sums[word::lowest(rest)];
         at += 1;
@@ -253,22 +250,20 @@ fn emit_block(
 {
     let mut at = from;
     let end = 64 * block + 64;
-    let mut next = 64 * block;
-    while next < end {
-        let w = next;
-        next += 1;
-        if words[w] != 0 {
-            at = emit_word(
-                first + w,
-                &sums[64 * w..64 * w + 64],
-                config,
-                at,
-                masks,
-                value_offsets,
-                metas,
-                values,
-            );
+    for w in 64 * block..end {
+        if words[w] == 0 {
+            continue;
         }
+        at = emit_word(
+            first + w,
+            &sums[64 * w..64 * w + 64],
+            config,
+            at,
+            masks,
+            value_offsets,
+            metas,
+            values,
+        );
     }
     at
 }
@@ -294,24 +289,22 @@ fn emit_window(
     ensures { Wrote (tiles_between config (window_value (64 * first) sums.now) first (first + length words.now)) from result masks.old masks.new value_offsets.old value_offsets.new metas.old metas.new values.old values.new }
 {
     let mut at = from;
-    let mut next: usize = 0;
-    while next < blocks.len() {
-        let b = next;
-        next += 1;
-        if blocks[b] != 0 {
-            at = emit_block(
-                first,
-                b,
-                sums,
-                words,
-                config,
-                at,
-                masks,
-                value_offsets,
-                metas,
-                values,
-            );
+    for b in 0..blocks.len() {
+        if blocks[b] == 0 {
+            continue;
         }
+        at = emit_block(
+            first,
+            b,
+            sums,
+            words,
+            config,
+            at,
+            masks,
+            value_offsets,
+            metas,
+            values,
+        );
     }
     at
 }
@@ -342,6 +335,7 @@ fn fill_row(
     let past = ncols + sums.len();
     let mut at = from;
     let mut next: usize = 0;
+    // Each window says where the next one starts, so there is no range to go over.
     while next < ncols {
         let first = next / 64;
         next = gather(cols, vals, 64 * first, past, sums, words, blocks);
@@ -391,10 +385,8 @@ fn fill_rows(
         slots: 0,
         nnz: 0,
     };
-    let mut next: usize = 0;
-    while next < nrows {
+    for next in 0..nrows {
         let row = next;
-        next += 1;
         row_tile_ptr[row] = hybit_core::narrow(at.tiles);
         let start = row_ptr[row] as usize;
         let end = row_ptr[row + 1] as usize;

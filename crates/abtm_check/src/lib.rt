@@ -30,6 +30,7 @@ fn all_plus_zero(places: u64, values: &[f64]) -> bool
     ensures { result ≡ every (λ i. plus_zero (slice_index_or values.now i nan)) (members places) }
 {
     let mut rest = places;
+    // A walk over the set bits of a word: no index is counted.
     while rest != 0 {
         if !abtm_values::is_plus_zero(values[word::lowest(rest)]) {
             return false;
@@ -98,19 +99,17 @@ fn values_hold(
 {
     let mut upto: usize = 0;
     let mut solid: usize = 0;
-    let mut next: usize = 0;
-    while next < masks.len() {
-        let i = next;
-        next += 1;
+    for i in 0..masks.len() {
         let absent = absent_in(masks[i], metas[i]);
-        if absent != 0 {
-            let at = value_offsets[i] as usize;
-            let c = count_ahead(values, Counted { upto, solid }, at + 64);
-            upto = c.upto;
-            solid = c.solid;
-            if !all_plus_zero(absent, &values[at..at + 64]) {
-                return false;
-            }
+        if absent == 0 {
+            continue;
+        }
+        let at = value_offsets[i] as usize;
+        let c = count_ahead(values, Counted { upto, solid }, at + 64);
+        upto = c.upto;
+        solid = c.solid;
+        if !all_plus_zero(absent, &values[at..at + 64]) {
+            return false;
         }
     }
     solid + abtm_values::count_solid(&values[upto..]) == matrix_nnz
@@ -130,10 +129,8 @@ fn numbers_climb(metas: &[u32]) -> bool
     ensures { result ≡ climbs 0 (map word_in metas.now) }
 {
     let mut holds = true;
-    let mut i: usize = 1;
-    while i < metas.len() {
+    for i in 1..metas.len() {
         holds = also_above(holds, abtm::word_in(metas[i - 1]), abtm::word_in(metas[i]));
-        i += 1;
     }
     holds
 }
@@ -187,13 +184,11 @@ fn rows_hold(nrows: usize, ncols: usize, row_tile_ptr: &[u32], masks: &[u64], me
     requires fact_2 { every (λ m. not (m == 0)) masks.now ≡ true }
     ensures { result ≡ row_rules (as_words nrows ncols row_tile_ptr.now (map word_in metas.now) masks.now 0) }
 {
-    let mut row: usize = 0;
-    while row < nrows {
+    for row in 0..nrows {
         let numbers = lent::part(row_tile_ptr, metas, row);
         if !row_holds(ncols, lent::part(row_tile_ptr, masks, row), numbers) {
             return false;
         }
-        row += 1;
     }
     true
 }
@@ -225,8 +220,7 @@ fn compact_follow(masks: &[u64], value_offsets: &[u32], metas: &[u32], end: usiz
         return end == 0;
     }
     let mut holds = value_offsets[0] == 0;
-    let mut i: usize = 1;
-    while i < masks.len() {
+    for i in 1..masks.len() {
         holds = also_next(
             holds,
             masks[i - 1],
@@ -234,7 +228,6 @@ fn compact_follow(masks: &[u64], value_offsets: &[u32], metas: &[u32], end: usiz
             metas[i - 1],
             value_offsets[i] as usize,
         );
-        i += 1;
     }
     let last = masks.len() - 1;
     also_next(holds, masks[last], value_offsets[last], metas[last], end)
@@ -284,8 +277,7 @@ fn mixed_follow(masks: &[u64], value_offsets: &[u32], metas: &[u32], end: usize)
     }
     let mut holds = value_offsets[0] == 0;
     let mut bits: usize = 0;
-    let mut i: usize = 1;
-    while i < masks.len() {
+    for i in 1..masks.len() {
         bits = std::num::wrapping_add_usize(bits, word::popcount(masks[i - 1]));
         holds = also_tile(
             holds,
@@ -294,7 +286,6 @@ fn mixed_follow(masks: &[u64], value_offsets: &[u32], metas: &[u32], end: usize)
             metas[i - 1],
             value_offsets[i] as usize,
         );
-        i += 1;
     }
     let last = masks.len() - 1;
     Scan {

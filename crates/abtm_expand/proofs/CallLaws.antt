@@ -1,12 +1,12 @@
 -- The checks of an expansion at each return of the code, and the mask that it leaves. Assumes nothing.
 use Rattle.std.specs.Prelude.{Result, Ok, Err}
-use mathlib.Core.Bool.{Bool, true, false, ◌&&◌}
-use mathlib.Core.List.{List, ◌++◌}
-use mathlib.Core.Path.{◌≡◌, sym, ap, ◌∙◌}
+use mathlib.Core.Bool.{true, false, ◌&&◌}
+use mathlib.Core.List.{List}
+use mathlib.Core.Path.{◌≡◌, sym, ◌∙◌}
 use Prim.Native.Nat.{ℕ, ◌≤◌, ◌<◌}
 use native.Mathlib.Omega.{arith}
 use lib.Dec.{eqb, leb}
-use lib.ListN.{length, take, drop}
+use lib.ListN.{length, take}
 use lib.Seq.{length-take-le}
 use Rattle.hybit_core.specs.Answer.{Answer, accepted, refused, plain, lengths_differ, demand, length_is, ◌and_then◌}
 use Rattle.hybit_core.specs.Domain.{few}
@@ -14,11 +14,8 @@ use Rattle.hybit_core.specs.Table.{paper, told}
 use Rattle.hybit_core.specs.declared.HybitError.{HybitError}
 use Rattle.hybit_core.proofs.BoolLaws.{is_equal, is_unequal, is_within, is_above, and_first}
 use Rattle.hybit_core.proofs.AnswerLaws.{test_fails, test_passes, last_fails, last_passes, length_wrong, length_right, call_refused, call_accepted, by_records}
-use Rattle.lent.specs.Lent.{padded}
-use Rattle.lent.specs.Lists.{each}
-use Rattle.lent.proofs.LentLaws.{cleared_front}
-use Rattle.word.specs.Bits.{mask_of, ceil64}
-use Rattle.mask.specs.Mask.{as_mask, mask_words, mask_rules, mask_answer}
+use Rattle.word.specs.Bits.{ceil64}
+use Rattle.mask.specs.Mask.{as_mask, mask_rules, mask_answer}
 use Rattle.mask.proofs.MaskLaws.{checked}
 use Rattle.abtm.specs.Tiles.{Tiles, tile_sizes, tiles_rules, tiles_answer}
 use Rattle.abtm_expand.specs.Expand.{expand_answer}
@@ -73,14 +70,6 @@ module _ (t : Tiles) (n : ℕ) (ws : List ℕ) (room : ℕ) where
             pub all-good : length ws ≤ room → accepted ≡ expand_answer t (as_mask n ws) room
             all-good s = by_room _ (last_passes (leb (ceil64 n) room) 13 (is_within (ceil64 n) room (omega (arith, words_count))))
 
--- ---- the list: the words in its front, cleared past them
-
-pub mask-built : (p : ℕ → Bool) (n used : ℕ) (front old last : List ℕ) → used ≡ ceil64 n → front ≡ mask_words p n → used ≤ length old
-    → last ≡ padded 0 (length (front ++ drop used old)) (take used (front ++ drop used old)) → last ≡ padded 0 (length old) (mask_words p n)
-unfolding mask_words
-mask-built p n used front old last u e h q =
-    cleared_front 0 used (mask_of p n) front old last (e ∙ ap (each (mask_of p n)) (sym u)) h q ∙ ap (λ (k : ℕ). padded 0 (length old) (each (mask_of p n) k)) u
-
--- its front that is lent has the mask's words
+-- ---- the list: its front that is lent has the mask's words
 pub front_long : (n : ℕ) (ws out : List ℕ) → length ws ≡ ceil64 n → ceil64 n ≤ length out → length (take (length ws) out) ≡ length ws
 front_long n ws out e h = length-take-le (length ws) out (omega arith)

@@ -2,11 +2,11 @@
 use mathlib.Core.Bool.{Bool, true, false, not, ◌&&◌, ◌||◌, or-false, true≢false}
 use mathlib.Core.List.{List, [], ◌∷◌, zip, zip_with}
 use mathlib.Core.Path.{◌≡◌, refl, sym, ap, ap₂, ◌∙◌}
-use Prim.Native.Nat.{ℕ, ◌+◌, ◌-◌, ◌*◌, ◌/◌, ◌%◌, ◌≤◌, ◌<◌, ◌^◌}
+use Prim.Native.Nat.{ℕ, ◌+◌, ◌*◌, ◌/◌, ◌%◌, ◌≤◌, ◌<◌, ◌^◌}
 use native.Mathlib.Numerals.{add-one}
 use native.Mathlib.Omega.{arith}
 use lib.Dec.{eqb, leb, ltb}
-use lib.ListN.{length, get_or, take, drop}
+use lib.ListN.{length, get_or}
 use borrow.Author.Tests.{leb-true, le-leb, eqb-true, ltb-true, lt-ltb}
 use Rattle.hybit_core.specs.Answer.{Answer, accepted, demand, length_is, ◌and_then◌}
 use Rattle.hybit_core.specs.Domain.{few}
@@ -24,7 +24,7 @@ use Rattle.mask.proofs.MaskLaws.{Valid, rules_valid, words_are, length-words, wo
 use Rattle.topology.specs.Words.{word_rule}
 use Rattle.topology.proofs.RowLaws.{small, small_is, word_inside_lem}
 use Rattle.abtm.specs.Tiles.{Tiles, Listed, word_in, tile_at, row_tiles, in_tile, in_tiles, tile_sizes, tiles_rules}
-use Rattle.abtm_check.proofs.TilesLaws.{AcceptedTiles, rules_facts, row_listed, metas_same, offsets_same, row_words_lem, lent_row}
+use Rattle.abtm_check.proofs.TilesLaws.{AcceptedTiles, rules_facts, row_listed, metas_same, offsets_same, row_words_lem}
 use Rattle.abtm_expand.specs.Expand.{reached, expanded, expand_answer}
 use Rattle.abtm_expand.proofs.JoinLaws.{in_word, joined_to}
 
@@ -141,41 +141,38 @@ module _ (t : Tiles) (n : ℕ) (ws : List ℕ) (room : ℕ) (ok : expand_answer 
   facts : Expandable t n ws room
   facts = expand_facts t n ws room ok
 
-  pub rows_few : t.rows ≤ 2 ^ 20
-  rows_few = facts.tiles.rows_in
-
-  -- ---- a row by its two pointers, as the code reads them
-  module _ (r b z : ℕ) (h : r < t.rows) (eb : b ≡ get_or t.ptr r 0) (ez : z ≡ get_or t.ptr (r + 1) 0) where
-    lent : (l : List ℕ) → take (z - b) (drop b l) ≡ part t.ptr l r
-    lent = lent_row t facts.tiles r b z h eb ez
+  -- ---- a row, as its masks and metas are lent
+  module _ (r : ℕ) (h : r < t.rows) (ms ks : List ℕ) (em : ms ≡ part t.ptr t.mask r) (ek : ks ≡ part t.ptr t.meta r) where
+    pub metas_lent : length ks ≡ length ms
+    metas_lent = ap length ek ∙ metas_same t facts.tiles r h ∙ ap length (sym em)
 
     module _ (out : List ℕ) (inv : Expanding t n ws r out) where
       out_long : length out ≡ ceil64 n
       out_long = ap length inv.is ∙ length-words (λ c. active (as_mask n ws) c || reached t (as_mask n ws) r c) n
 
-      pub lent_words : ((k : ℕ) → get_or t.mask k 0 < 2 ^ 64) → every (λ m. ltb (word_in m) (length out)) (take (z - b) (drop b t.meta)) ≡ true
+      pub lent_words : ((k : ℕ) → get_or t.mask k 0 < 2 ^ 64) → every (λ m. ltb (word_in m) (length out)) ks ≡ true
       lent_words fits =
-          ap₂ (λ (k : ℕ) (l : List ℕ). every (λ m. ltb (word_in m) k) l) (out_long ∙ ap ceil64 (facts.size ∙ facts.square)) (lent t.meta)
+          ap₂ (λ (k : ℕ) (l : List ℕ). every (λ m. ltb (word_in m) k) l) (out_long ∙ ap ceil64 (facts.size ∙ facts.square)) ek
           ∙ words_low t.cols (part t.ptr t.mask r) (part t.ptr t.offset r) (part t.ptr t.meta r) (offsets_same t facts.tiles r h) (metas_same t facts.tiles r h)
           (every-part (λ m. ltb m (2 ^ 64)) t.ptr t.mask r (small_is t.mask fits)) (row_words_lem t facts.tiles r h)
 
       -- the columns of a member's row are joined in
       bit_joined : true ≡ active (as_mask n ws) r → (w i : ℕ) → w < ceil64 n → i < 64
-          → (has (get_or out w 0) i || in_word (zip (take (z - b) (drop b t.mask)) (take (z - b) (drop b t.meta))) w i) ≡ within n (λ c. active (as_mask n ws) c || reached t (as_mask n ws) (r + 1) c) (64 * w + i)
+          → (has (get_or out w 0) i || in_word (zip ms ks) w i) ≡ within n (λ c. active (as_mask n ws) c || reached t (as_mask n ws) (r + 1) c) (64 * w + i)
       bit_joined m w i l k =
           let a : Mask = as_mask n ws in
           let p : ℕ → Bool = λ c. active a c || reached t a r c in
           let c : ℕ = 64 * w + i in
           ap₂ (λ (s u : Bool). s || u)
           (ap (λ (o : List ℕ). has (get_or o w 0) i) inv.is ∙ ap (λ (v : ℕ). has v i) (word_of_words p n w l) ∙ has-mask_of p n w i k)
-          (ap₂ (λ (x y : List ℕ). in_word (zip x y) w i) (lent t.mask) (lent t.meta) ∙ row_bit t facts.tiles r h w i k)
+          (ap₂ (λ (x y : List ℕ). in_word (zip x y) w i) em ek ∙ row_bit t facts.tiles r h w i k)
           ∙ frame_or (ltb c n) (active a c) (reached t a r c) (in_tiles t r c) (λ u. ap (ltb c) (facts.size ∙ facts.square) ∙ row_within t facts.tiles r h c u)
           ∙ sym (ap (λ (u : Bool). ltb c n && (active a c || u)) (reached_more t a r c ∙ ap (λ (s : Bool). reached t a r c || (s && in_tiles t r c)) (sym m)))
 
-      pub expanding_member : (new : List ℕ) → true ≡ active (as_mask n ws) r → new ≡ each (joined_to out (zip (take (z - b) (drop b t.mask)) (take (z - b) (drop b t.meta)))) (length out) → Expanding t n ws (r + 1) new
+      pub expanding_member : (new : List ℕ) → true ≡ active (as_mask n ws) r → new ≡ each (joined_to out (zip ms ks)) (length out) → Expanding t n ws (r + 1) new
       unfolding mask_words mask_of
       expanding_member new m e =
-          let l : List (ℕ × ℕ) = zip (take (z - b) (drop b t.mask)) (take (z - b) (drop b t.meta)) in
+          let l : List (ℕ × ℕ) = zip ms ks in
           let q : ℕ → Bool = λ c. active (as_mask n ws) c || reached t (as_mask n ws) (r + 1) c in
           record {
             inside = omega arith;
@@ -196,9 +193,6 @@ module _ (t : Tiles) (n : ℕ) (ws : List ℕ) (room : ℕ) (ok : expand_answer 
   }
 
   module _ (r : ℕ) (out : List ℕ) (inv : Expanding t n ws r out) where
-    pub expanding_long : length out ≡ length ws
-    expanding_long = ap length inv.is ∙ length-words (λ c. active (as_mask n ws) c || reached t (as_mask n ws) r c) n ∙ sym facts.mask.counted
-
     pub expanding_other : r < t.rows → false ≡ active (as_mask n ws) r → Expanding t n ws (r + 1) out
     expanding_other h m =
         let a : Mask = as_mask n ws in

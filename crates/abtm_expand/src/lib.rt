@@ -20,22 +20,9 @@ fn join_tiles(masks: &[u64], metas: &[u32], words: &mut [u64])
     requires fact_2 { every (λ m. ltb (word_in m) (length words.old)) metas.now ≡ true }
     ensures { words.new ≡ each (λ w. word_of (λ i. has (get_or words.old w 0) i || some (λ (e : ℕ × ℕ). eqb (word_in e.1) w && has e.0 i) (zip masks.now metas.now))) (length words.old) }
 {
-    let mut k: usize = 0;
-    while k < masks.len() {
-        let index = abtm::word_in(metas[k]) as usize;
-        words[index] = word::union(words[index], masks[k]);
-        k += 1;
-    }
-}
-
-fn copy_words(from: &[u64], to: &mut [u64])
-    requires { length to.old ≡ length from.now }
-    ensures { to.new ≡ from.now }
-{
-    let mut k: usize = 0;
-    while k < from.len() {
-        to[k] = from[k];
-        k += 1;
+    for (place, columns) in masks.iter().enumerate() {
+        let index = abtm::word_in(metas[place]) as usize;
+        words[index] = word::union(words[index], *columns);
     }
 }
 
@@ -57,15 +44,11 @@ fn fill_mask(
     requires fact_2 { length out.old ≡ length mask.now }
     ensures { out.new ≡ mask_words (expanded (as_tiles nrows ncols row_tile_ptr.now masks.now value_offsets.now metas.now values.now matrix_nnz) (as_mask mask_len mask.now)) mask_len }
 {
-    copy_words(mask, out);
-    let mut next: usize = 0;
-    while next < nrows {
-        let row = next;
-        next += 1;
+    out.copy_from_slice(mask);
+    for row in 0..nrows {
         if mask::is_member(mask_len, mask, row) {
-            let start = row_tile_ptr[row] as usize;
-            let end = row_tile_ptr[row + 1] as usize;
-            join_tiles(&masks[start..end], &metas[start..end], out);
+            let columns = lent::part(row_tile_ptr, masks, row);
+            join_tiles(columns, lent::part(row_tile_ptr, metas, row), out);
         }
     }
 }

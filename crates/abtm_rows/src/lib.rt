@@ -164,13 +164,11 @@ fn count_kind(metas: &[u32], kind: u32) -> usize
     ensures { result ≡ of_kind kind metas.now }
 {
     let mut count: usize = 0;
-    let mut i: usize = 0;
-    while i < metas.len() {
-        let meta = metas[i];
-        i += 1;
-        if abtm::kind_in(meta) == kind {
-            count += 1;
+    for meta in metas {
+        if abtm::kind_in(*meta) != kind {
+            continue;
         }
+        count += 1;
     }
     count
 }

@@ -39,10 +39,8 @@ fn count_each(values: &[f64]) -> usize
     ensures { result ≡ length (only solid values.now) }
 {
     let mut solid: usize = 0;
-    let mut i: usize = 0;
-    while i < values.len() {
-        solid += one_if_solid(values[i]);
-        i += 1;
+    for value in values {
+        solid += one_if_solid(*value);
     }
     solid
 }
@@ -56,13 +54,11 @@ fn count_four(first: &[f64], second: &[f64], third: &[f64], fourth: &[f64]) -> u
     let mut b: usize = 0;
     let mut c: usize = 0;
     let mut d: usize = 0;
-    let mut i: usize = 0;
-    while i < first.len() {
+    for i in 0..first.len() {
         a += one_if_solid(first[i]);
         b += one_if_solid(second[i]);
         c += one_if_solid(third[i]);
         d += one_if_solid(fourth[i]);
-        i += 1;
     }
     a + b + c + d
 }

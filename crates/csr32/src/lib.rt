@@ -24,12 +24,9 @@ fn no_fall(row_ptr: &[u32]) -> bool
 {
     let mut good = true;
     let mut last: u32 = 0;
-    let mut i: usize = 0;
-    while i < row_ptr.len() {
-        let next = row_ptr[i];
-        good = both(good, last <= next);
-        last = next;
-        i += 1;
+    for next in row_ptr {
+        good = both(good, last <= *next);
+        last = *next;
     }
     good
 }
@@ -68,10 +65,8 @@ fn columns_below(col_idx: &[u32], limit: u32) -> bool
     ensures { result ≡ every (λ c. ltb c limit) col_idx.now }
 {
     let mut good = true;
-    let mut i: usize = 0;
-    while i < col_idx.len() {
-        good = both(good, col_idx[i] < limit);
-        i += 1;
+    for col in col_idx {
+        good = both(good, *col < limit);
     }
     good
 }
@@ -87,10 +82,8 @@ fn each_finite(values: &[f64]) -> bool
     ensures { result ≡ every finite values.now }
 {
     let mut good = true;
-    let mut i: usize = 0;
-    while i < values.len() {
-        good = both(good, hybit_core::is_finite(values[i]));
-        i += 1;
+    for each_value in values {
+        good = both(good, hybit_core::is_finite(*each_value));
     }
     good
 }
@@ -104,13 +97,11 @@ fn four_finite(first: &[f64], second: &[f64], third: &[f64], fourth: &[f64]) -> 
     let mut b = true;
     let mut c = true;
     let mut d = true;
-    let mut i: usize = 0;
-    while i < first.len() {
+    for i in 0..first.len() {
         a = both(a, hybit_core::is_finite(first[i]));
         b = both(b, hybit_core::is_finite(second[i]));
         c = both(c, hybit_core::is_finite(third[i]));
         d = both(d, hybit_core::is_finite(fourth[i]));
-        i += 1;
     }
     both(both(both(a, b), c), d)
 }

@@ -43,18 +43,10 @@ fn add_entries(
     ensures { result ≡ added_to start (between col_idx.now values.now from to) x.now }
 {
     let mut sum = start;
-    let mut p = from;
-    while p < to {
+    for p in from..to {
         sum = sum + term(col_idx, values, x, p);
-        p += 1;
     }
     sum
-}
-
-fn smaller(a: usize, b: usize) -> usize
-    ensures { (result ≤ a) × (result ≤ b) }
-{
-    if a < b { a } else { b }
 }
 
 // The sums of three parts. A sum adds its products one after the other, and an addition waits for the one before it; three sums side
@@ -76,21 +68,19 @@ fn sum_three(
     requires fact_4 { Places (length col_idx.now) c c_end }
     ensures { (result.first ≡ added_to zero64 (between col_idx.now values.now a a_end) x.now) × (result.second ≡ added_to zero64 (between col_idx.now values.now b b_end) x.now) × (result.third ≡ added_to zero64 (between col_idx.now values.now c c_end) x.now) }
 {
-    let n = smaller(smaller(a_end - a, b_end - b), c_end - c);
+    let n = (a_end - a).min(b_end - b).min(c_end - c);
     let mut first: f64 = 0.0;
     let mut second: f64 = 0.0;
     let mut third: f64 = 0.0;
-    let mut i: usize = 0;
-    while i < n {
+    for i in 0..n {
         first = first + term(col_idx, values, x, a + i);
         second = second + term(col_idx, values, x, b + i);
         third = third + term(col_idx, values, x, c + i);
-        i += 1;
     }
     Three {
-        first: add_entries(col_idx, values, x, a + i, a_end, first),
-        second: add_entries(col_idx, values, x, b + i, b_end, second),
-        third: add_entries(col_idx, values, x, c + i, c_end, third),
+        first: add_entries(col_idx, values, x, a + n, a_end, first),
+        second: add_entries(col_idx, values, x, b + n, b_end, second),
+        third: add_entries(col_idx, values, x, c + n, c_end, third),
     }
 }
 
@@ -159,15 +149,13 @@ fn fill_product(
     ensures { y.new ≡ product (as_csr nrows ncols row_ptr.now col_idx.now values.now) x.now }
 {
     let third = third_of(nrows);
-    let mut row: usize = 0;
-    while row < third {
+    for row in 0..third {
         let b = row_or_last(row + third, nrows);
         let c = row_or_last(row + 2 * third, nrows);
         let s = three_rows(nrows, ncols, row_ptr, col_idx, values, x, row, b, c);
         y[row] = s.first;
         y[b] = s.second;
         y[c] = s.third;
-        row += 1;
     }
 }
 

@@ -85,10 +85,8 @@ fn fill_active(ncols: usize, words: &mut [u64])
     ensures { words.new ≡ mask_words (λ c. true) ncols }
 {
     let n = words.len();
-    let mut w: usize = 0;
-    while w < n {
+    for w in 0..n {
         words[w] = word::trimmed(18446744073709551615, ncols - 64 * w);
-        w += 1;
     }
 }
 

@@ -7,8 +7,6 @@ use native.Mathlib.Omega.{arith}
 use lib.Dec.{ltb}
 use lib.ListN.{length, get_or}
 use lib.Ieee.{Float}
-use mir.Syntax.{w64}
-use mir.Val.{Fits}
 use borrow.Author.Tests.{leb-true, eqb-true}
 use Rattle.hybit_core.specs.Answer.{accepted, demand, length_is, ◌and_then◌}
 use Rattle.hybit_core.specs.Domain.{few, many, sizes_fit}
@@ -21,25 +19,9 @@ use Rattle.dense_block.specs.Blocks.{width_of, blocks_for, Blocks, as_blocks, bl
 use Rattle.dense_block.specs.declared.DenseBlockSize.{DenseBlockSize}
 use Rattle.dense_block.specs.declared.DenseBlockSize.TheVariants.{B3, B6}
 use Rattle.dense_block_check.proofs.RuleLaws.{square_small, slots_fit, pointers_hold, values_hold, columns_hold, accepted_frame}
-use Rattle.dense_block_apply.specs.Product.{apply_blocks_answer}
+use Rattle.dense_block_apply.specs.Product.{Width, three, six, apply_blocks_answer}
 
 -- ---- numbers that fit
-
-pub fits_under : {a b : ℕ} → a < b → Fits w64 b → Fits w64 a
-fits_under h k = omega arith
-
-pub fits_within : {a b : ℕ} → a ≤ b → Fits w64 b → Fits w64 a
-fits_within h k = omega arith
-
-pub fits_forty : {a : ℕ} → a ≤ 2 ^ 40 → Fits w64 a
-fits_forty h = omega arith
-
--- a place of a block list, one more, and its place in bytes
-pub fits_next : {a : ℕ} → a < 2 ^ 24 → Fits w64 (a + 1)
-fits_next h = omega arith
-
-pub fits_bytes : {a : ℕ} → a ≤ 2 ^ 24 → Fits w64 (a * 4)
-fits_bytes h = omega arith
 
 -- n is the smaller of two numbers
 pub smaller_left : (n k m : ℕ) → n ≡ min k m → n ≤ k
@@ -49,10 +31,6 @@ pub smaller_right : (n k m : ℕ) → n ≡ min k m → n ≤ m
 smaller_right n k m e = omega arith
 
 -- ---- widths
-
-pub data Width : ℕ → Type 0 where
-  three : Width 3
-  six : Width 6
 
 width_of_lem : (s : DenseBlockSize) → Width (width_of s)
 width_of_lem B3 = three
@@ -69,10 +47,6 @@ row_under six R i h = omega arith
 pub row_full : {w : ℕ} → Width w → (R n : ℕ) → w * R + w ≤ n → R < blocks_for w n
 row_full three R n h = omega arith
 row_full six R n h = omega arith
-
-pub row_fits : {w : ℕ} → Width w → (R n : ℕ) → w * R + w ≤ n → Fits w64 n → Fits w64 (R + 1)
-row_fits three R n h k = omega arith
-row_fits six R n h k = omega arith
 
 pub place_small : {w : ℕ} → Width w → (p : ℕ) → p < 2 ^ 24 → p * (w * w) ≤ 2 ^ 39
 place_small three p h = omega arith
@@ -152,7 +126,7 @@ module _ (b : Blocks) (x : List Float) (ny : ℕ) (e : apply_blocks_answer b x n
   pub rows_few : b.rows ≤ 2 ^ 20
   rows_few = leb-true b.rows (2 ^ 20) (and_left (few b.rows) (few b.cols) frame)
 
-  facts : Width b.width → Ready b x
+  pub facts : Width b.width → Ready b x
   unfolding blocks_answer blocks_rules
   facts k =
       let n : ℕ = length b.col in
@@ -189,9 +163,6 @@ pub record Row (b : Blocks) (x : List Float) (R from to : ℕ) : Type 0 where
 module _ {b : Blocks} {x : List Float} {R from to : ℕ} (r : Row b x R from to) (p : ℕ) where
   pub row_here : p < to → p < length b.col
   row_here h = omega (arith, r.inside)
-
-  pub row_small : p ≤ to → p ≤ 2 ^ 24
-  row_small h = omega (arith, r.inside, r.ready.blocks_in)
 
 -- the block at place p, whose block column is C
 pub record Place (b : Blocks) (p C : ℕ) : Type 0 where

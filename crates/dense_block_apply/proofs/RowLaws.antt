@@ -3,13 +3,11 @@ use mathlib.Core.Bool.{true}
 use mathlib.Core.List.{List, [], ◌∷◌, foldl, foldl-append}
 use mathlib.Core.Path.{◌≡◌, refl, sym, ap, ap₂, subst, ◌∙◌}
 use Prim.Native.Nat.{ℕ, min, ◌+◌, ◌-◌, ◌*◌, ◌/◌, ◌%◌, ◌≤◌, ◌<◌}
-use native.Mathlib.Nat.{le_refl, le_trans, add-zero}
+use native.Mathlib.Nat.{le_refl, add-zero}
 use native.Mathlib.Numerals.{add-one}
 use native.Mathlib.Omega.{arith}
 use lib.ListN.{get_or}
 use lib.Ieee.{Float, nan, binary64, add}
-use mir.Syntax.{w64}
-use mir.Val.{Fits}
 use borrow.Author.Tests.{le-leb, lt-leb}
 use Rattle.hybit_core.specs.Floats.{zero64}
 use Rattle.lent.specs.Lists.{each}
@@ -18,7 +16,7 @@ use Rattle.word.specs.Bits.{between}
 use Rattle.word.proofs.BelowLaws.{between_split, between_none, between_cons}
 use Rattle.dense_block.specs.Blocks.{Blocks, inside}
 use Rattle.dense_block_apply.specs.Product.{products, term_by_term, as_one, FullBlock, fast_end, block_terms, add_block, added_blocks, block_sum}
-use Rattle.dense_block_apply.proofs.BlockLaws.{fits_forty, Ready, Row, full_row, row_is, row_small, LastRow, row_over, row_under, last_over, last_under, last_short}
+use Rattle.dense_block_apply.proofs.BlockLaws.{Ready, Row, full_row, row_is, LastRow, row_over, row_under, last_over, last_under, last_short}
 use Rattle.dense_block_apply.proofs.FullLaws.{Fast, fast_is, TailPlace, tail_place, full_block}
 
 -- ---- the places from a up to p
@@ -83,8 +81,9 @@ module _ (b : Blocks) (x : List Float) where
     pub sums_in : p ≤ to
     sums_in = omega (arith, inv.within, inv.ends.within)
 
-    pub sums_left : (p ≡ to → ⊥) → p < to
-    sums_left h = let l = sums_in in omega arith
+    -- all of the full blocks are added
+    pub sums_all : fast ≤ p → Sums R s from to fast fast sums
+    sums_all h = let e : p ≡ fast = omega (arith, inv.within) in subst (λ (q : ℕ). Sums R s from to fast q sums) e inv
 
     -- g is what the blocks from p up to q make of the number of row i
     sums_more : (q : ℕ) (g : ℕ → Float → Float) → p ≤ q → ((i : ℕ) (t : Float) → i < b.width → added_blocks b x (b.width * R + i) t p q ≡ g i t)
@@ -138,9 +137,6 @@ module _ (b : Blocks) (x : List Float) where
               ∙ rw (row_over w R i k, row_under w R i k, le-leb (b.width * R + b.width) b.rows inv.full, lt-leb (b.width * get_or b.col p 0 + b.width) b.cols q.tail)
               (ap (term_by_term t) (terms_are i p v c n ev ec (omega (arith, q.tail))))
 
-    pub sums_done : p ≡ to → sums ≡ each (λ i. added_blocks b x (b.width * R + i) (s i) from (get_or b.ptr (R + 1) 0)) b.width
-    sums_done h = inv.is ∙ sums_to p h
-
     -- the blocks that are left, added by a callee
     sums_rest : (new : List Float) → new ≡ each (λ i. added_blocks b x (b.width * R + i) (get_or sums i nan) p (get_or b.ptr (R + 1) 0)) b.width
         → new ≡ each (λ i. added_blocks b x (b.width * R + i) (s i) from (get_or b.ptr (R + 1) 0)) b.width
@@ -181,9 +177,6 @@ module _ (b : Blocks) (x : List Float) where
       }
 
   module _ (R a n i : ℕ) (sums : List Float) (inv : Beside R a n i sums) where
-    pub beside_fits : Fits w64 (a + i)
-    beside_fits = let h = row_small inv.so_far.row (a + i) (sums_in R (λ k. zero64) a inv.to inv.fast (a + i) sums inv.so_far) in fits_forty (omega arith)
-
     pub beside_block : i < n → FullBlock b.width b.col b.vals x (a + i)
     beside_block h = full_block inv.so_far.row inv.so_far.ends (a + i) inv.so_far.after (omega (arith, inv.reach))
 
@@ -201,8 +194,9 @@ module _ (b : Blocks) (x : List Float) where
               (sums_full R (λ k. zero64) a inv.to inv.fast (a + i) sums inv.so_far v (b.width * get_or b.col (a + i) 0) ev refl new (omega (arith, inv.reach)) e);
         }
 
-    pub beside_place : (get_or b.ptr R 0 ≤ a + i) × (a + i ≤ get_or b.ptr (R + 1) 0)
-    beside_place = (le_trans inv.so_far.row.starts inv.so_far.after, rw inv.so_far.row.ends at (sums_in R (λ k. zero64) a inv.to inv.fast (a + i) sums inv.so_far))
+    -- all n are added
+    pub beside_all : i ≤ n → n ≤ i → Beside R a n n sums
+    beside_all h l = let e : i ≡ n = omega arith in subst (λ (q : ℕ). Beside R a n q sums) e inv
 
     -- a callee adds the blocks that are left
     pub beside_row : (new : List Float) → new ≡ each (λ j. added_blocks b x (b.width * R + j) (get_or sums j nan) (a + i) (get_or b.ptr (R + 1) 0)) b.width → new ≡ each (λ j. block_sum b x (b.width * R + j)) b.width

@@ -1,15 +1,16 @@
 -- The terms of one row of a block, as one number and one after the other, and the numbers of a block's rows. Assumes nothing.
 use mathlib.Core.List.{List, [], ◌∷◌, ◌++◌, foldl-append}
-use mathlib.Core.Path.{◌≡◌, refl, sym, ap, ◌∙◌}
-use Prim.Native.Nat.{ℕ, ◌+◌, ◌*◌, ◌≤◌}
+use mathlib.Core.Path.{◌≡◌, refl, sym, ap, ap₂, ◌∙◌}
+use Prim.Native.Nat.{ℕ, zero, suc, ◌+◌, ◌-◌, ◌<◌}
 use native.Mathlib.Nat.{add-zero}
 use native.Mathlib.Numerals.{add-one}
 use native.Mathlib.Omega.{arith}
-use lib.ListN.{get_or}
+use lib.ListN.{get_or, set, replicate, length-replicate}
 use lib.Ieee.{Float, nan, binary64, add, mul}
 use Rattle.lent.specs.Lists.{joined, each}
+use Rattle.lent.proofs.LentLaws.{Filled, filled_more}
 use Rattle.csr32.specs.Csr.{at}
-use Rattle.dense_block_apply.specs.Product.{products, term_by_term, as_one}
+use Rattle.dense_block_apply.specs.Product.{Width, three, six, products, term_by_term, as_one}
 
 module _ (vals x : List Float) (v c : ℕ) where
   -- the product at place j
@@ -37,36 +38,28 @@ module _ (vals x : List Float) (v c : ℕ) where
           ∙ sym (ap (term_by_term start) (products_more j) ∙ foldl-append (add binary64) start (products vals x v c j) (term j ∷ []));
     }
 
-    pub adding_done : (n : ℕ) → j ≤ n → n ≤ j → s ≡ term_by_term start (products vals x v c n)
-    adding_done n h k = let e : j ≡ n = omega arith in inv.is ∙ ap (λ (m : ℕ). term_by_term start (products vals x v c m)) e
-
-  -- three and six terms as one number, each as the code has it
+  -- the first term
   abbrev first : Float
   first = mul binary64 (get_or vals v nan) (at x c)
 
-  pub three_terms : (a b d : Float) → a ≡ first → b ≡ term 1 → d ≡ term 2 → add binary64 (add binary64 a b) d ≡ as_one (products vals x v c 3)
-  unfolding products each joined term_by_term
-  three_terms a b d p q r = rw (p, q, r, add-zero v, add-zero c)
+module _ (vals x : List Float) where
+  -- the first product, and those after it
+  products_first : (v c n : ℕ) → products vals x v c (suc n) ≡ first vals x v c ∷ products vals x (v + 1) (c + 1) n
+  unfolding products each joined
+  products_first v c zero = rw (add-zero v, add-zero c) refl
+  products_first v c (suc n) =
+      let i : v + suc n ≡ v + 1 + n = omega arith in
+      let j : c + suc n ≡ c + 1 + n = omega arith in
+      ap (λ (l : List Float). l ++ (term vals x v c (suc n) ∷ [])) (products_first v c n)
+      ∙ ap₂ (λ (k m : ℕ). first vals x v c ∷ (products vals x (v + 1) (c + 1) n ++ (mul binary64 (get_or vals k nan) (at x m) ∷ []))) i j
 
-  pub six_terms : (a b d e f g : Float) → a ≡ first → b ≡ term 1 → d ≡ term 2 → e ≡ term 3 → f ≡ term 4 → g ≡ term 5
-      → add binary64 (add binary64 (add binary64 (add binary64 (add binary64 a b) d) e) f) g ≡ as_one (products vals x v c 6)
-  unfolding products each joined term_by_term
-  six_terms a b d e f g p q r t u z = rw (p, q, r, t, u, z, add-zero v, add-zero c)
+  -- w terms as one number: the later ones are added to the first
+  pub full_is : {w : ℕ} → Width w → (v c : ℕ) (s : Float) → s ≡ term_by_term (first vals x v c) (products vals x (v + 1) (c + 1) (w - 1)) → s ≡ as_one (products vals x v c w)
+  full_is three v c s e = e ∙ sym (ap as_one (products_first v c 2))
+  full_is six v c s e = e ∙ sym (ap as_one (products_first v c 5))
 
--- the rows of a block: f is a row's number after it, by the number before it and the place of its first value
-module _ (f : Float → ℕ → Float) (sums : List Float) (v : ℕ) where
-  pub three-rows : (a b c : Float) → a ≡ f (get_or sums 0 nan) v → b ≡ f (get_or sums 1 nan) (v + 3) → c ≡ f (get_or sums 2 nan) (v + 6) → (a ∷ b ∷ c ∷ []) ≡ each (λ i. f (get_or sums i nan) (v + 3 * i)) 3
-  unfolding each joined
-  three-rows a b c p q r = rw (p, q, r, add-zero v)
+-- ---- the rows of a block, made one after the other
 
-  pub six_rows : (a b c d e g : Float)
-      → a ≡ f (get_or sums 0 nan) v → b ≡ f (get_or sums 1 nan) (v + 6) → c ≡ f (get_or sums 2 nan) (v + 12)
-      → d ≡ f (get_or sums 3 nan) (v + 18) → e ≡ f (get_or sums 4 nan) (v + 24) → g ≡ f (get_or sums 5 nan) (v + 30)
-      → (a ∷ b ∷ c ∷ d ∷ e ∷ g ∷ []) ≡ each (λ i. f (get_or sums i nan) (v + 6 * i)) 6
-  unfolding each joined
-  six_rows a b c d e g p q r s t u = rw (p, q, r, s, t, u, add-zero v)
-
--- the first column of a full block by its block column, which the code has as k
-pub full_column : (w : ℕ) (vals x sums : List Float) (v k C : ℕ) → k ≡ C
-    → each (λ i. add binary64 (get_or sums i nan) (as_one (products vals x (v + w * i) (w * k) w))) w ≡ each (λ i. add binary64 (get_or sums i nan) (as_one (products vals x (v + w * i) (w * C) w))) w
-full_column w vals x sums v k C e = ap (λ (n : ℕ). each (λ i. add binary64 (get_or sums i nan) (as_one (products vals x (v + w * i) (w * n) w))) w) e
+module _ (f : ℕ → Float) (w i : ℕ) (z : Float) (l : List Float) (inv : Filled f (replicate w z) i l) where
+  pub rows_more : (v : Float) → v ≡ f i → i < w → Filled f (replicate w z) (i + 1) (set l i v)
+  rows_more v e h = filled_more f (replicate w z) i l inv v e (omega (arith, length-replicate w z))

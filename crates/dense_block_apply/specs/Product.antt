@@ -59,6 +59,11 @@ apply_blocks_answer b x ny = blocks_answer b and_then length_is b.cols (length x
 
 -- ---- what the code of the full block rows asks and says
 
+-- the widths of blocks
+pub data Width : ℕ → Type 0 where
+  three : Width 3
+  six : Width 6
+
 -- a full block of width w at place p, inside the lists
 pub record FullBlock (w : ℕ) (cs : List ℕ) (vals x : List Float) (p : ℕ) : Type 0 where
   pub here : p < length cs

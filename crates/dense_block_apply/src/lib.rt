@@ -1,52 +1,33 @@
 // dense_block.rs: `LinearOperator::apply` of `DenseBlockCsrOperator`, the product of blocks. Each value is read once.
 #![tactic(auto)]
 
-ghost use Rattle.std.specs.Prelude.{◌≡◌, ◌+◌, ◌-◌, ◌*◌, ◌/◌, ◌≤◌, ◌<◌, ◌^◌, length, get_or, take, set};
+ghost use Rattle.std.specs.Prelude.{◌≡◌, ◌+◌, ◌-◌, ◌*◌, ◌/◌, ◌≤◌, ◌<◌, ◌^◌, length, get_or, take, drop, ◌++◌};
 ghost use Rattle.std.specs.Float.{nan, binary64};
-ghost use Rattle.std.specs.Float.Ieee.{add, mul};
+ghost use Rattle.std.specs.Float.Ieee.{add};
 ghost use Rattle.hybit_core.specs.Answer.{accepted};
 ghost use Rattle.hybit_core.specs.Table.{told};
 ghost use Rattle.lent.specs.Lists.{each};
 ghost use Rattle.lent.specs.Lent.{kept};
 ghost use Rattle.dense_block.specs.Blocks.{width_of, as_blocks};
-ghost use Rattle.dense_block_apply.specs.Product.{products, term_by_term, as_one, FullBlock, fast_end, added_blocks, block_sum, blocks_product, apply_blocks_answer};
+ghost use Rattle.dense_block_apply.specs.Product.{Width, products, term_by_term, as_one, FullBlock, fast_end, added_blocks, block_sum, blocks_product, apply_blocks_answer};
 
 use dense_block::DenseBlockSize;
 use hybit_core::HybitError;
 
-fn term(values: &[f64], at: usize, x: &[f64], col: usize) -> f64
-    requires { (at < length values.now) × (col < length x.now) }
-    ensures { result ≡ mul binary64 (get_or values.now at nan) (get_or x.now col nan) }
+// A full block's terms in one row, as one number.
+#[inline(always)]
+fn full_terms<const WIDTH: usize>(values: &[f64], at: usize, x: &[f64], col: usize) -> f64
+    requires width { Width WIDTH }
+    requires fact_1 { at + WIDTH ≤ length values.now }
+    requires fact_2 { col + WIDTH ≤ length x.now }
+    requires fact_3 { (at ≤ 2 ^ 39) × (col ≤ 2 ^ 39) }
+    ensures { result ≡ as_one (products values.now x.now at col WIDTH) }
 {
-    values[at] * x[col]
-}
-
-// A full block's terms in one row of three, as one number.
-fn three(values: &[f64], at: usize, x: &[f64], col: usize) -> f64
-    requires fact_1 { at + 3 ≤ length values.now }
-    requires fact_2 { col + 3 ≤ length x.now }
-    requires fact_3 { (at ≤ 2 ^ 40) × (col ≤ 2 ^ 40) }
-    ensures { result ≡ as_one (products values.now x.now at col 3) }
-{
-    term(values, at, x, col) + term(values, at + 1, x, col + 1) + term(values, at + 2, x, col + 2)
-}
-
-// The same in one row of six.
-fn six(values: &[f64], at: usize, x: &[f64], col: usize) -> f64
-    requires fact_1 { at + 6 ≤ length values.now }
-    requires fact_2 { col + 6 ≤ length x.now }
-    requires fact_3 { (at ≤ 2 ^ 40) × (col ≤ 2 ^ 40) }
-    ensures { result ≡ as_one (products values.now x.now at col 6) }
-{
-    term(values, at, x, col)
-        + term(values, at + 1, x, col + 1)
-        + term(values, at + 2, x, col + 2)
-        + term(values, at + 3, x, col + 3)
-        + term(values, at + 4, x, col + 4)
-        + term(values, at + 5, x, col + 5)
+    add_terms(values[at] * x[col], WIDTH - 1, values, at + 1, x, col + 1)
 }
 
 // Adds `count` terms of a row to `start`, one after the other.
+#[inline(always)]
 fn add_terms(start: f64, count: usize, values: &[f64], at: usize, x: &[f64], col: usize) -> f64
     requires fact_1 { at + count ≤ length values.now }
     requires fact_2 { col + count ≤ length x.now }
@@ -54,84 +35,53 @@ fn add_terms(start: f64, count: usize, values: &[f64], at: usize, x: &[f64], col
     ensures { result ≡ term_by_term start (products values.now x.now at col count) }
 {
     let mut sum = start;
-    let mut j: usize = 0;
-    while j < count {
-        sum = sum + values[at + j] * x[col + j];
-        j += 1;
+    for j in 0..count {
+        sum += values[at + j] * x[col + j];
     }
     sum
 }
 
-// The three rows of a full block row after a full block more.
-fn add_full3(sums: [f64; 3], col_idx: &[u32], values: &[f64], x: &[f64], p: usize) -> [f64; 3]
-    requires { FullBlock 3 col_idx.now values.now x.now p }
-    ensures { result ≡ each (λ i. add binary64 (get_or sums i nan) (as_one (products values.now x.now (9 * p + 3 * i) (3 * get_or col_idx.now p 0) 3))) 3 }
+// The rows of a full block row after a full block more.
+fn add_full<const WIDTH: usize>(
+    sums: [f64; WIDTH],
+    col_idx: &[u32],
+    values: &[f64],
+    x: &[f64],
+    p: usize,
+) -> [f64; WIDTH]
+    requires width { Width WIDTH }
+    requires block { FullBlock WIDTH col_idx.now values.now x.now p }
+    ensures { result ≡ each (λ i. add binary64 (get_or sums.entry i nan) (as_one (products values.now x.now (p * (WIDTH * WIDTH) + WIDTH * i) (WIDTH * get_or col_idx.now p 0) WIDTH))) WIDTH }
 {
-    let at = 9 * p;
-    let col = 3 * col_idx[p] as usize;
-    let a = sums[0] + three(values, at, x, col);
-    let b = sums[1] + three(values, at + 3, x, col);
-    let c = sums[2] + three(values, at + 6, x, col);
-    [a, b, c]
+    let at = p * (WIDTH * WIDTH);
+    let col = WIDTH * col_idx[p] as usize;
+    let mut more = [0.0; WIDTH];
+    for i in 0..WIDTH {
+        more[i] = sums[i] + full_terms::<WIDTH>(values, at + WIDTH * i, x, col);
+    }
+    more
 }
 
-// The same of six rows.
-fn add_full6(sums: [f64; 6], col_idx: &[u32], values: &[f64], x: &[f64], p: usize) -> [f64; 6]
-    requires { FullBlock 6 col_idx.now values.now x.now p }
-    ensures { result ≡ each (λ i. add binary64 (get_or sums i nan) (as_one (products values.now x.now (36 * p + 6 * i) (6 * get_or col_idx.now p 0) 6))) 6 }
-{
-    let at = 36 * p;
-    let col = 6 * col_idx[p] as usize;
-    let a = sums[0] + six(values, at, x, col);
-    let b = sums[1] + six(values, at + 6, x, col);
-    let c = sums[2] + six(values, at + 12, x, col);
-    let d = sums[3] + six(values, at + 18, x, col);
-    let e = sums[4] + six(values, at + 24, x, col);
-    let f = sums[5] + six(values, at + 30, x, col);
-    [a, b, c, d, e, f]
-}
-
-// The three rows after a column tail more, `count` columns wide.
-fn add_tail3(
-    sums: [f64; 3],
+// The rows after a column tail more, `count` columns wide.
+fn add_tail<const WIDTH: usize>(
+    sums: [f64; WIDTH],
     count: usize,
     values: &[f64],
     at: usize,
     x: &[f64],
     col: usize,
-) -> [f64; 3]
-    requires fact_1 { (at + 9 ≤ length values.now) × (count ≤ 3) }
+) -> [f64; WIDTH]
+    requires width { Width WIDTH }
+    requires fact_1 { (at + WIDTH * WIDTH ≤ length values.now) × (count ≤ WIDTH) }
     requires fact_2 { col + count ≤ length x.now }
     requires fact_3 { (at ≤ 2 ^ 39) × (col ≤ 2 ^ 39) }
-    ensures { result ≡ each (λ i. term_by_term (get_or sums i nan) (products values.now x.now (at + 3 * i) col count)) 3 }
+    ensures { result ≡ each (λ i. term_by_term (get_or sums.entry i nan) (products values.now x.now (at + WIDTH * i) col count)) WIDTH }
 {
-    let a = add_terms(sums[0], count, values, at, x, col);
-    let b = add_terms(sums[1], count, values, at + 3, x, col);
-    let c = add_terms(sums[2], count, values, at + 6, x, col);
-    [a, b, c]
-}
-
-// The same of six rows.
-fn add_tail6(
-    sums: [f64; 6],
-    count: usize,
-    values: &[f64],
-    at: usize,
-    x: &[f64],
-    col: usize,
-) -> [f64; 6]
-    requires fact_1 { (at + 36 ≤ length values.now) × (count ≤ 6) }
-    requires fact_2 { col + count ≤ length x.now }
-    requires fact_3 { (at ≤ 2 ^ 39) × (col ≤ 2 ^ 39) }
-    ensures { result ≡ each (λ i. term_by_term (get_or sums i nan) (products values.now x.now (at + 6 * i) col count)) 6 }
-{
-    let a = add_terms(sums[0], count, values, at, x, col);
-    let b = add_terms(sums[1], count, values, at + 6, x, col);
-    let c = add_terms(sums[2], count, values, at + 12, x, col);
-    let d = add_terms(sums[3], count, values, at + 18, x, col);
-    let e = add_terms(sums[4], count, values, at + 24, x, col);
-    let f = add_terms(sums[5], count, values, at + 30, x, col);
-    [a, b, c, d, e, f]
+    let mut more = [0.0; WIDTH];
+    for i in 0..WIDTH {
+        more[i] = add_terms(sums[i], count, values, at + WIDTH * i, x, col);
+    }
+    more
 }
 
 // Where the full blocks of a row end: of rising block columns only the last can reach past the frame.
@@ -165,8 +115,8 @@ fn full_count(width: usize, ncols: usize, row_ptr: &[u32], col_idx: &[u32], row:
     fast_end(width, ncols, col_idx, start, pointer(row_ptr, row + 1)) - start
 }
 
-// The three rows of full block row `row` of accepted blocks: the blocks from place `from` on are added to `sums`.
-fn add_blocks3(
+// The rows of full block row `row` of accepted blocks: the blocks from place `from` on are added to `sums`.
+fn add_blocks<const WIDTH: usize>(
     nrows: usize,
     ncols: usize,
     row_ptr: &[u32],
@@ -175,39 +125,37 @@ fn add_blocks3(
     x: &[f64],
     row: usize,
     from: usize,
-    sums: [f64; 3],
-) -> [f64; 3]
-    requires fact_1 { apply_blocks_answer (as_blocks nrows ncols 3 row_ptr.now col_idx.now values.now) x.now nrows ≡ accepted }
-    requires fact_2 { 3 * row + 3 ≤ nrows }
+    sums: [f64; WIDTH],
+) -> [f64; WIDTH]
+    requires width { Width WIDTH }
+    requires fact_1 { apply_blocks_answer (as_blocks nrows ncols WIDTH row_ptr.now col_idx.now values.now) x.now nrows ≡ accepted }
+    requires fact_2 { WIDTH * row + WIDTH ≤ nrows }
     requires fact_3 { (get_or row_ptr.now row 0 ≤ from) × (from ≤ get_or row_ptr.now (row + 1) 0) }
-    ensures { result ≡ each (λ i. added_blocks (as_blocks nrows ncols 3 row_ptr.now col_idx.now values.now) x.now (3 * row + i) (get_or sums i nan) from (get_or row_ptr.now (row + 1) 0)) 3 }
+    ensures { result ≡ each (λ i. added_blocks (as_blocks nrows ncols WIDTH row_ptr.now col_idx.now values.now) x.now (WIDTH * row + i) (get_or sums.entry i nan) from (get_or row_ptr.now (row + 1) 0)) WIDTH }
 {
     let end = pointer(row_ptr, row + 1);
-    let fast = fast_end(3, ncols, col_idx, from, end);
+    let fast = fast_end(WIDTH, ncols, col_idx, from, end);
     let mut all = sums;
-    let mut p = from;
-    while p < fast {
-        let full = add_full3(all, col_idx, values, x, p);
-        all = full;
-        p += 1;
+    for p in from..fast {
+        all = add_full(all, col_idx, values, x, p);
     }
-    if p == end {
+    if fast == end {
         return all;
     }
-    let col = 3 * col_idx[p] as usize;
-    add_tail3(all, ncols - col, values, 9 * p, x, col)
+    let col = WIDTH * col_idx[fast] as usize;
+    add_tail(all, ncols - col, values, fast * (WIDTH * WIDTH), x, col)
 }
 
-// The three rows of two full block rows.
+// The rows of two full block rows.
 #[derive(Clone, Copy)]
-struct Two3 {
-    first: [f64; 3],
-    second: [f64; 3],
+struct TwoRows<const WIDTH: usize> {
+    first: [f64; WIDTH],
+    second: [f64; WIDTH],
 }
 
 // The full block rows `row` and `other`, side by side as far as the shorter one's full blocks go: rows far from each other are read as
 // two long streams, which memory serves better than one.
-fn two_rows3(
+fn two_rows<const WIDTH: usize>(
     nrows: usize,
     ncols: usize,
     row_ptr: &[u32],
@@ -216,135 +164,40 @@ fn two_rows3(
     x: &[f64],
     row: usize,
     other: usize,
-) -> Two3
-    requires fact_1 { apply_blocks_answer (as_blocks nrows ncols 3 row_ptr.now col_idx.now values.now) x.now nrows ≡ accepted }
-    requires fact_2 { (3 * row + 3 ≤ nrows) × (3 * other + 3 ≤ nrows) }
-    ensures { (result.first ≡ each (λ i. block_sum (as_blocks nrows ncols 3 row_ptr.now col_idx.now values.now) x.now (3 * row + i)) 3) × (result.second ≡ each (λ i. block_sum (as_blocks nrows ncols 3 row_ptr.now col_idx.now values.now) x.now (3 * other + i)) 3) }
+) -> TwoRows<WIDTH>
+    requires width { Width WIDTH }
+    requires fact_1 { apply_blocks_answer (as_blocks nrows ncols WIDTH row_ptr.now col_idx.now values.now) x.now nrows ≡ accepted }
+    requires fact_2 { (WIDTH * row + WIDTH ≤ nrows) × (WIDTH * other + WIDTH ≤ nrows) }
+    ensures { (result.first ≡ each (λ i. block_sum (as_blocks nrows ncols WIDTH row_ptr.now col_idx.now values.now) x.now (WIDTH * row + i)) WIDTH) × (result.second ≡ each (λ i. block_sum (as_blocks nrows ncols WIDTH row_ptr.now col_idx.now values.now) x.now (WIDTH * other + i)) WIDTH) }
 {
     let a = pointer(row_ptr, row);
     let b = pointer(row_ptr, other);
-    let n = full_count(3, ncols, row_ptr, col_idx, row).min(full_count(
-        3, ncols, row_ptr, col_idx, other,
+    let n = full_count(WIDTH, ncols, row_ptr, col_idx, row).min(full_count(
+        WIDTH, ncols, row_ptr, col_idx, other,
     ));
-    let mut one = [0.0f64; 3];
-    let mut two = [0.0f64; 3];
-    let mut i: usize = 0;
-    while i < n {
-        let more = add_full3(one, col_idx, values, x, a + i);
-        one = more;
-        let more = add_full3(two, col_idx, values, x, b + i);
-        two = more;
-        i += 1;
+    let mut one = [0.0; WIDTH];
+    let mut two = [0.0; WIDTH];
+    for i in 0..n {
+        one = add_full(one, col_idx, values, x, a + i);
+        two = add_full(two, col_idx, values, x, b + i);
     }
-    let first = add_blocks3(nrows, ncols, row_ptr, col_idx, values, x, row, a + i, one);
-    let second = add_blocks3(nrows, ncols, row_ptr, col_idx, values, x, other, b + i, two);
-    Two3 { first, second }
+    let first = add_blocks(nrows, ncols, row_ptr, col_idx, values, x, row, a + n, one);
+    let second = add_blocks(nrows, ncols, row_ptr, col_idx, values, x, other, b + n, two);
+    TwoRows { first, second }
 }
 
-// The six rows of full block row `row` of accepted blocks: the blocks from place `from` on are added to `sums`.
-fn add_blocks6(
-    nrows: usize,
-    ncols: usize,
-    row_ptr: &[u32],
-    col_idx: &[u32],
-    values: &[f64],
-    x: &[f64],
-    row: usize,
-    from: usize,
-    sums: [f64; 6],
-) -> [f64; 6]
-    requires fact_1 { apply_blocks_answer (as_blocks nrows ncols 6 row_ptr.now col_idx.now values.now) x.now nrows ≡ accepted }
-    requires fact_2 { 6 * row + 6 ≤ nrows }
-    requires fact_3 { (get_or row_ptr.now row 0 ≤ from) × (from ≤ get_or row_ptr.now (row + 1) 0) }
-    ensures { result ≡ each (λ i. added_blocks (as_blocks nrows ncols 6 row_ptr.now col_idx.now values.now) x.now (6 * row + i) (get_or sums i nan) from (get_or row_ptr.now (row + 1) 0)) 6 }
+// Writes the rows of a full block row.
+fn write_rows<const WIDTH: usize>(sums: [f64; WIDTH], at: usize, y: &mut [f64])
+    requires fact_1 { at + WIDTH ≤ length y.old }
+    requires fact_2 { at + WIDTH ≤ 2 ^ 40 }
+    ensures { y.new ≡ take at y.old ++ sums.entry ++ drop (at + WIDTH) y.old }
 {
-    let end = pointer(row_ptr, row + 1);
-    let fast = fast_end(6, ncols, col_idx, from, end);
-    let mut all = sums;
-    let mut p = from;
-    while p < fast {
-        let full = add_full6(all, col_idx, values, x, p);
-        all = full;
-        p += 1;
-    }
-    if p == end {
-        return all;
-    }
-    let col = 6 * col_idx[p] as usize;
-    add_tail6(all, ncols - col, values, 36 * p, x, col)
+    y[at..at + WIDTH].copy_from_slice(&sums);
 }
 
-// The six rows of two full block rows.
-#[derive(Clone, Copy)]
-struct Two6 {
-    first: [f64; 6],
-    second: [f64; 6],
-}
-
-// The full block rows `row` and `other`, side by side as far as the shorter one's full blocks go: rows far from each other are read as
-// two long streams, which memory serves better than one.
-fn two_rows6(
-    nrows: usize,
-    ncols: usize,
-    row_ptr: &[u32],
-    col_idx: &[u32],
-    values: &[f64],
-    x: &[f64],
-    row: usize,
-    other: usize,
-) -> Two6
-    requires fact_1 { apply_blocks_answer (as_blocks nrows ncols 6 row_ptr.now col_idx.now values.now) x.now nrows ≡ accepted }
-    requires fact_2 { (6 * row + 6 ≤ nrows) × (6 * other + 6 ≤ nrows) }
-    ensures { (result.first ≡ each (λ i. block_sum (as_blocks nrows ncols 6 row_ptr.now col_idx.now values.now) x.now (6 * row + i)) 6) × (result.second ≡ each (λ i. block_sum (as_blocks nrows ncols 6 row_ptr.now col_idx.now values.now) x.now (6 * other + i)) 6) }
-{
-    let a = pointer(row_ptr, row);
-    let b = pointer(row_ptr, other);
-    let n = full_count(6, ncols, row_ptr, col_idx, row).min(full_count(
-        6, ncols, row_ptr, col_idx, other,
-    ));
-    let mut one = [0.0f64; 6];
-    let mut two = [0.0f64; 6];
-    let mut i: usize = 0;
-    while i < n {
-        let more = add_full6(one, col_idx, values, x, a + i);
-        one = more;
-        let more = add_full6(two, col_idx, values, x, b + i);
-        two = more;
-        i += 1;
-    }
-    let first = add_blocks6(nrows, ncols, row_ptr, col_idx, values, x, row, a + i, one);
-    let second = add_blocks6(nrows, ncols, row_ptr, col_idx, values, x, other, b + i, two);
-    Two6 { first, second }
-}
-
-// Writes the three rows of a full block row.
-fn write3(sums: [f64; 3], at: usize, y: &mut [f64])
-    requires fact_1 { at + 3 ≤ length y.old }
-    requires fact_2 { at ≤ 2 ^ 20 }
-    ensures { y.new ≡ set (set (set y.old at (get_or sums 0 nan)) (at + 1) (get_or sums 1 nan)) (at + 2) (get_or sums 2 nan) }
-{
-    y[at] = sums[0];
-    y[at + 1] = sums[1];
-    y[at + 2] = sums[2];
-}
-
-// Writes the six rows of a full block row.
-fn write6(sums: [f64; 6], at: usize, y: &mut [f64])
-    requires fact_1 { at + 6 ≤ length y.old }
-    requires fact_2 { at ≤ 2 ^ 20 }
-    ensures { y.new ≡ set (set (set (set (set (set y.old at (get_or sums 0 nan)) (at + 1) (get_or sums 1 nan)) (at + 2) (get_or sums 2 nan)) (at + 3) (get_or sums 3 nan)) (at + 4) (get_or sums 4 nan)) (at + 5) (get_or sums 5 nan) }
-{
-    y[at] = sums[0];
-    y[at + 1] = sums[1];
-    y[at + 2] = sums[2];
-    y[at + 3] = sums[3];
-    y[at + 4] = sums[4];
-    y[at + 5] = sums[5];
-}
-
-// The rows of accepted blocks of width 3, the full block rows first, those of the two halves side by side. Where the second half is
-// the shorter one, its last row is made again.
-fn apply3(
+// The full block rows of accepted blocks, those of the two halves side by side. Where the second half is the shorter one, its last row
+// is made again.
+fn apply_full_rows<const WIDTH: usize>(
     nrows: usize,
     ncols: usize,
     row_ptr: &[u32],
@@ -353,68 +206,42 @@ fn apply3(
     x: &[f64],
     y: &mut [f64],
 )
-    requires { apply_blocks_answer (as_blocks nrows ncols 3 row_ptr.now col_idx.now values.now) x.now (length y.old) ≡ accepted }
-    ensures { y.new ≡ blocks_product (as_blocks nrows ncols 3 row_ptr.now col_idx.now values.now) x.now }
+    requires width { Width WIDTH }
+    requires accepted { apply_blocks_answer (as_blocks nrows ncols WIDTH row_ptr.now col_idx.now values.now) x.now (length y.old) ≡ accepted }
+    ensures { take (WIDTH * (nrows / WIDTH)) y.new ≡ each (block_sum (as_blocks nrows ncols WIDTH row_ptr.now col_idx.now values.now) x.now) (WIDTH * (nrows / WIDTH)) }
 {
-    let full = nrows / 3;
+    let full = nrows / WIDTH;
     let half = (full + 1) / 2;
-    let mut row: usize = 0;
-    while row < half {
+    for row in 0..half {
         let other = (row + half).min(full - 1);
-        let sums = two_rows3(nrows, ncols, row_ptr, col_idx, values, x, row, other);
-        let first = sums.first;
-        let second = sums.second;
-        write3(first, 3 * row, y);
-        write3(second, 3 * other, y);
-        row += 1;
+        let sums = two_rows::<WIDTH>(nrows, ncols, row_ptr, col_idx, values, x, row, other);
+        write_rows(sums.first, WIDTH * row, y);
+        write_rows(sums.second, WIDTH * other, y);
     }
-    apply_partial_last_row(
-        nrows,
-        ncols,
-        DenseBlockSize::B3,
-        row_ptr,
-        col_idx,
-        values,
-        x,
-        y,
-    );
 }
 
-// The same of width 6.
-fn apply6(
+// The same for the size of the blocks.
+fn fill_full_rows(
     nrows: usize,
     ncols: usize,
+    size: DenseBlockSize,
     row_ptr: &[u32],
     col_idx: &[u32],
     values: &[f64],
     x: &[f64],
     y: &mut [f64],
 )
-    requires { apply_blocks_answer (as_blocks nrows ncols 6 row_ptr.now col_idx.now values.now) x.now (length y.old) ≡ accepted }
-    ensures { y.new ≡ blocks_product (as_blocks nrows ncols 6 row_ptr.now col_idx.now values.now) x.now }
+    requires { apply_blocks_answer (as_blocks nrows ncols (width_of size) row_ptr.now col_idx.now values.now) x.now (length y.old) ≡ accepted }
+    ensures { take (width_of size * (nrows / width_of size)) y.new ≡ each (block_sum (as_blocks nrows ncols (width_of size) row_ptr.now col_idx.now values.now) x.now) (width_of size * (nrows / width_of size)) }
 {
-    let full = nrows / 6;
-    let half = (full + 1) / 2;
-    let mut row: usize = 0;
-    while row < half {
-        let other = (row + half).min(full - 1);
-        let sums = two_rows6(nrows, ncols, row_ptr, col_idx, values, x, row, other);
-        let first = sums.first;
-        let second = sums.second;
-        write6(first, 6 * row, y);
-        write6(second, 6 * other, y);
-        row += 1;
+    match size {
+        DenseBlockSize::B3 => {
+            apply_full_rows::<3>(nrows, ncols, row_ptr, col_idx, values, x, y);
+        }
+        DenseBlockSize::B6 => {
+            apply_full_rows::<6>(nrows, ncols, row_ptr, col_idx, values, x, y);
+        }
     }
-    apply_partial_last_row(
-        nrows,
-        ncols,
-        DenseBlockSize::B6,
-        row_ptr,
-        col_idx,
-        values,
-        x,
-        y,
-    );
 }
 
 // The number of a row below the full block rows: each block is summed from 0.0.
@@ -437,14 +264,11 @@ fn partial_sum(
     let local_row = row - width * last;
     let end = pointer(row_ptr, last + 1);
     let mut sum: f64 = 0.0;
-    let mut p = pointer(row_ptr, last);
-    while p < end {
+    for p in pointer(row_ptr, last)..end {
         let col = width * col_idx[p] as usize;
         let at = p * (width * width) + width * local_row;
         let count = width.min(ncols - col);
-        let block = add_terms(0.0, count, values, at, x, col);
-        sum = sum + block;
-        p += 1;
+        sum += add_terms(0.0, count, values, at, x, col);
     }
     sum
 }
@@ -464,10 +288,8 @@ fn apply_partial_last_row(
     requires fact_2 { take (width_of size * (nrows / width_of size)) y.old ≡ each (block_sum (as_blocks nrows ncols (width_of size) row_ptr.now col_idx.now values.now) x.now) (width_of size * (nrows / width_of size)) }
     ensures { y.new ≡ blocks_product (as_blocks nrows ncols (width_of size) row_ptr.now col_idx.now values.now) x.now }
 {
-    let mut row = size.width() * size.full_blocks(nrows);
-    while row < nrows {
+    for row in size.width() * size.full_blocks(nrows)..nrows {
         y[row] = partial_sum(nrows, ncols, size, row_ptr, col_idx, values, x, row);
-        row += 1;
     }
 }
 
@@ -485,10 +307,8 @@ fn fill_product(
     requires { apply_blocks_answer (as_blocks nrows ncols (width_of size) row_ptr.now col_idx.now values.now) x.now (length y.old) ≡ accepted }
     ensures { y.new ≡ blocks_product (as_blocks nrows ncols (width_of size) row_ptr.now col_idx.now values.now) x.now }
 {
-    match size {
-        DenseBlockSize::B3 => apply3(nrows, ncols, row_ptr, col_idx, values, x, y),
-        DenseBlockSize::B6 => apply6(nrows, ncols, row_ptr, col_idx, values, x, y),
-    }
+    fill_full_rows(nrows, ncols, size, row_ptr, col_idx, values, x, y);
+    apply_partial_last_row(nrows, ncols, size, row_ptr, col_idx, values, x, y);
 }
 
 fn examine_apply(

@@ -7,7 +7,7 @@ use native.Mathlib.Nat.{mod-lt, mul_comm, mul_assoc, mul-lt-mul_of_pos_left, mul
 use native.Mathlib.Decide.{dec_lt, ℕ_discrete}
 use native.Mathlib.Omega.{arith}
 use lib.Dec.{eqb, ltb}
-use lib.ListN.{length, get_or, take, drop, replicate, length-replicate}
+use lib.ListN.{length, get_or, take, drop, replicate}
 use lib.Ieee.{Float, nan}
 use borrow.Author.Tests.{eq-eqb, ne_eqb, eqb-true, ltb-true, lt-ltb, le-ltb}
 use Rattle.hybit_core.specs.Answer.{accepted}
@@ -131,9 +131,6 @@ module _ (m : Csr) (w R : ℕ) (cs : List ℕ) (pos : 0 < w) where
     pub banding_long : length out ≡ length cs * (w * w)
     banding_long = ap length inv.is ∙ length-each (λ q. value_in q (ltb (row_at q) k)) (length cs * (w * w))
 
-    pub banding_same : (old : List Float) → old ≡ replicate (length cs * (w * w)) zero64 → length out ≡ length old
-    banding_same old e = banding_long ∙ sym (ap length e ∙ length-replicate (length cs * (w * w)) zero64)
-
     was : (q : ℕ) → q < length cs * (w * w) → get_or out q nan ≡ value_in q (ltb (row_at q) k)
     was q h = ap (λ (l : List Float). get_or l q nan) inv.is ∙ get_or-each (λ q. value_in q (ltb (row_at q) k)) (length cs * (w * w)) q nan h
 
@@ -185,9 +182,6 @@ module _ (m : Csr) (s : DenseBlockSize) (R : ℕ) (ok : csr_answer m ≡ accepte
 
   pub band_end : (v x k : ℕ) → v ≡ width_of s → x ≡ min v (m.rows - v * R) → x ≤ k → inside (width_of s) m.rows R ≤ k
   band_end v x k e q h = subst (λ (n : ℕ). n ≤ k) (q ∙ ap (λ (u : ℕ). min u (m.rows - u * R)) e) h
-
-  pub band-first : (v : ℕ) → v ≡ width_of s → width_of s * R < m.rows → v * R < m.rows
-  band-first v e h = subst (λ (u : ℕ). u * R < m.rows) (sym e) h
 
   module _ (v k : ℕ) (e : v ≡ width_of s) (h : k < inside (width_of s) m.rows R) where
     band_row : v * R + k < m.rows

@@ -21,26 +21,15 @@ use Rattle.lent.specs.Lent.{padded, built}
 use Rattle.lent.proofs.LentLaws.{front_zeros, written_front}
 use Rattle.csr32.specs.Csr.{Csr, csr_answer}
 use Rattle.csr32.specs.Made.{as_csr_room}
-use Rattle.csr32.proofs.CsrLaws.{valid}
 use Rattle.dense_block.specs.Blocks.{width_of, blocks_for, blocks_of, structural_slots, valid_slots}
 use Rattle.dense_block.specs.Calls.{figures_of, columns_answer, fits_blocks, build_blocks_answer}
 use Rattle.dense_block.specs.declared.DenseBlockSize.{DenseBlockSize}
 use Rattle.dense_block.specs.declared.DenseBlocks.{DenseBlocks}
-use Rattle.dense_block_columns.proofs.BandLaws.{blocks_few}
 use Rattle.dense_block_build.specs.Making.{Padded}
 use Rattle.dense_block_build.proofs.SizeLaws.{square_is, square_pos}
 use Rattle.dense_block_build.proofs.FillLaws.{pointers_long, vals-count}
 
 -- ---- what a count answers
-
-pub count_given : (a : Answer) (x n : ℕ) (r : Result ℕ HybitError) → a ≡ accepted → given r ≡ answers a x → r ≡ Ok n → n ≡ x
-count_given a x n r k e q = let z : gives n ≡ gives x = sym (ap given q) ∙ e ∙ ap (λ (b : Answer). answers b x) k in cc
-
-pub count_never : (a : Answer) (x n : ℕ) (r : Result ℕ HybitError) (h : HybitError) → a ≡ accepted → given r ≡ answers a x → r ≡ Err h → n ≡ x
-count_never a x n r h k e q =
-    let z : refuses (paper h) ≡ gives x = sym (ap given q) ∙ e ∙ ap (λ (b : Answer). answers b x) k in
-    let y : ◌≡◌ {A = ℕ} 0 1 = cc in
-    absurd (omega arith)
 
 -- ---- a result in a lent list, and its used part
 
@@ -59,9 +48,6 @@ padded-at z a n l out e p = p ∙ ap (λ (k : ℕ). padded z k l) e
 module _ (m : Csr) (s : DenseBlockSize) (ok : csr_answer m ≡ accepted) where
   pub pointers_count : (x : ℕ) → x ≡ blocks_for (width_of s) m.rows → x + 1 ≡ length (blocks_of m (width_of s)).ptr
   pointers_count x e = ap (λ (k : ℕ). k + 1) e ∙ sym (pointers_long m s (blocks_of m (width_of s)).ptr (blocks_of m (width_of s)).col refl refl)
-
-  pub bands_fit : (x : ℕ) → x ≡ blocks_for (width_of s) m.rows → x ≤ 349526
-  bands_fit x e = subst (λ (k : ℕ). k ≤ 349526) (sym e) (blocks_few s m.rows (valid m ok).rows_in)
 
   -- blocks of them, of width v
   module _ (blocks v : ℕ) (eb : blocks ≡ length (blocks_of m (width_of s)).col) (ev : v ≡ width_of s) where

@@ -152,9 +152,6 @@ module _ (m : Csr) (s : DenseBlockSize) where
         record { within = zero-le; bits_are = eb; same = refl; is = e ∙ ap (λ (x : ℕ). replicate x zero64) k }
 
     module _ (starts₀ : List ℕ) (R : ℕ) (bits starts : List ℕ) (out : List Float) (inv : Filling starts₀ R bits starts out) where
-      pub filling_bits : (old : List ℕ) → old ≡ mask_words (λ c. false) (blocks_for (width_of s) m.cols) → length bits ≡ length old
-      filling_bits old e = ap length (inv.bits_are ∙ sym e)
-
       filling_long : length out ≡ length (joined vals_at bands)
       filling_long =
           let x : ℕ = length (joined vals_at bands) - length (joined vals_at R) in

@@ -1,12 +1,12 @@
 -- Rows of one length, one after the other; a row of a block copied in. Assumes nothing.
 use mathlib.Core.List.{List, [], ◌∷◌, ◌++◌}
 use mathlib.Core.Path.{◌≡◌, refl, sym, ap, ap₂, ◌∙◌}
-use Prim.Native.Nat.{ℕ, zero, suc, ◌+◌, ◌-◌, ◌*◌, ◌/◌, ◌%◌, ◌≤◌, ◌<◌}
+use Prim.Native.Nat.{ℕ, zero, suc, ◌+◌, ◌*◌, ◌/◌, ◌%◌, ◌<◌}
 use native.Mathlib.Nat.{mul-zero, mul-suc, mod-lt, div-add-mod, div-lt_iff_lt-mul}
 use native.Mathlib.Numerals.{add-one}
 use native.Mathlib.Omega.{arith}
 use lib.ListN.{length, get_or, take, set, length-set, length-append}
-use lib.Seq.{take-suc, take_all, get_or-set_same, get_or-set_other}
+use lib.Seq.{take-suc, get_or-set_same, get_or-set_other}
 use lib.Ieee.{Float, nan}
 use Rattle.lent.specs.Lists.{joined, each}
 use Rattle.lent.proofs.ListLaws.{joined_cong, get_or-joined}
@@ -52,8 +52,3 @@ module _ (values : List Float) where
           ap (each (λ i. get_or (set line j v) i nan)) (add-one j) ∙ joined-set (λ (x : Float). x ∷ []) line j v nan (omega (arith, inv.room))
           ∙ ap₂ (λ (s : List Float) (x : Float). s ++ x ∷ []) inv.is e ∙ sym (ap (λ (k : ℕ). take k values) (add-one j) ∙ take-suc values j nan l);
     }
-
-    pub line_done : (w : ℕ) → j ≤ w → w ≤ j → length values ≡ w → each (λ i. get_or line i nan) w ≡ values
-    line_done w a b l =
-        let q : w ≡ j = omega arith in
-        ap (each (λ i. get_or line i nan)) q ∙ inv.is ∙ take_all j values (omega arith)

@@ -52,9 +52,6 @@ module _ (n : ℕ) (cs starts₀ : List ℕ) where
     pub noting_long : length bits ≡ ceil64 n
     noting_long = ap length inv.bits_are ∙ length-words (listed (take k cs)) n
 
-    pub noting_same : (old : List ℕ) → old ≡ mask_words (λ c. false) n → length bits ≡ length old
-    noting_same old e = noting_long ∙ sym (ap length e ∙ length-words (λ c. false) n)
-
     bit_before : (i : ℕ) → i < n → listed (take k cs) i ≡ true → has (get_or bits (i / 64) 0) (i % 64) ≡ true
     unfolding bit_at
     bit_before i h x = ap (λ (l : List ℕ). has (get_or l (i / 64) 0) (i % 64)) inv.bits_are ∙ bit_of_words (listed (take k cs)) n i ∙ within_in n (listed (take k cs)) i h ∙ x

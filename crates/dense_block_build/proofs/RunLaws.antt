@@ -39,6 +39,3 @@ module _ (w key : ℕ) (cs : List ℕ) (from : ℕ) where
 
   pub run_more : (end r : ℕ) → Running w key cs from end → end < length cs → r ≡ get_or cs end 0 / w → r ≡ key → Running w key cs from (end + 1)
   run_more end r inv h e k = record { some = omega (arith, inv.some); inside = omega arith; is = run_next end (omega (arith, inv.some)) h (sym e ∙ k) inv.is }
-
-  pub run_done : (end : ℕ) → Running w key cs from end → ((from < end) × (end ≤ length cs)) × (every (λ c. eqb (c / w) key) (take (end - from) (drop from cs)) ≡ true)
-  run_done end inv = ((inv.some, inv.inside), inv.is)

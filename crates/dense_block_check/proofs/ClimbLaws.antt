@@ -8,7 +8,7 @@ use native.Mathlib.Numerals.{add-one}
 use native.Mathlib.Omega.{arith}
 use lib.Dec.{ltb}
 use lib.ListN.{length, get_or, take, drop, drop_of_length-le}
-use lib.Seq.{drop-cons}
+use lib.Seq.{drop-cons, take_all}
 use borrow.Author.Tests.{le-leb, lt-ltb, ltb-true}
 use Rattle.hybit_core.proofs.BoolLaws.{and_left, and_right, and_both, same_test, flag_on, flag_off}
 use Rattle.lent.specs.Lists.{every, climbs, part}
@@ -16,7 +16,7 @@ use Rattle.lent.proofs.ListLaws.{part_lent, every-part, every-joined}
 use Rattle.word.specs.Bits.{from, below}
 use Rattle.word.proofs.BitLaws.{every-below, every-below-at}
 use Rattle.csr32.specs.Csr.{framed}
-use Rattle.csr32.proofs.FrameLaws.{Framed, RowIn, framed_facts, row_in, parts_all}
+use Rattle.csr32.proofs.FrameLaws.{Framed, framed_facts, parts_all}
 use Rattle.dense_block.specs.Blocks.{Blocks, blocks_for, rows_climb}
 
 -- ---- one row: the block columns from place i on are still to be tested
@@ -61,30 +61,36 @@ unfolding climbs every
 keeps-none m [] e = refl
 keeps-none m (a ∷ cs) e = absurd (omega arith)
 
--- a is the column before place i
-pub record Keeping (m : ℕ) (cs : List ℕ) (holds : Bool) (a i : ℕ) : Type 0 where
-  pub is : columns_keep m cs ≡ (holds && rest m a (drop i cs))
+-- of the columns ds after the first one those from place i on are still to be tested, and a is the column before them
+pub record Keeping (m : ℕ) (cs ds : List ℕ) (holds : Bool) (a i : ℕ) : Type 0 where
+  pub is : columns_keep m cs ≡ (holds && rest m a (drop i ds))
 
-pub keeping_one : (m : ℕ) (cs : List ℕ) → (length cs ≡ 0 → ⊥) → Keeping m cs true (get_or cs 0 0) 1
+pub keeping_one : (m : ℕ) (cs : List ℕ) → (length cs ≡ 0 → ⊥) → Keeping m cs (take (length cs - 1) (drop 1 cs)) true (get_or cs 0 0) 0
 unfolding rest climbs
 keeping_one m [] h = absurd (h refl)
-keeping_one m (a ∷ cs) h = record { is = ap (λ (t : Bool). t && climbs (suc a) cs && every (λ c. ltb c m) (a ∷ cs)) (le-leb 0 a (omega arith)) }
+keeping_one m (a ∷ cs) h =
+    let all : take (suc (length cs) - 1) cs ≡ cs = take_all (suc (length cs) - 1) cs (omega arith) in
+    record {
+      is =
+          ap (λ (t : Bool). t && climbs (suc a) cs && every (λ c. ltb c m) (a ∷ cs)) (le-leb 0 a (omega arith))
+          ∙ ap (λ (ds : List ℕ). rest m a ds) (sym all);
+    }
 
-module _ (m : ℕ) (cs : List ℕ) (holds : Bool) (a i : ℕ) (inv : Keeping m cs holds a i) where
-  pub keeping_more : (r : Bool) → i < length cs → r ≡ (holds && ltb a (get_or cs i 0)) → Keeping m cs r (get_or cs i 0) (i + 1)
+module _ (m : ℕ) (cs ds : List ℕ) (holds : Bool) (a i : ℕ) (inv : Keeping m cs ds holds a i) where
+  pub keeping_more : (r : Bool) → i < length ds → r ≡ (holds && ltb a (get_or ds i 0)) → Keeping m cs ds r (get_or ds i 0) (i + 1)
   keeping_more r l e =
-      let b : ℕ = get_or cs i 0 in
+      let b : ℕ = get_or ds i 0 in
       record {
         is =
             inv.is
-            ∙ ap (λ (s : List ℕ). holds && rest m a s) (drop-cons cs i 0 l)
-            ∙ ap (λ (t : Bool). holds && t) (rest_more m a b (drop (suc i) cs))
-            ∙ sym (and_assoc holds (ltb a b) (rest m b (drop (suc i) cs)))
-            ∙ ap₂ (λ (t : Bool) (j : ℕ). t && rest m b (drop j cs)) (sym e) (sym (add-one i));
+            ∙ ap (λ (s : List ℕ). holds && rest m a s) (drop-cons ds i 0 l)
+            ∙ ap (λ (t : Bool). holds && t) (rest_more m a b (drop (suc i) ds))
+            ∙ sym (and_assoc holds (ltb a b) (rest m b (drop (suc i) ds)))
+            ∙ ap₂ (λ (t : Bool) (j : ℕ). t && rest m b (drop j ds)) (sym e) (sym (add-one i));
       }
 
-  pub keeping_done : (r : Bool) → length cs ≤ i → r ≡ (holds && ltb a m) → r ≡ columns_keep m cs
-  keeping_done r h e = e ∙ sym (inv.is ∙ ap (λ (s : List ℕ). holds && rest m a s) (drop_of_length-le cs h) ∙ ap (λ (t : Bool). holds && t) (rest_last m a))
+  pub keeping_done : (r : Bool) → length ds ≤ i → r ≡ (holds && ltb a m) → r ≡ columns_keep m cs
+  keeping_done r h e = e ∙ sym (inv.is ∙ ap (λ (s : List ℕ). holds && rest m a s) (drop_of_length-le ds h) ∙ ap (λ (t : Bool). holds && t) (rest_last m a))
 
 -- ---- all rows: of n rows, those from row R on are still to be tested
 
@@ -131,10 +137,6 @@ module _ (m : ℕ) (ps cs : List ℕ) (n : ℕ) where
   pub rows_done : (R : ℕ) → Rows m ps cs n R → n ≤ R → true ≡ every (row_keeps m ps cs) (below (λ R. true) n)
   unfolding from every
   rows_done R inv h = let z : n - R ≡ 0 = omega arith in sym (inv.is ∙ ap (λ (d : ℕ). every (row_keeps m ps cs) (from (λ R. true) R d)) z)
-
-  -- the pointers of row R
-  pub row_here : (R : ℕ) → Rows m ps cs n R → R < n → RowIn ps (length cs) R
-  row_here R inv h = row_in n ps (length cs) R inv.frame h
 
   -- ---- the rows are the whole list
 

@@ -3,9 +3,8 @@
 use mathlib.Core.Bool.{Bool, true}
 use mathlib.Core.List.{List}
 use mathlib.Core.Path.{◌≡◌, sym, ap, ◌∙◌}
-use mir.Val.{bool_byte}
-use Prim.Native.Nat.{ℕ, ◌+◌, ◌*◌, ◌/◌, ◌^◌, ◌≤◌, ◌<◌}
-use native.Mathlib.Nat.{le_refl, mul-le-mul_right}
+use Prim.Native.Nat.{ℕ, ◌+◌, ◌*◌, ◌/◌, ◌≤◌, ◌<◌}
+use native.Mathlib.Nat.{le_refl}
 use native.Mathlib.Omega.{arith}
 use lib.Dec.{leb}
 use lib.ListN.{length, get_or, take}
@@ -13,7 +12,6 @@ use lib.Ieee.{Float}
 use lib.Seq.{take_at}
 use Rattle.lent.specs.Lists.{joined, part, only}
 use Rattle.lent.proofs.ListLaws.{joined_split, only-joined}
-use Rattle.word.proofs.BelowLaws.{byte_le}
 use Rattle.csr32.specs.Csr.{framed}
 use Rattle.csr32.proofs.FrameLaws.{Framed, framed_facts, parts_all, parts-length}
 use Rattle.dense_block.specs.Blocks.{as_blocks, blocks_for, width_of}
@@ -21,23 +19,10 @@ use Rattle.dense_block.specs.Calls.{fast_blocks}
 use Rattle.dense_block.specs.declared.DenseBlockSize.{DenseBlockSize}
 use Rattle.dense_block.specs.declared.DenseBlockSize.TheVariants.{B3, B6}
 
--- ---- a width
-
-pub width_small : (s : DenseBlockSize) (w : ℕ) → w ≡ width_of s → w ≤ 6
-width_small B3 w e = omega arith
-width_small B6 w e = omega arith
-
--- no block column is so far that its columns leave a word
-pub column_fits : (w c : ℕ) → w ≤ 6 → c < 2 ^ 32 → w * c < 2 ^ 63
-column_fits w c h l = omega (arith, mul-le-mul_right c h)
-
 -- a full block row is a block row
 pub full_row : (s : DenseBlockSize) (n : ℕ) → n / width_of s ≤ blocks_for (width_of s) n
 full_row B3 n = omega arith
 full_row B6 n = omega arith
-
-pub one-small : (k : ℕ) (t : Bool) → k ≡ bool_byte t → k ≤ 1
-one-small k t e = omega (arith, byte_le t)
 
 -- ---- the rows before row k are the list's front
 

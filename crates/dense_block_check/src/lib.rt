@@ -31,11 +31,9 @@ fn row_holds(cols: &[u32], limit: u32) -> bool
     }
     let mut holds = true;
     let mut before = cols[0];
-    let mut i: usize = 1;
-    while i < cols.len() {
-        holds = also(holds, before < cols[i]);
-        before = cols[i];
-        i += 1;
+    for col in &cols[1..] {
+        holds = also(holds, before < *col);
+        before = *col;
     }
     also(holds, before < limit)
 }
@@ -54,14 +52,12 @@ fn rows_hold(
 {
     let rows = size.blocks_for(nrows);
     let limit = hybit_core::narrow(size.blocks_for(ncols));
-    let mut row: usize = 0;
-    while row < rows {
+    for row in 0..rows {
         let start = row_ptr[row] as usize;
         let end = row_ptr[row + 1] as usize;
         if !row_holds(&col_idx[start..end], limit) {
             return false;
         }
-        row += 1;
     }
     true
 }
@@ -113,10 +109,8 @@ fn count_full(width: usize, ncols: usize, cols: &[u32]) -> usize
     ensures { result ≡ length (only (λ C. leb (width * C + width) ncols) cols.now) }
 {
     let mut full: usize = 0;
-    let mut i: usize = 0;
-    while i < cols.len() {
-        full += usize::from(width * cols[i] as usize + width <= ncols);
-        i += 1;
+    for col in cols {
+        full += usize::from(width * *col as usize + width <= ncols);
     }
     full
 }

@@ -23,12 +23,10 @@ fn distinct(ncols: usize, cols: &[u32], bits: &mut [u64]) -> usize
     ensures bits { bits.new ≡ mask_words (λ c. false) ncols }
 {
     let mut found: usize = 0;
-    let mut k: usize = 0;
-    while k < cols.len() {
-        let col = cols[k] as usize;
+    for column in cols {
+        let col = *column as usize;
         found += usize::from(!word::contains_offset(bits[col / 64], col % 64));
         levels::mark(bits, col);
-        k += 1;
     }
     levels::forget(cols, bits);
     found
@@ -48,12 +46,10 @@ fn count_structural(
     let mut bits = [0u64; 16384];
     let nwords = (ncols + 63) / 64;
     let mut slots: usize = 0;
-    let mut row: usize = 0;
-    while row < nrows {
+    for row in 0..nrows {
         let start = row_ptr[row] as usize;
         let end = row_ptr[row + 1] as usize;
         slots += distinct(ncols, &col_idx[start..end], &mut bits[..nwords]);
-        row += 1;
     }
     slots
 }

@@ -68,10 +68,8 @@ fn ones(words: &[u64]) -> usize
     ensures { result ≡ count (bit_at words.now) (64 * length words.now) }
 {
     let mut n: usize = 0;
-    let mut k: usize = 0;
-    while k < words.len() {
-        n += word::popcount(words[k]);
-        k += 1;
+    for bits in words {
+        n += word::popcount(*bits);
     }
     n
 }
@@ -118,6 +116,7 @@ fn put_members(word: u64, base: usize, from: usize, out: &mut [usize]) -> usize
 {
     let mut bits = word;
     let mut at = from;
+    // A walk over the set bits of a word: no index is counted.
     while bits != 0 {
         out[at] = base + word::lowest(bits);
         at += 1;
@@ -133,10 +132,8 @@ fn put_all(words: &[u64], out: &mut [usize]) -> usize
 {
     let n = words.len();
     let mut at: usize = 0;
-    let mut k: usize = 0;
-    while k < n {
+    for k in 0..n {
         at = put_members(words[k], k * 64, at, out);
-        k += 1;
     }
     at
 }

@@ -44,12 +44,10 @@ pub fn new(len: usize, words: &mut [u64]) -> Result<(), HybitError>
 fn all_below(indices: &[usize], len: usize) -> bool
     ensures { result ≡ every (λ i. ltb i len) indices.now }
 {
-    let mut k: usize = 0;
-    while k < indices.len() {
-        if indices[k] >= len {
+    for index in indices {
+        if *index >= len {
             return false;
         }
-        k += 1;
     }
     true
 }
@@ -86,12 +84,9 @@ fn set_all(len: usize, indices: &[usize], words: &mut [u64])
     requires words_value { words.old ≡ padded 0 (length words.old) [] }
     ensures { words.new ≡ padded 0 (length words.old) (mask_words (listed indices.now) len) }
 {
-    let mut k: usize = 0;
-    while k < indices.len() {
-        let index = indices[k];
-        let at = index / 64;
-        words[at] = with_value(words[at], index % 64, true);
-        k += 1;
+    for index in indices {
+        let at = *index / 64;
+        words[at] = with_value(words[at], *index % 64, true);
     }
 }
 

@@ -44,10 +44,8 @@ fn combine_words(operation: Operation, words: &mut [u64], other: &[u64])
         (length words.old) }
 {
     let count = words.len();
-    let mut k: usize = 0;
-    while k < count {
+    for k in 0..count {
         words[k] = word::combine(operation, words[k], other[k]);
-        k += 1;
     }
 }
 
@@ -121,12 +119,10 @@ fn words_meet(words: &[u64], other: &[u64]) -> bool
     requires { length other.now ≡ length words.now }
     ensures { result ≡ not (eqb (count (both (bit_at words.now) (bit_at other.now)) (64 * length words.now)) 0) }
 {
-    let mut k: usize = 0;
-    while k < words.len() {
+    for k in 0..words.len() {
         if word::intersection(words[k], other[k]) != 0 {
             return true;
         }
-        k += 1;
     }
     false
 }

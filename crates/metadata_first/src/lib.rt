@@ -162,8 +162,7 @@ fn counts_hold(
     requires fact_2 { framed nrows row_value_ptr.now (length values.now) ≡ true }
     ensures { result ≡ value_rules (as_store nrows ncols row_word_ptr.now word_indices.now masks.now (set_bits masks.now) row_value_ptr.now values.now) }
 {
-    let mut row: usize = 0;
-    while row < nrows {
+    for row in 0..nrows {
         let start = row_word_ptr[row] as usize;
         let end = row_word_ptr[row + 1] as usize;
         let first = row_value_ptr[row] as usize;
@@ -171,7 +170,6 @@ fn counts_hold(
         if last - first != topology::count_bits(&masks[start..end]) {
             return false;
         }
-        row += 1;
     }
     true
 }

@@ -32,13 +32,11 @@ fn place_words(ncols: usize, words: &[u32], masks: &[u64], bits: &mut [u64], sta
     ensures { Ranks (row_member words.now masks.now) ncols bits.new starts.new }
 {
     let mut place: usize = 0;
-    let mut i: usize = 0;
-    while i < words.len() {
+    for i in 0..words.len() {
         let index = words[i] as usize;
         bits[index] = masks[i];
         starts[index] = hybit_core::narrow(place);
         place += word::popcount(masks[i]);
-        i += 1;
     }
 }
 
@@ -57,13 +55,11 @@ fn add_entries(
     requires fact_4 { out.old ≡ replicate (count (present (zip cols.now vals.now)) ncols) zero64 }
     ensures { out.new ≡ row_values ncols (zip cols.now vals.now) }
 {
-    let mut k: usize = 0;
-    while k < cols.len() {
+    for k in 0..cols.len() {
         let c = cols[k] as usize;
         let index = c / 64;
         let place = starts[index] as usize + word::ones_below(bits[index], c % 64);
         out[place] = out[place] + vals[k];
-        k += 1;
     }
 }
 
@@ -112,10 +108,8 @@ fn pack_rows(
     ensures values { packed.new ≡ (store_of (as_csr nrows ncols row_ptr.now col_idx.now values.now)).vals }
 {
     let mut at: usize = 0;
-    let mut next: usize = 0;
-    while next < nrows {
+    for next in 0..nrows {
         let row = next;
-        next += 1;
         row_value_ptr[row] = hybit_core::narrow(at);
         let start = row_ptr[row] as usize;
         let end = row_ptr[row + 1] as usize;

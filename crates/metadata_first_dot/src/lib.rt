@@ -34,6 +34,7 @@ fn sum_word(
 {
     let mut sum = start;
     let mut rest = bits;
+    // A walk over the set bits of a word: no index is counted.
     while rest != 0 {
         let bit = word::lowest(rest);
         let ordinal = place + word::ones_below(mask, bit);
@@ -59,20 +60,17 @@ fn dot_row(
     let mut candidate: usize = 0;
     let mut executed: usize = 0;
     let mut active_words: usize = 0;
-    let mut i: usize = 0;
-    while i < words.len() {
+    for i in 0..words.len() {
         let index = words[i] as usize;
         let bits = word::intersection(masks[i], active[index]);
         if bits == 0 {
             candidate += word::popcount(masks[i]);
-            i += 1;
-        } else {
-            sum = sum_word(masks[i], bits, candidate, 64 * index, values, x, sum);
-            candidate += word::popcount(masks[i]);
-            executed += word::popcount(bits);
-            active_words += 1;
-            i += 1;
+            continue;
         }
+        sum = sum_word(masks[i], bits, candidate, 64 * index, values, x, sum);
+        candidate += word::popcount(masks[i]);
+        executed += word::popcount(bits);
+        active_words += 1;
     }
     AbtmRowDot {
         sum: sum,
@@ -184,8 +182,7 @@ fn fill_rows(
     ensures sums { sums.new ≡ row_sums (as_store nrows ncols row_word_ptr.now word_indices.now masks.now structural_nnz row_value_ptr.now values.now) (as_mask mask_len mask.now) x.now }
     ensures counts { executed.new ≡ row_counts (as_store nrows ncols row_word_ptr.now word_indices.now masks.now structural_nnz row_value_ptr.now values.now) (as_mask mask_len mask.now) x.now }
 {
-    let mut row: usize = 0;
-    while row < nrows {
+    for row in 0..nrows {
         let d = row_dot(
             nrows,
             ncols,
@@ -202,7 +199,6 @@ fn fill_rows(
         );
         sums[row] = d.sum;
         executed[row] = hybit_core::narrow(d.executed_products);
-        row += 1;
     }
 }
 

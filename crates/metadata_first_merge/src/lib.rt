@@ -22,17 +22,16 @@ fn add_window(cols: &[u32], vals: &[f64], base: usize, sums: &mut [f64])
     ensures { sums.new ≡ each (λ i. merged (zip cols.now vals.now) (base + i)) (length sums.old) }
 {
     let width = sums.len();
-    let mut k: usize = 0;
-    while k < cols.len() {
+    for k in 0..cols.len() {
         let c = cols[k] as usize;
-        let v = vals[k];
-        k += 1;
-        if base <= c {
-            let i = c - base;
-            if i < width {
-                sums[i] = sums[i] + v;
-            }
+        if c < base {
+            continue;
         }
+        let i = c - base;
+        if i >= width {
+            continue;
+        }
+        sums[i] = sums[i] + vals[k];
     }
 }
 
@@ -40,17 +39,17 @@ fn add_window(cols: &[u32], vals: &[f64], base: usize, sums: &mut [f64])
 fn sums_hold(cols: &[u32], base: usize, sums: &[f64]) -> bool
     ensures { result ≡ sums_finite base sums.now cols.now }
 {
-    let mut k: usize = 0;
-    while k < cols.len() {
-        let c = cols[k] as usize;
-        k += 1;
-        if base <= c {
-            let i = c - base;
-            if i < sums.len() {
-                if !hybit_core::is_finite(sums[i]) {
-                    return false;
-                }
-            }
+    for col in cols {
+        let c = *col as usize;
+        if c < base {
+            continue;
+        }
+        let i = c - base;
+        if i >= sums.len() {
+            continue;
+        }
+        if !hybit_core::is_finite(sums[i]) {
+            return false;
         }
     }
     true
@@ -62,16 +61,16 @@ fn clear_window(cols: &[u32], base: usize, sums: &mut [f64])
     ensures { sums.new ≡ replicate (length sums.old) zero64 }
 {
     let width = sums.len();
-    let mut k: usize = 0;
-    while k < cols.len() {
-        let c = cols[k] as usize;
-        k += 1;
-        if base <= c {
-            let i = c - base;
-            if i < width {
-                sums[i] = 0.0;
-            }
+    for col in cols {
+        let c = *col as usize;
+        if c < base {
+            continue;
         }
+        let i = c - base;
+        if i >= width {
+            continue;
+        }
+        sums[i] = 0.0;
     }
 }
 
@@ -99,6 +98,7 @@ fn row_holds(ncols: usize, cols: &[u32], vals: &[f64], sums: &mut [f64]) -> bool
 {
     let width = sums.len();
     let mut base: usize = 0;
+    // `(0..ncols).step_by(width)` leaves open that it ends.
     while base < ncols {
         if !window_holds(cols, vals, base, sums) {
             return false;
@@ -121,14 +121,12 @@ fn rows_hold(
     requires fact_3 { sums.old ≡ replicate (length sums.old) zero64 }
     ensures { result ≡ merged_finite (as_csr nrows ncols row_ptr.now col_idx.now values.now) }
 {
-    let mut row: usize = 0;
-    while row < nrows {
+    for row in 0..nrows {
         let start = row_ptr[row] as usize;
         let end = row_ptr[row + 1] as usize;
         if !row_holds(ncols, &col_idx[start..end], &values[start..end], sums) {
             return false;
         }
-        row += 1;
     }
     true
 }

@@ -41,10 +41,8 @@ pub fn totals(reports: &[AbtmRowDot]) -> Result<AbtmProductPruningStats, HybitEr
     ensures { given result ≡ totals_over reports.now }
 {
     let mut acc = start();
-    let mut i: usize = 0;
-    while i < reports.len() {
-        acc = add(acc, reports[i]);
-        i = i + 1;
+    for report in reports {
+        acc = add(acc, *report);
     }
     acc
 }

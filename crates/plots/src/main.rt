@@ -102,18 +102,14 @@ fn show_operations(a: u64, b: u64) {
 }
 
 fn show_words(words: &[u64]) {
-    let mut k: usize = 0;
-    while k < words.len() {
-        number(words[k]);
-        k += 1;
+    for bits in words {
+        number(*bits);
     }
 }
 
 fn show_indices(indices: &[usize]) {
-    let mut k: usize = 0;
-    while k < indices.len() {
-        size(indices[k]);
-        k += 1;
+    for index in indices {
+        size(*index);
     }
 }
 
@@ -152,10 +148,8 @@ fn show_mask(plots: &[usize], words: &mut [u64], members: &mut [usize]) {
 }
 
 fn show_u32(numbers: &[u32]) {
-    let mut k: usize = 0;
-    while k < numbers.len() {
-        size(numbers[k] as usize);
-        k += 1;
+    for number in numbers {
+        size(*number as usize);
     }
 }
 
@@ -333,10 +327,8 @@ fn float(x: f64) {
 }
 
 fn show_floats(values: &[f64]) {
-    let mut k: usize = 0;
-    while k < values.len() {
-        float(values[k]);
-        k += 1;
+    for value in values {
+        float(*value);
     }
 }
 

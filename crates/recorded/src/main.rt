@@ -16,6 +16,7 @@ use denimrasp_answers::{
 };
 use dense_block::DenseBlocks;
 use hybit_core::HybitError;
+use lent::Zero;
 use metadata_first::{AbtmProductPruningStats, AbtmRowDot};
 use restricted::{ColumnRestriction, LocalRegion};
 use topology::AbtmTopologyWord;
@@ -40,6 +41,7 @@ fn ten_times(v: u64, digit: u8) -> u64 {
 fn numeral(text: &[u8], at: &mut usize) -> u64 {
     let mut value: u64 = 0;
     let mut i = *at;
+    // The place is the caller's, and goes on from where the last number ended.
     while i < text.len() {
         let b = text[i];
         i += 1;
@@ -83,60 +85,65 @@ fn byte(text: &[u8], at: &mut usize) -> u8 {
     (numeral(text, at) % 256) as u8
 }
 
+// An element of a recorded list: as the input and the output have it.
+trait Recorded: Zero {
+    fn read(text: &[u8], at: &mut usize) -> Self;
+
+    fn show(self);
+}
+
+impl Recorded for u32 {
+    fn read(text: &[u8], at: &mut usize) -> u32 {
+        hybit_core::narrow(index(text, at))
+    }
+
+    fn show(self) {
+        size(self as usize);
+    }
+}
+
+impl Recorded for u64 {
+    fn read(text: &[u8], at: &mut usize) -> u64 {
+        numeral(text, at)
+    }
+
+    fn show(self) {
+        number(self);
+    }
+}
+
+impl Recorded for usize {
+    fn read(text: &[u8], at: &mut usize) -> usize {
+        index(text, at)
+    }
+
+    fn show(self) {
+        size(self);
+    }
+}
+
+impl Recorded for f64 {
+    fn read(text: &[u8], at: &mut usize) -> f64 {
+        float_of(numeral(text, at))
+    }
+
+    fn show(self) {
+        float(self);
+    }
+}
+
 // The next list of the input, in the first places of the room for it.
-fn read_u32<'a>(text: &[u8], at: &mut usize, room: &'a mut [u32]) -> &'a mut [u32] {
+fn read<'a, T: Recorded>(text: &[u8], at: &mut usize, room: &'a mut [T]) -> &'a mut [T] {
     let used = places(numeral(text, at), room.len());
-    let mut k: usize = 0;
-    while k < used {
-        room[k] = hybit_core::narrow(index(text, at));
-        k += 1;
+    for place in &mut room[..used] {
+        *place = T::read(text, at);
     }
     &mut room[..used]
 }
 
-fn read_u64<'a>(text: &[u8], at: &mut usize, room: &'a mut [u64]) -> &'a mut [u64] {
-    let used = places(numeral(text, at), room.len());
-    let mut k: usize = 0;
-    while k < used {
-        room[k] = numeral(text, at);
-        k += 1;
-    }
-    &mut room[..used]
-}
-
-fn read_usize<'a>(text: &[u8], at: &mut usize, room: &'a mut [usize]) -> &'a mut [usize] {
-    let used = places(numeral(text, at), room.len());
-    let mut k: usize = 0;
-    while k < used {
-        room[k] = index(text, at);
-        k += 1;
-    }
-    &mut room[..used]
-}
-
-fn read_f64<'a>(text: &[u8], at: &mut usize, room: &'a mut [f64]) -> &'a mut [f64] {
-    let used = places(numeral(text, at), room.len());
-    let mut k: usize = 0;
-    while k < used {
-        room[k] = float_of(numeral(text, at));
-        k += 1;
-    }
-    &mut room[..used]
-}
-
-// The same lists, to be read alone: a call is handed them without a loan of its own.
-fn list_u32<'a>(text: &[u8], at: &mut usize, room: &'a mut [u32]) -> &'a [u32] {
-    let list = read_u32(text, at, room);
-    &list[..]
-}
-
-fn list_u64<'a>(text: &[u8], at: &mut usize, room: &'a mut [u64]) -> &'a [u64] {
-    let list = read_u64(text, at, room);
-    &list[..]
-}
-
-fn list_f64<'a>(text: &[u8], at: &mut usize, room: &'a mut [f64]) -> &'a [f64] {
-    let list = read_f64(text, at, room);
+// The same list, to be read alone: a call is handed it without a loan of its own.
+fn list<'a, T: Recorded>(text: &[u8], at: &mut usize, room: &'a mut [T]) -> &'a [T] {
+    let list = read(text, at, room);
     &list[..]
 }
 
@@ -316,97 +323,40 @@ fn fraction(r: DenimraspRatio) {
     float(r.ratio);
 }
 
-// A list: its length and its places.
-fn show_u32(s: &[u32]) {
-    size(s.len());
-    let mut i: usize = 0;
-    while i < s.len() {
-        size(s[i] as usize);
-        i += 1;
+// A list: how many elements, and each.
+fn show<T: Recorded>(list: &[T]) {
+    size(list.len());
+    for element in list {
+        element.show();
     }
 }
 
-fn show_u64(s: &[u64]) {
-    size(s.len());
-    let mut i: usize = 0;
-    while i < s.len() {
-        number(s[i]);
-        i += 1;
-    }
-}
-
-fn show_usize(s: &[usize]) {
-    size(s.len());
-    let mut i: usize = 0;
-    while i < s.len() {
-        size(s[i]);
-        i += 1;
-    }
-}
-
-fn show_f64(s: &[f64]) {
-    size(s.len());
-    let mut i: usize = 0;
-    while i < s.len() {
-        float(s[i]);
-        i += 1;
-    }
-}
-
-// A part of a lent list of u32, or why there is none.
-fn part_u32(part: Result<&[u32], HybitError>) {
+// A part of a lent list, or why there is none.
+fn show_part<T: Recorded>(part: Result<&[T], HybitError>) {
     match part {
-        Ok(p) => {
+        Ok(list) => {
             refusal(0, 0, 0);
-            show_u32(p);
+            show(list);
         }
         Err(e) => {
             refused(e);
-            show_u32(&[]);
-        }
-    }
-}
-
-// A part of a lent list of u64, or why there is none.
-fn part_u64(part: Result<&[u64], HybitError>) {
-    match part {
-        Ok(p) => {
-            refusal(0, 0, 0);
-            show_u64(p);
-        }
-        Err(e) => {
-            refused(e);
-            show_u64(&[]);
-        }
-    }
-}
-
-// A part of a lent list of f64, or why there is none.
-fn part_f64(part: Result<&[f64], HybitError>) {
-    match part {
-        Ok(p) => {
-            refusal(0, 0, 0);
-            show_f64(p);
-        }
-        Err(e) => {
-            refused(e);
-            show_f64(&[]);
+            size(0);
         }
     }
 }
 
 // Lent words.
 fn show_words(ptr: &[u32], words: &[u32], masks: &[u64]) {
-    show_u32(ptr);
-    show_u32(words);
-    show_u64(masks);
+    show(ptr);
+    show(words);
+    show(masks);
 }
 
 // A lent plot list, or lent blocks.
 fn show_list(row_ptr: &[u32], col_idx: &[u32], values: &[f64]) {
-    show_u32(row_ptr);
-    show_u32(col_idx);
-    show_f64(values);
+    show(row_ptr);
+    show(col_idx);
+    show(values);
 }
 
 // The calls that are handed a mask first. A record is read once, by the function of all calls that begin with it: the time to prove
@@ -414,7 +364,7 @@ fn show_list(row_ptr: &[u32], col_idx: &[u32], values: &[f64]) {
 fn mask_calls(call: u64, text: &[u8], at: &mut usize) {
     let mut words_room = [0u64; MASK_ROOM];
     let len = index(text, at);
-    let words = read_u64(text, at, &mut words_room);
+    let words = read(text, at, &mut words_room);
     match call {
         4 | 6 | 7 | 9 | 10 | 11 => mask_change(call, text, at, len, words),
         _ => mask_read(call, text, at, len, words),
@@ -451,7 +401,7 @@ fn mask_place(call: u64, index: usize, len: usize, words: &[u64]) {
 fn mask_change(call: u64, text: &[u8], at: &mut usize, len: usize, words: &mut [u64]) {
     let r = mask_changed(call, text, at, len, words);
     verdict(r);
-    show_u64(words);
+    show(words);
 }
 
 fn mask_changed(
@@ -483,15 +433,15 @@ fn mask_or_word(text: &[u8], at: &mut usize, len: usize, words: &mut [u64]) -> D
 
 fn mask_indices(text: &[u8], at: &mut usize, len: usize, words: &[u64]) {
     let mut out_room = [0usize; ROOM];
-    let out = read_usize(text, at, &mut out_room);
+    let out = read(text, at, &mut out_room);
     count(denimrasp::denimrasp_mask_indices(len, words, out));
-    show_usize(out);
+    show(out);
 }
 
 fn mask_intersects(text: &[u8], at: &mut usize, len: usize, words: &[u64]) {
     let mut other_room = [0u64; MASK_ROOM];
     let other_len = index(text, at);
-    let other = list_u64(text, at, &mut other_room);
+    let other = list(text, at, &mut other_room);
     answer(denimrasp::denimrasp_mask_intersects(len, words, other_len, other));
 }
 
@@ -505,7 +455,7 @@ fn mask_assign(
 ) -> DenimraspVerdict {
     let mut other_room = [0u64; MASK_ROOM];
     let other_len = index(text, at);
-    let other = list_u64(text, at, &mut other_room);
+    let other = list(text, at, &mut other_room);
     mask_combined(call, len, words, other_len, other)
 }
 
@@ -527,11 +477,11 @@ fn mask_from_indices(text: &[u8], at: &mut usize) {
     let mut indices_room = [0usize; ROOM];
     let mut words_room = [0u64; MASK_ROOM];
     let len = index(text, at);
-    let indices = read_usize(text, at, &mut indices_room);
-    let words = read_u64(text, at, &mut words_room);
+    let indices = read(text, at, &mut indices_room);
+    let words = read(text, at, &mut words_room);
     let r = denimrasp::denimrasp_mask_from_indices(len, indices, words);
     verdict(r);
-    show_u64(words);
+    show(words);
 }
 
 // The calls that are handed a plot list first.
@@ -540,9 +490,9 @@ fn csr32_calls(call: u64, text: &[u8], at: &mut usize) {
     let mut col_idx_room = [0u32; ROOM];
     let mut values_room = [0.0f64; ROOM];
     let f = read_frame(text, at);
-    let row_ptr = list_u32(text, at, &mut row_ptr_room);
-    let col_idx = list_u32(text, at, &mut col_idx_room);
-    let values = list_f64(text, at, &mut values_room);
+    let row_ptr = list(text, at, &mut row_ptr_room);
+    let col_idx = list(text, at, &mut col_idx_room);
+    let values = list(text, at, &mut values_room);
     csr32_call(call, text, at, f, row_ptr, col_idx, values);
 }
 
@@ -590,10 +540,10 @@ fn csr32_apply(
 ) {
     let mut x_room = [0.0f64; ROOM];
     let mut y_room = [0.0f64; ROOM];
-    let x = list_f64(text, at, &mut x_room);
-    let y = read_f64(text, at, &mut y_room);
+    let x = list(text, at, &mut x_room);
+    let y = read(text, at, &mut y_room);
     verdict(denimrasp::denimrasp_csr32_apply(f.nrows, f.ncols, row_ptr, col_idx, values, x, y));
-    show_f64(y);
+    show(y);
 }
 
 fn topology_from_csr32(
@@ -607,9 +557,9 @@ fn topology_from_csr32(
     let mut ptr_room = [0u32; ROOM];
     let mut words_room = [0u32; ROOM];
     let mut masks_room = [0u64; ROOM];
-    let ptr = read_u32(text, at, &mut ptr_room);
-    let words = read_u32(text, at, &mut words_room);
-    let masks = read_u64(text, at, &mut masks_room);
+    let ptr = read(text, at, &mut ptr_room);
+    let words = read(text, at, &mut words_room);
+    let masks = read(text, at, &mut masks_room);
     let r = denimrasp::denimrasp_topology_from_csr32(
         f.nrows, f.ncols, row_ptr, col_idx, values, ptr, words, masks,
     );
@@ -630,11 +580,11 @@ fn metadata_first_from_csr32(
     let mut masks_room = [0u64; ROOM];
     let mut value_ptr_room = [0u32; ROOM];
     let mut packed_room = [0.0f64; ROOM];
-    let ptr = read_u32(text, at, &mut ptr_room);
-    let words = read_u32(text, at, &mut words_room);
-    let masks = read_u64(text, at, &mut masks_room);
-    let value_ptr = read_u32(text, at, &mut value_ptr_room);
-    let packed = read_f64(text, at, &mut packed_room);
+    let ptr = read(text, at, &mut ptr_room);
+    let words = read(text, at, &mut words_room);
+    let masks = read(text, at, &mut masks_room);
+    let value_ptr = read(text, at, &mut value_ptr_room);
+    let packed = read(text, at, &mut packed_room);
     pack(
         f, row_ptr, col_idx, values, ptr, words, masks, value_ptr, packed,
     );
@@ -655,8 +605,8 @@ fn pack(
         f.nrows, f.ncols, row_ptr, col_idx, values, ptr, words, masks, value_ptr, packed,
     ));
     show_words(ptr, words, masks);
-    show_u32(value_ptr);
-    show_f64(packed);
+    show(value_ptr);
+    show(packed);
 }
 
 fn abtm_from_csr32(
@@ -673,11 +623,11 @@ fn abtm_from_csr32(
     let mut metas_room = [0u32; ROOM];
     let mut slots_room = [0.0f64; ROOM];
     let thresholds = thresholds(text, at);
-    let ptr = read_u32(text, at, &mut ptr_room);
-    let masks = read_u64(text, at, &mut masks_room);
-    let offsets = read_u32(text, at, &mut offsets_room);
-    let metas = read_u32(text, at, &mut metas_room);
-    let slots = read_f64(text, at, &mut slots_room);
+    let ptr = read(text, at, &mut ptr_room);
+    let masks = read(text, at, &mut masks_room);
+    let offsets = read(text, at, &mut offsets_room);
+    let metas = read(text, at, &mut metas_room);
+    let slots = read(text, at, &mut slots_room);
     tile(
         f, row_ptr, col_idx, values, thresholds, ptr, masks, offsets, metas, slots,
     );
@@ -709,8 +659,8 @@ fn tile(
         metas,
         slots,
     ));
-    show_u32(ptr);
-    show_u64(masks);
+    show(ptr);
+    show(masks);
     show_list(offsets, metas, slots);
 }
 
@@ -726,7 +676,7 @@ fn csr32_masked(
 ) {
     let mut mask_room = [0u64; ROOM];
     let len = index(text, at);
-    let mask = list_u64(text, at, &mut mask_room);
+    let mask = list(text, at, &mut mask_room);
     if call == 60 {
         restricted_from_csr32(text, at, f, row_ptr, col_idx, values, len, mask);
     } else {
@@ -747,9 +697,9 @@ fn restricted_from_csr32(
     let mut out_row_ptr_room = [0u32; ROOM];
     let mut out_col_idx_room = [0u32; ROOM];
     let mut out_values_room = [0.0f64; ROOM];
-    let out_row_ptr = read_u32(text, at, &mut out_row_ptr_room);
-    let out_col_idx = read_u32(text, at, &mut out_col_idx_room);
-    let out_values = read_f64(text, at, &mut out_values_room);
+    let out_row_ptr = read(text, at, &mut out_row_ptr_room);
+    let out_col_idx = read(text, at, &mut out_col_idx_room);
+    let out_values = read(text, at, &mut out_values_room);
     restriction(denimrasp::denimrasp_restricted_from_csr32(
         f.nrows,
         f.ncols,
@@ -779,10 +729,10 @@ fn local_from_csr32(
     let mut out_row_ptr_room = [0u32; ROOM];
     let mut out_col_idx_room = [0u32; ROOM];
     let mut out_values_room = [0.0f64; ROOM];
-    let members = read_u32(text, at, &mut members_room);
-    let out_row_ptr = read_u32(text, at, &mut out_row_ptr_room);
-    let out_col_idx = read_u32(text, at, &mut out_col_idx_room);
-    let out_values = read_f64(text, at, &mut out_values_room);
+    let members = read(text, at, &mut members_room);
+    let out_row_ptr = read(text, at, &mut out_row_ptr_room);
+    let out_col_idx = read(text, at, &mut out_col_idx_room);
+    let out_values = read(text, at, &mut out_values_room);
     gather_region(
         f,
         row_ptr,
@@ -822,7 +772,7 @@ fn gather_region(
         out_col_idx,
         out_values,
     ));
-    show_u32(members);
+    show(members);
     show_list(out_row_ptr, out_col_idx, out_values);
 }
 
@@ -856,9 +806,9 @@ fn dense_block_from_csr32(
     let mut out_row_ptr_room = [0u32; ROOM];
     let mut out_col_idx_room = [0u32; ROOM];
     let mut out_values_room = [0.0f64; ROOM];
-    let out_row_ptr = read_u32(text, at, &mut out_row_ptr_room);
-    let out_col_idx = read_u32(text, at, &mut out_col_idx_room);
-    let out_values = read_f64(text, at, &mut out_values_room);
+    let out_row_ptr = read(text, at, &mut out_row_ptr_room);
+    let out_col_idx = read(text, at, &mut out_col_idx_room);
+    let out_values = read(text, at, &mut out_values_room);
     blocks_built(denimrasp::denimrasp_dense_block_from_csr32(
         f.nrows,
         f.ncols,
@@ -884,8 +834,8 @@ fn block_columns(
 ) {
     let mut out_row_ptr_room = [0u32; ROOM];
     let mut out_col_idx_room = [0u32; ROOM];
-    let out_row_ptr = read_u32(text, at, &mut out_row_ptr_room);
-    let out_col_idx = read_u32(text, at, &mut out_col_idx_room);
+    let out_row_ptr = read(text, at, &mut out_row_ptr_room);
+    let out_col_idx = read(text, at, &mut out_col_idx_room);
     count(dense_block_columns::from_csr32(
         f.nrows,
         f.ncols,
@@ -897,8 +847,8 @@ fn block_columns(
         out_col_idx,
     )
     .into());
-    show_u32(out_row_ptr);
-    show_u32(out_col_idx);
+    show(out_row_ptr);
+    show(out_col_idx);
 }
 
 // The calls that are handed words first.
@@ -907,9 +857,9 @@ fn words_calls(call: u64, text: &[u8], at: &mut usize) {
     let mut words_room = [0u32; ROOM];
     let mut masks_room = [0u64; ROOM];
     let f = read_frame(text, at);
-    let ptr = list_u32(text, at, &mut ptr_room);
-    let words = list_u32(text, at, &mut words_room);
-    let masks = list_u64(text, at, &mut masks_room);
+    let ptr = list(text, at, &mut ptr_room);
+    let words = list(text, at, &mut words_room);
+    let masks = list(text, at, &mut masks_room);
     words_call(call, text, at, f, ptr, words, masks);
 }
 
@@ -987,9 +937,9 @@ fn topology_row_part(
     let m = f.nrows;
     let n = f.ncols;
     if call == 246 {
-        part_u32(topology_rows::row_word_indices(m, n, ptr, words, masks, nnz, row));
+        show_part(topology_rows::row_word_indices(m, n, ptr, words, masks, nnz, row));
     } else {
-        part_u64(topology_rows::row_masks(m, n, ptr, words, masks, nnz, row));
+        show_part(topology_rows::row_masks(m, n, ptr, words, masks, nnz, row));
     }
 }
 
@@ -1036,9 +986,9 @@ fn topology_operation(
     let mut words_room = [0u32; ROOM];
     let mut masks_room = [0u64; ROOM];
     let g = read_frame(text, at);
-    let other_ptr = list_u32(text, at, &mut ptr_room);
-    let other_words = list_u32(text, at, &mut words_room);
-    let other_masks = list_u64(text, at, &mut masks_room);
+    let other_ptr = list(text, at, &mut ptr_room);
+    let other_words = list(text, at, &mut words_room);
+    let other_masks = list(text, at, &mut masks_room);
     operation_to(
         call,
         text,
@@ -1074,9 +1024,9 @@ fn operation_to(
     let mut words_room = [0u32; ROOM];
     let mut masks_room = [0u64; ROOM];
     let other_nnz = index(text, at);
-    let out_ptr = read_u32(text, at, &mut ptr_room);
-    let out_words = read_u32(text, at, &mut words_room);
-    let out_masks = read_u64(text, at, &mut masks_room);
+    let out_ptr = read(text, at, &mut ptr_room);
+    let out_words = read(text, at, &mut words_room);
+    let out_masks = read(text, at, &mut masks_room);
     let r = operation(
         call,
         f,
@@ -1199,8 +1149,8 @@ fn store_calls(
 ) {
     let mut value_ptr_room = [0u32; ROOM];
     let mut values_room = [0.0f64; ROOM];
-    let value_ptr = list_u32(text, at, &mut value_ptr_room);
-    let vals = list_f64(text, at, &mut values_room);
+    let value_ptr = list(text, at, &mut value_ptr_room);
+    let vals = list(text, at, &mut values_room);
     store_call(call, text, at, f, ptr, words, masks, nnz, value_ptr, vals);
 }
 
@@ -1283,7 +1233,7 @@ fn store_row_part(
     vals: &[f64],
     row: usize,
 ) {
-    part_f64(metadata_first::row_values(
+    show_part(metadata_first::row_values(
         f.nrows, f.ncols, ptr, words, masks, nnz, value_ptr, vals, row,
     ));
 }
@@ -1303,8 +1253,8 @@ fn sparse_dot_row(
     let mut mask_room = [0u64; ROOM];
     let mut x_room = [0.0f64; ROOM];
     let len = index(text, at);
-    let mask = list_u64(text, at, &mut mask_room);
-    let x = list_f64(text, at, &mut x_room);
+    let mask = list(text, at, &mut mask_room);
+    let x = list(text, at, &mut x_room);
     dot(denimrasp::denimrasp_metadata_first_sparse_dot_row(
         f.nrows, f.ncols, ptr, words, masks, nnz, value_ptr, vals, row, len, mask, x,
     ));
@@ -1324,8 +1274,8 @@ fn sparse_dot_rows(
     let mut mask_room = [0u64; ROOM];
     let mut x_room = [0.0f64; ROOM];
     let len = index(text, at);
-    let mask = list_u64(text, at, &mut mask_room);
-    let x = list_f64(text, at, &mut x_room);
+    let mask = list(text, at, &mut mask_room);
+    let x = list(text, at, &mut x_room);
     dot_rows_to(
         text, at, f, ptr, words, masks, nnz, value_ptr, vals, len, mask, x,
     );
@@ -1347,13 +1297,13 @@ fn dot_rows_to(
 ) {
     let mut sums_room = [0.0f64; ROOM];
     let mut executed_room = [0u32; ROOM];
-    let sums = read_f64(text, at, &mut sums_room);
-    let executed = read_u32(text, at, &mut executed_room);
+    let sums = read(text, at, &mut sums_room);
+    let executed = read(text, at, &mut executed_room);
     verdict(denimrasp::denimrasp_metadata_first_sparse_dot_rows(
         f.nrows, f.ncols, ptr, words, masks, nnz, value_ptr, vals, len, mask, x, sums, executed,
     ));
-    show_f64(sums);
-    show_u32(executed);
+    show(sums);
+    show(executed);
 }
 
 // The calls that are handed tiles first.
@@ -1362,9 +1312,9 @@ fn tile_calls(call: u64, text: &[u8], at: &mut usize) {
     let mut masks_room = [0u64; ROOM];
     let mut offsets_room = [0u32; ROOM];
     let f = read_frame(text, at);
-    let ptr = list_u32(text, at, &mut ptr_room);
-    let masks = list_u64(text, at, &mut masks_room);
-    let offsets = list_u32(text, at, &mut offsets_room);
+    let ptr = list(text, at, &mut ptr_room);
+    let masks = list(text, at, &mut masks_room);
+    let offsets = list(text, at, &mut offsets_room);
     tile_slots(call, text, at, f, ptr, masks, offsets);
 }
 
@@ -1380,8 +1330,8 @@ fn tile_slots(
 ) {
     let mut metas_room = [0u32; ROOM];
     let mut values_room = [0.0f64; ROOM];
-    let metas = list_u32(text, at, &mut metas_room);
-    let values = list_f64(text, at, &mut values_room);
+    let metas = list(text, at, &mut metas_room);
+    let values = list(text, at, &mut values_room);
     let nnz = index(text, at);
     tile_call(call, text, at, f, ptr, masks, offsets, metas, values, nnz);
 }
@@ -1470,7 +1420,7 @@ fn tile_masks(
     nnz: usize,
     row: usize,
 ) {
-    part_u64(abtm_rows::row_tile_masks(
+    show_part(abtm_rows::row_tile_masks(
         f.nrows, f.ncols, ptr, masks, offsets, metas, values, nnz, row,
     ));
 }
@@ -1490,11 +1440,11 @@ fn tile_part(
     let m = f.nrows;
     let n = f.ncols;
     if call == 252 {
-        part_u32(abtm_rows::row_tile_value_offsets(
+        show_part(abtm_rows::row_tile_value_offsets(
             m, n, ptr, masks, offsets, metas, values, nnz, row,
         ));
     } else {
-        part_u32(abtm_rows::row_tile_metas(m, n, ptr, masks, offsets, metas, values, nnz, row));
+        show_part(abtm_rows::row_tile_metas(m, n, ptr, masks, offsets, metas, values, nnz, row));
     }
 }
 
@@ -1511,12 +1461,12 @@ fn abtm_apply(
 ) {
     let mut x_room = [0.0f64; ROOM];
     let mut y_room = [0.0f64; ROOM];
-    let x = list_f64(text, at, &mut x_room);
-    let y = read_f64(text, at, &mut y_room);
+    let x = list(text, at, &mut x_room);
+    let y = read(text, at, &mut y_room);
     verdict(denimrasp::denimrasp_abtm_apply(
         f.nrows, f.ncols, ptr, masks, offsets, metas, values, nnz, x, y,
     ));
-    show_f64(y);
+    show(y);
 }
 
 // The calls that are handed tiles and a mask.
@@ -1534,7 +1484,7 @@ fn tiles_masked(
 ) {
     let mut mask_room = [0u64; ROOM];
     let len = index(text, at);
-    let mask = list_u64(text, at, &mut mask_room);
+    let mask = list(text, at, &mut mask_room);
     if call == 59 {
         abtm_expand(
             text, at, f, ptr, masks, offsets, metas, values, nnz, len, mask,
@@ -1560,11 +1510,11 @@ fn abtm_expand(
     mask: &[u64],
 ) {
     let mut out_room = [0u64; ROOM];
-    let out = read_u64(text, at, &mut out_room);
+    let out = read(text, at, &mut out_room);
     verdict(denimrasp::denimrasp_abtm_expand_mask_one_hop(
         f.nrows, f.ncols, ptr, masks, offsets, metas, values, nnz, len, mask, out,
     ));
-    show_u64(out);
+    show(out);
 }
 
 fn restricted_from_abtm(
@@ -1583,9 +1533,9 @@ fn restricted_from_abtm(
     let mut out_row_ptr_room = [0u32; ROOM];
     let mut out_col_idx_room = [0u32; ROOM];
     let mut out_values_room = [0.0f64; ROOM];
-    let out_row_ptr = read_u32(text, at, &mut out_row_ptr_room);
-    let out_col_idx = read_u32(text, at, &mut out_col_idx_room);
-    let out_values = read_f64(text, at, &mut out_values_room);
+    let out_row_ptr = read(text, at, &mut out_row_ptr_room);
+    let out_col_idx = read(text, at, &mut out_col_idx_room);
+    let out_values = read(text, at, &mut out_values_room);
     restriction(denimrasp::denimrasp_restricted_from_abtm(
         f.nrows,
         f.ncols,
@@ -1611,9 +1561,9 @@ fn block_calls(call: u64, text: &[u8], at: &mut usize) {
     let mut values_room = [0.0f64; ROOM];
     let f = read_frame(text, at);
     let six = numeral(text, at) != 0;
-    let row_ptr = list_u32(text, at, &mut row_ptr_room);
-    let col_idx = list_u32(text, at, &mut col_idx_room);
-    let values = list_f64(text, at, &mut values_room);
+    let row_ptr = list(text, at, &mut row_ptr_room);
+    let col_idx = list(text, at, &mut col_idx_room);
+    let values = list(text, at, &mut values_room);
     block_call(call, text, at, f, six, row_ptr, col_idx, values);
 }
 
@@ -1664,18 +1614,18 @@ fn dense_block_apply(
 ) {
     let mut x_room = [0.0f64; ROOM];
     let mut y_room = [0.0f64; ROOM];
-    let x = list_f64(text, at, &mut x_room);
-    let y = read_f64(text, at, &mut y_room);
+    let x = list(text, at, &mut x_room);
+    let y = read(text, at, &mut y_room);
     verdict(denimrasp::denimrasp_dense_block_apply(
         f.nrows, f.ncols, six, row_ptr, col_idx, values, x, y,
     ));
-    show_f64(y);
+    show(y);
 }
 
 fn local_check(text: &[u8], at: &mut usize) {
     let mut members_room = [0u32; ROOM];
     let global_size = index(text, at);
-    let members = list_u32(text, at, &mut members_room);
+    let members = list(text, at, &mut members_room);
     verdict(denimrasp::denimrasp_local_check(global_size, members));
 }
 
@@ -1684,12 +1634,12 @@ fn local_gather_input(text: &[u8], at: &mut usize) {
     let mut global_room = [0.0f64; ROOM];
     let mut local_room = [0.0f64; ROOM];
     let global_size = index(text, at);
-    let members = list_u32(text, at, &mut members_room);
-    let global = list_f64(text, at, &mut global_room);
-    let local = read_f64(text, at, &mut local_room);
+    let members = list(text, at, &mut members_room);
+    let global = list(text, at, &mut global_room);
+    let local = read(text, at, &mut local_room);
     let r = denimrasp::denimrasp_local_gather_input(global_size, members, global, local);
     verdict(r);
-    show_f64(local);
+    show(local);
 }
 
 // The calls that are handed numbers alone.
@@ -1899,40 +1849,12 @@ fn core_saturating(text: &[u8], at: &mut usize) {
     size(a.saturating_mul(b));
 }
 
-fn clear_from_u32(text: &[u8], at: &mut usize) {
-    let mut list_room = [0u32; ROOM];
-    let list = read_u32(text, at, &mut list_room);
+fn clear_from<T: Recorded>(text: &[u8], at: &mut usize, room: &mut [T]) {
+    let list = read(text, at, room);
     let from = index(text, at);
     lent::clear_from(list, from);
     refusal(0, 0, 0);
-    show_u32(list);
-}
-
-fn clear_from_u64(text: &[u8], at: &mut usize) {
-    let mut list_room = [0u64; ROOM];
-    let list = read_u64(text, at, &mut list_room);
-    let from = index(text, at);
-    lent::clear_from(list, from);
-    refusal(0, 0, 0);
-    show_u64(list);
-}
-
-fn clear_from_usize(text: &[u8], at: &mut usize) {
-    let mut list_room = [0usize; ROOM];
-    let list = read_usize(text, at, &mut list_room);
-    let from = index(text, at);
-    lent::clear_from(list, from);
-    refusal(0, 0, 0);
-    show_usize(list);
-}
-
-fn clear_from_f64(text: &[u8], at: &mut usize) {
-    let mut list_room = [0.0f64; ROOM];
-    let list = read_f64(text, at, &mut list_room);
-    let from = index(text, at);
-    lent::clear_from(list, from);
-    refusal(0, 0, 0);
-    show_f64(list);
+    show(list);
 }
 
 // A call of a word with an offset, or with a second word.
@@ -1965,7 +1887,7 @@ fn word_call(call: u64, text: &[u8], at: &mut usize) {
 fn csr32_pointers(text: &[u8], at: &mut usize) {
     let mut row_ptr_room = [0u32; ROOM];
     let nrows = index(text, at);
-    let row_ptr = list_u32(text, at, &mut row_ptr_room);
+    let row_ptr = list(text, at, &mut row_ptr_room);
     let left = index(text, at);
     let right = index(text, at);
     refusal(0, 0, 0);
@@ -1975,7 +1897,7 @@ fn csr32_pointers(text: &[u8], at: &mut usize) {
 
 fn value_list(text: &[u8], at: &mut usize) {
     let mut values_room = [0.0f64; ROOM];
-    let values = list_f64(text, at, &mut values_room);
+    let values = list(text, at, &mut values_room);
     refusal(0, 0, 0);
     truth(csr32::all_finite(values));
     size(abtm_values::count_solid(values));
@@ -1983,7 +1905,7 @@ fn value_list(text: &[u8], at: &mut usize) {
 
 fn topology_count_bits(text: &[u8], at: &mut usize) {
     let mut masks_room = [0u64; ROOM];
-    let masks = list_u64(text, at, &mut masks_room);
+    let masks = list(text, at, &mut masks_room);
     refusal(0, 0, 0);
     size(topology::count_bits(masks));
 }
@@ -2009,9 +1931,9 @@ fn topology_clear_past(text: &[u8], at: &mut usize) {
     let mut masks_room = [0u64; ROOM];
     let rows = index(text, at);
     let used = index(text, at);
-    let ptr = read_u32(text, at, &mut ptr_room);
-    let words = read_u32(text, at, &mut words_room);
-    let masks = read_u64(text, at, &mut masks_room);
+    let ptr = read(text, at, &mut ptr_room);
+    let words = read(text, at, &mut words_room);
+    let masks = read(text, at, &mut masks_room);
     topology::clear_past(rows, used, ptr, words, masks);
     refusal(0, 0, 0);
     show_words(ptr, words, masks);
@@ -2160,10 +2082,10 @@ fn list_calls(call: u64, text: &[u8], at: &mut usize) {
 
 fn clear_calls(call: u64, text: &[u8], at: &mut usize) {
     match call {
-        210 => clear_from_u32(text, at),
-        211 => clear_from_u64(text, at),
-        212 => clear_from_usize(text, at),
-        _ => clear_from_f64(text, at),
+        210 => clear_from(text, at, &mut [0u32; ROOM]),
+        211 => clear_from(text, at, &mut [0u64; ROOM]),
+        212 => clear_from(text, at, &mut [0usize; ROOM]),
+        _ => clear_from(text, at, &mut [0.0f64; ROOM]),
     }
 }
 
@@ -2234,26 +2156,22 @@ fn replay(call: u64, text: &[u8], at: &mut usize) {
 // The calls of one block of the input; the number 999 ends them.
 fn replay_block(text: &[u8]) {
     let mut at: usize = 0;
-    let mut turn: usize = 0;
-    while turn < 65536 {
+    for _ in 0..65536 {
         let call = numeral(text, &mut at);
         if call >= 999 {
             return;
         }
         replay(call, text, &mut at);
         end();
-        turn += 1;
     }
 }
 
 fn main() {
     let mut block = io::large_buffer();
-    let mut turn: usize = 0;
-    while turn < 128 {
+    for _ in 0..128 {
         if io::read_full(0, &mut block) == 0 {
             return;
         }
         replay_block(&block);
-        turn += 1;
     }
 }

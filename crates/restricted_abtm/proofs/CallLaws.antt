@@ -67,19 +67,6 @@ module _ (rows : ℕ) (kept : List Entry) (np nc nv : ℕ) where
           pub kept-good : k ≤ nv → accepted ≡ kept_answer rows kept (as_csr_room np nc nv)
           kept-good l = by_room _ (last_passes _ 13 (and-next (leb (rows + 1) np && leb (length kept) nc) (leb (length kept) nv) true columns_in_lem (is_within (length kept) nv (omega arith))))
 
--- ---- the tests of values that were written
-
-module _ (vs : List Float) where
-  pub written_infinite : false ≡ every finite vs → refused (plain 4) ≡ demand (every finite vs) 4 and_then demand (many (length vs)) 1
-  written_infinite e = test_fails (every finite vs) 4 _ e
-
-  module _ (f : true ≡ every finite vs) where
-    pub written_many : false ≡ many (length vs) → refused (plain 1) ≡ demand (every finite vs) 4 and_then demand (many (length vs)) 1
-    written_many e = test_passes (every finite vs) 4 _ _ f (last_fails (many (length vs)) 1 e)
-
-    pub written_good : true ≡ many (length vs) → accepted ≡ demand (every finite vs) 4 and_then demand (many (length vs)) 1
-    written_good e = test_passes (every finite vs) 4 _ _ f (last_passes (many (length vs)) 1 e)
-
 -- ---- the checks of the two records, as the calls of theirs give them
 
 module _ (t : Tiles) (n : ℕ) (ws : List ℕ) where

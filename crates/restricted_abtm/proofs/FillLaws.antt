@@ -2,17 +2,17 @@
 use mathlib.Core.Bool.{true, ◌&&◌}
 use mathlib.Core.List.{List, [], ◌∷◌, ◌++◌, map, zip, map-append}
 use mathlib.Core.Path.{◌≡◌, refl, sym, ap, subst, ◌∙◌}
-use Prim.Native.Nat.{ℕ, suc, ◌+◌, ◌-◌, ◌*◌, ◌%◌, ◌≤◌, ◌<◌, ◌^◌}
+use Prim.Native.Nat.{ℕ, suc, ◌+◌, ◌*◌, ◌%◌, ◌≤◌, ◌<◌, ◌^◌}
 use native.Mathlib.Numerals.{add-one}
 use native.Mathlib.Omega.{arith}
-use lib.ListN.{length, get_or, take, drop, set, length-append, length-take, length-drop, length-set}
+use lib.ListN.{length, get_or, take, set, length-append, length-take, length-drop, length-set}
 use lib.Ieee.{Float}
 use borrow.Author.Tests.{leb-true}
 use Rattle.hybit_core.specs.Answer.{Answer, accepted, demand, length_is, ◌and_then◌}
 use Rattle.hybit_core.specs.Domain.{few}
 use Rattle.hybit_core.proofs.BoolLaws.{and_left, and_right}
 use Rattle.hybit_core.proofs.AnswerLaws.{then_first, then_second, demand_accepted, length_accepted}
-use Rattle.lent.specs.Lists.{joined, each, starts, every}
+use Rattle.lent.specs.Lists.{joined, each, starts, part, every}
 use Rattle.lent.specs.Lent.{Appended}
 use Rattle.lent.proofs.ListLaws.{length-joined-le, each-suc, joined-suc}
 use Rattle.lent.proofs.LentLaws.{appended_none, appended_snoc}
@@ -22,7 +22,7 @@ use Rattle.csr32.specs.Csr.{Entry}
 use Rattle.csr32.specs.Made.{csr_of}
 use Rattle.csr32.proofs.MadeLaws.{made_values}
 use Rattle.abtm.specs.Tiles.{Tiles, tile_sizes, tiles_rules}
-use Rattle.abtm_check.proofs.TilesLaws.{AcceptedTiles, rules_facts, row_listed, lent_listed}
+use Rattle.abtm_check.proofs.TilesLaws.{AcceptedTiles, rules_facts, row_listed, offsets_same, metas_same}
 use Rattle.restricted.specs.Restricted.{restricted_tiles}
 use Rattle.restricted_abtm.specs.Kept.{kept_all, tile_ready, records_answer}
 use Rattle.restricted_abtm.proofs.RoomLaws.{Fitting, fitting-none, fitting_join}
@@ -90,32 +90,41 @@ module _ (t : Tiles) (n : ℕ) (ws : List ℕ) (ok : records_answer t (as_mask n
   kept_small : (r : ℕ) → r ≤ t.rows → length (joined (row_kept t (as_mask n ws)) r) ≤ 2 ^ 30
   kept_small r h = omega (arith, length-joined-le (row_kept t (as_mask n ws)) r t.rows h, all-few t facts.tiles n ws facts.mask)
 
-  -- ---- a row by its two pointers, as the code reads them
-  module _ (r a b : ℕ) (h : r < t.rows) (ea : a ≡ get_or t.ptr r 0) (eb : b ≡ get_or t.ptr (r + 1) 0) where
-    listed_lent : zip (take (b - a) (drop a t.mask)) (zip (take (b - a) (drop a t.offset)) (take (b - a) (drop a t.meta))) ≡ row_listed t r
-    listed_lent = lent_listed t facts.tiles r a b h ea eb
+  -- ---- a row, as its masks, offsets and metas are lent
+  module _ (r : ℕ) (h : r < t.rows) (ms os ks : List ℕ) (em : ms ≡ part t.ptr t.mask r) (eo : os ≡ part t.ptr t.offset r) (ek : ks ≡ part t.ptr t.meta r) where
+    listed_lent : zip ms (zip os ks) ≡ row_listed t r
+    listed_lent = λ i. zip (em i) (zip (eo i) (ek i))
 
-    pub lent_ready : ((k : ℕ) → get_or t.mask k 0 < 2 ^ 64) → every (tile_ready (length t.vals) (length ws)) (zip (take (b - a) (drop a t.mask)) (zip (take (b - a) (drop a t.offset)) (take (b - a) (drop a t.meta)))) ≡ true
+    pub offsets_lent : length os ≡ length ms
+    offsets_lent = ap length eo ∙ offsets_same t facts.tiles r h ∙ ap length (sym em)
+
+    pub metas_lent : length ks ≡ length ms
+    metas_lent = ap length ek ∙ metas_same t facts.tiles r h ∙ ap length (sym em)
+
+    pub lent_ready : ((k : ℕ) → get_or t.mask k 0 < 2 ^ 64) → every (tile_ready (length t.vals) (length ws)) (zip ms (zip os ks)) ≡ true
     lent_ready fits = ap (every (tile_ready (length t.vals) (length ws))) listed_lent ∙ row_ready t facts.tiles n ws facts.mask facts.size fits r h
 
-    lent_kept : kept_all t.vals ws (zip (take (b - a) (drop a t.mask)) (zip (take (b - a) (drop a t.offset)) (take (b - a) (drop a t.meta)))) ≡ row_kept t (as_mask n ws) r
+    lent_kept : kept_all t.vals ws (zip ms (zip os ks)) ≡ row_kept t (as_mask n ws) r
     lent_kept = ap (kept_all t.vals ws) listed_lent ∙ sym (row_kept_lem t facts.tiles n ws facts.mask r h)
 
-    lent_few : length (take (b - a) (drop a t.mask)) ≤ 2 ^ 24
-    lent_few = omega (arith, length-take (b - a) (drop a t.mask), length-drop a t.mask, facts.tiles.tiles_in)
+    lent_few : length ms ≤ 2 ^ 24
+    unfolding part
+    lent_few =
+        let end : ℕ = get_or t.ptr (r + 1) 0 in
+        omega (arith, ap length em, length-drop (get_or t.ptr r 0) (take end t.mask), length-take end t.mask, facts.tiles.tiles_in)
 
     module _ (room : ℕ) (old_p old_c : List ℕ) (old_v : List Float) (np : t.rows < length old_p) (at : ℕ) (out_p out_c : List ℕ) (out_v : List Float) (inv : Filling t n ws room old_p old_c old_v r at out_p out_c out_v) where
-      pub row_small : at + 64 * length (take (b - a) (drop a t.mask)) ≤ 2 ^ 31
+      pub row_small : at + 64 * length ms ≤ 2 ^ 31
       row_small = omega (arith, inv.place, kept_small r inv.inside, lent_few)
 
       pub filling_more : (u to : ℕ) (last_c : List ℕ) (last_v : List Float) → u ≡ at % 2 ^ 32
-          → to ≡ at + length (kept_all t.vals ws (zip (take (b - a) (drop a t.mask)) (zip (take (b - a) (drop a t.offset)) (take (b - a) (drop a t.meta)))))
-          → (to ≤ room → Appended (map (λ (e : Entry). e.0) (kept_all t.vals ws (zip (take (b - a) (drop a t.mask)) (zip (take (b - a) (drop a t.offset)) (take (b - a) (drop a t.meta)))))) at to out_c last_c)
-          → (to ≤ room → Appended (map (λ (e : Entry). e.1) (kept_all t.vals ws (zip (take (b - a) (drop a t.mask)) (zip (take (b - a) (drop a t.offset)) (take (b - a) (drop a t.meta)))))) at to out_v last_v)
+          → to ≡ at + length (kept_all t.vals ws (zip ms (zip os ks)))
+          → (to ≤ room → Appended (map (λ (e : Entry). e.0) (kept_all t.vals ws (zip ms (zip os ks)))) at to out_c last_c)
+          → (to ≤ room → Appended (map (λ (e : Entry). e.1) (kept_all t.vals ws (zip ms (zip os ks)))) at to out_v last_v)
           → length last_c ≡ length out_c → length last_v ≡ length out_v → Filling t n ws room old_p old_c old_v (r + 1) to (set out_p r u) last_c last_v
       filling_more u to last_c last_v eu et c v sc sv =
           let f : ℕ → List Entry = row_kept t (as_mask n ws) in
-          let lent : List Entry = kept_all t.vals ws (zip (take (b - a) (drop a t.mask)) (zip (take (b - a) (drop a t.offset)) (take (b - a) (drop a t.meta)))) in
+          let lent : List Entry = kept_all t.vals ws (zip ms (zip os ks)) in
           let step : joined f (r + 1) ≡ joined f r ++ lent = joined-suc f r ∙ ap (λ (l : List Entry). joined f r ++ l) (sym lent_kept) in
           let number : u ≡ length (joined f r) = omega (arith, inv.place, kept_small r inv.inside) in
           let after : at ≤ to = omega arith in

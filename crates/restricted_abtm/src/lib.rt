@@ -55,6 +55,7 @@ fn keep_tile(
     let base = 64 * abtm::word_in(meta) as usize;
     let mut next = from;
     let mut rest = bits;
+    // A walk over the set bits of a word, which no range and no slice lists: each turn takes the lowest that is left.
     while rest != 0 {
         let at = next;
         let bit = word::lowest(rest);
@@ -92,13 +93,12 @@ fn keep_row(
     ensures values { result ≤ room → Appended (map (λ (e : Entry). e.1) (kept_all values.now mask.now (zip masks.now (zip value_offsets.now metas.now)))) from result out_values.old out_values.new }
 {
     let mut at = from;
-    let mut k: usize = 0;
-    while k < masks.len() {
+    for (k, columns) in masks.iter().enumerate() {
         let word = abtm::word_in(metas[k]) as usize;
-        let bits = word::intersection(masks[k], mask[word]);
+        let bits = word::intersection(*columns, mask[word]);
         at = keep_tile(
             bits,
-            masks[k],
+            *columns,
             value_offsets[k] as usize,
             metas[k],
             values,
@@ -107,7 +107,6 @@ fn keep_row(
             out_col_idx,
             out_values,
         );
-        k += 1;
     }
     at
 }
@@ -138,15 +137,12 @@ fn fill_rows(
     ensures values { result ≤ room → Appended (restricted_tiles (as_tiles nrows ncols row_tile_ptr.now masks.now value_offsets.now metas.now values.now matrix_nnz) (as_mask mask_len mask.now)).val 0 result out_values.old out_values.new }
 {
     let mut at: usize = 0;
-    let mut row: usize = 0;
-    while row < nrows {
+    for row in 0..nrows {
         out_row_ptr[row] = hybit_core::narrow(at);
-        let start = row_tile_ptr[row] as usize;
-        let end = row_tile_ptr[row + 1] as usize;
         at = keep_row(
-            &masks[start..end],
-            &value_offsets[start..end],
-            &metas[start..end],
+            lent::part(row_tile_ptr, masks, row),
+            lent::part(row_tile_ptr, value_offsets, row),
+            lent::part(row_tile_ptr, metas, row),
             values,
             mask,
             at,
@@ -154,7 +150,6 @@ fn fill_rows(
             out_col_idx,
             out_values,
         );
-        row += 1;
     }
     out_row_ptr[nrows] = hybit_core::narrow(at);
     at
@@ -166,6 +161,7 @@ fn tile_finite(bits: u64, mask: u64, offset: usize, meta: u32, values: &[f64]) -
     ensures { result ≡ every (λ i. finite (value_in values.now mask offset meta i)) (members bits) }
 {
     let mut rest = bits;
+    // A walk over the set bits of a word, which no range and no slice lists: each turn takes the lowest that is left.
     while rest != 0 {
         let place = offset + place_in(meta, mask, word::lowest(rest));
         if !hybit_core::is_finite(values[place]) {
@@ -188,20 +184,18 @@ fn active_finite(
     requires fact_2 { every (tile_ready (length values.now) (length mask.now)) (zip masks.now (zip value_offsets.now metas.now)) ≡ true }
     ensures { result ≡ every (λ (e : Entry). finite e.1) (kept_all values.now mask.now (zip masks.now (zip value_offsets.now metas.now))) }
 {
-    let mut k: usize = 0;
-    while k < masks.len() {
+    for (k, columns) in masks.iter().enumerate() {
         let word = abtm::word_in(metas[k]) as usize;
-        let tested = word::intersection(masks[k], mask[word]);
+        let tested = word::intersection(*columns, mask[word]);
         if !tile_finite(
             tested,
-            masks[k],
+            *columns,
             value_offsets[k] as usize,
             metas[k],
             values,
         ) {
             return false;
         }
-        k += 1;
     }
     true
 }
@@ -232,11 +226,9 @@ fn count_kept(masks: &[u64], metas: &[u32], mask: &[u64]) -> usize
     ensures { result ≡ kept_count mask.now (zip masks.now metas.now) }
 {
     let mut kept: usize = 0;
-    let mut k: usize = 0;
-    while k < masks.len() {
+    for (k, columns) in masks.iter().enumerate() {
         let word = abtm::word_in(metas[k]) as usize;
-        kept += word::popcount(word::intersection(masks[k], mask[word]));
-        k += 1;
+        kept += word::popcount(word::intersection(*columns, mask[word]));
     }
     kept
 }

@@ -1,19 +1,21 @@
 -- The rows of a restricted list, one after another: what an accepted call says, and what the code holds row after row. Assumes nothing.
-use mathlib.Core.Bool.{Bool, true, ◌&&◌}
+use mathlib.Core.Bool.{Bool, true, false, cond, ◌&&◌}
 use mathlib.Core.List.{List, map, map-append, zip}
 use mathlib.Core.Path.{◌≡◌, refl, sym, ap, ap₂, subst, ◌∙◌}
-use Prim.Native.Nat.{ℕ, suc, ◌+◌, ◌-◌, ◌%◌, ◌^◌, ◌≤◌, ◌<◌}
+use Prim.Native.Nat.{ℕ, suc, ◌+◌, ◌%◌, ◌^◌, ◌≤◌, ◌<◌}
 use native.Mathlib.Numerals.{add-one}
 use native.Mathlib.Omega.{arith}
 use lib.Dec.{leb}
-use lib.ListN.{length, get_or, set, take, drop, length-map, length-set}
+use lib.ListN.{length, set, length-map, length-set}
 use lib.Ieee.{Float}
 use borrow.Author.Tests.{leb-true}
+use Rattle.std.specs.Prelude.{count_by}
+use Rattle.std.proofs.lemmas.List.Recursion.{is_count_by}
 use Rattle.hybit_core.specs.Answer.{Answer, accepted, demand, length_is, ◌and_then◌}
 use Rattle.hybit_core.specs.Domain.{few}
 use Rattle.hybit_core.proofs.BoolLaws.{and_left, and_right}
 use Rattle.hybit_core.proofs.AnswerLaws.{demand_accepted, then_first, then_second, length_accepted}
-use Rattle.lent.specs.Lists.{joined, each, starts, part, only}
+use Rattle.lent.specs.Lists.{joined, each, starts, part, cons_if, only}
 use Rattle.lent.specs.Lent.{Appended}
 use Rattle.lent.proofs.ListLaws.{joined_lengths, length-joined-suc, length-joined-le, length-only, only-joined, each-suc, joined-suc}
 use Rattle.lent.proofs.LentLaws.{appended_none, appended_join, appended_snoc}
@@ -22,7 +24,7 @@ use Rattle.mask.proofs.MaskLaws as masks
 use Rattle.csr32.specs.Csr.{Csr, Entry, csr_sizes, csr_rules, csr_answer, entries}
 use Rattle.csr32.specs.Made.{entries_in, csr_of, CsrRoom, fits_csr}
 use Rattle.csr32.proofs.FrameLaws.{parts_all}
-use Rattle.csr32.proofs.CsrLaws.{Valid, valid, row_of, row_sides, pointers_few, entries_lent}
+use Rattle.csr32.proofs.CsrLaws.{Valid, valid, row_sides}
 use Rattle.csr32.proofs.MadeLaws.{made_pointers, made_columns, made_values}
 use Rattle.restricted.specs.Restricted.{restricted, restrict_answer}
 use Rattle.restricted.proofs.KeepLaws.{length-kept}
@@ -30,6 +32,16 @@ use Rattle.restricted.proofs.KeepLaws.{length-kept}
 -- row r of the result
 abbrev pub kept_row : Csr → Mask → ℕ → List Entry
 kept_row m a r = entries_in (active a) (entries m r)
+
+-- ---- columns, counted
+
+pub only_count : (t : ℕ → Bool) (cs : List ℕ) → length (only t cs) ≡ count_by t cs
+unfolding only
+only_count t = is_count_by (λ (l : List ℕ). length (only t l)) t refl (λ c cs. one (t c) c (only t cs))
+  where
+    one : (b : Bool) (c : ℕ) (l : List ℕ) → length (cons_if b c l) ≡ cond b (1 + length l) (length l)
+    one true c l = omega arith
+    one false c l = refl
 
 -- ---- how many entries are kept: the active ones among all columns, since the rows are all of them
 
@@ -82,30 +94,6 @@ restrict_facts m a room e =
       values = omega (arith, made_values m.rows m.cols (kept_row m a), leb-true (length (restricted m a).val) room.val (and_right (p && c) v fits));
     }
 
--- row r, whose pointers the code reads as b and z, can be read
-pub record RowPlaces (m : Csr) (r b z : ℕ) : Type 0 where
-  pub here : r < length m.ptr
-  pub next : r + 1 < length m.ptr
-  pub order : b ≤ z
-  pub in_columns : z ≤ length m.col
-  pub in_values : z ≤ length m.val
-  pub pointers : length m.ptr ≤ 2 ^ 20 + 1
-  pub entries : length m.col ≤ 2 ^ 24
-
-pub row_places : (m : Csr) (a : Mask) (room : CsrRoom) → restrict_answer m a room ≡ accepted → (r : ℕ) → r < m.rows → (b z : ℕ) → b ≡ get_or m.ptr r 0 → z ≡ get_or m.ptr (r + 1) 0 → RowPlaces m r b z
-row_places m a room e r h b z eb ez =
-    let v = (restrict_facts m a room e).list in
-    let i = row_of v h in
-    record {
-      here = i.here;
-      next = i.next;
-      order = omega (arith, i.order);
-      in_columns = omega (arith, i.inside);
-      in_values = omega (arith, i.inside, v.sides);
-      pointers = pointers_few v;
-      entries = v.entries_in;
-    }
-
 -- ---- the first r rows are written
 
 pub record Filling (row : ℕ → List Entry) (op oc : List ℕ) (ov : List Float) (r at : ℕ) (np nc : List ℕ) (nv : List Float) : Type 0 where
@@ -141,24 +129,28 @@ module _ (m : Csr) (a : Mask) (op oc : List ℕ) (ov : List Float) (r at : ℕ) 
         let q : p ≡ length (joined (kept_row m a) r) = omega (arith, filling_few h, filling_at) in
         rw (each-suc (λ k. length (joined (kept_row m a) k)) r, ← q) (appended_snoc _ 0 r op np p inv.pointers (omega (arith, inv.long_pointers)))
 
-  -- a row, lent from b up to z, has places
-  module _ (h : r < m.rows) (b z : ℕ) (eb : b ≡ get_or m.ptr r 0) (ez : z ≡ get_or m.ptr (r + 1) 0) where
-    lent : entries_in (active a) (zip (take (z - b) (drop b m.col)) (take (z - b) (drop b m.val))) ≡ kept_row m a r
-    lent = ap (entries_in (active a)) (entries_lent m r b z eb ez)
+  -- a row, as its columns and values are lent, has places
+  module _ (h : r < m.rows) (cs : List ℕ) (vs : List Float) (ec : cs ≡ part m.ptr m.col r) (ev : vs ≡ part m.ptr m.val r) where
+    lent : entries_in (active a) (zip cs vs) ≡ kept_row m a r
+    unfolding entries
+    lent = ap₂ (λ (c : List ℕ) (v : List Float). entries_in (active a) (zip c v)) ec ev
+
+    pub row_sides_lent : length vs ≡ length cs
+    row_sides_lent = ap length ev ∙ sym (row_sides ok.list r) ∙ ap length (sym ec)
 
     next : at + length (kept_row m a r) ≤ length (joined (kept_row m a) m.rows)
     next = omega (arith, filling_at, length-joined-suc (kept_row m a) r, length-joined-le (kept_row m a) (suc r) m.rows (omega arith))
 
-    pub filling_column : room.col ≡ length oc → at + length (entries_in (active a) (zip (take (z - b) (drop b m.col)) (take (z - b) (drop b m.val)))) ≤ length nc
+    pub filling_column : room.col ≡ length oc → at + length (entries_in (active a) (zip cs vs)) ≤ length nc
     filling_column s = rw lent (omega (arith, next, ok.columns, inv.long_columns))
 
-    pub filling_value : room.val ≡ length ov → at + length (entries_in (active a) (zip (take (z - b) (drop b m.col)) (take (z - b) (drop b m.val)))) ≤ length nv
+    pub filling_value : room.val ≡ length ov → at + length (entries_in (active a) (zip cs vs)) ≤ length nv
     filling_value s = rw lent (omega (arith, next, ok.values, inv.long_values))
 
     -- a row more: p and the row's entries are written
     pub filling_more : (p : ℕ) → p ≡ at % 2 ^ 32 → room.ptr ≡ length op → (at' : ℕ) (nc' : List ℕ) (nv' : List Float)
-        → Appended (map (λ (e : Entry). e.0) (entries_in (active a) (zip (take (z - b) (drop b m.col)) (take (z - b) (drop b m.val))))) at at' nc nc'
-        → Appended (map (λ (e : Entry). e.1) (entries_in (active a) (zip (take (z - b) (drop b m.col)) (take (z - b) (drop b m.val))))) at at' nv nv'
+        → Appended (map (λ (e : Entry). e.0) (entries_in (active a) (zip cs vs))) at at' nc nc'
+        → Appended (map (λ (e : Entry). e.1) (entries_in (active a) (zip cs vs))) at at' nv nv'
         → length nc' ≡ length nc → length nv' ≡ length nv → Filling (kept_row m a) op oc ov (r + 1) at' (set np r p) nc' nv'
     filling_more p e s at' nc' nv' kc kv lc lv = record {
       pointers = next_pointer (omega arith) p e (omega (arith, ok.pointers));

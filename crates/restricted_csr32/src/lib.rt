@@ -21,13 +21,10 @@ use restricted::ColumnRestriction;
 fn count_active(col_idx: &[u32], mask_len: usize, mask: &[u64]) -> usize
     ensures { result ≡ length (only (active (as_mask mask_len mask.now)) col_idx.now) }
 {
-    let mut kept: usize = 0;
-    let mut p: usize = 0;
-    while p < col_idx.len() {
-        kept += usize::from(mask::is_member(mask_len, mask, col_idx[p] as usize));
-        p += 1;
-    }
-    kept
+    col_idx
+        .iter()
+        .filter(|column| mask::is_member(mask_len, mask, **column as usize))
+        .count()
 }
 
 // Appends a row's entries in active columns, in stored order, from place `from` on; answers the next place.
@@ -47,13 +44,10 @@ fn keep_row(
     ensures values { Appended (map (λ (e : Entry). e.1) (entries_in (active (as_mask mask_len mask.now)) (zip cols.now vals.now))) from result out_values.old out_values.new }
 {
     let mut at = from;
-    let mut next: usize = 0;
-    while next < cols.len() {
-        let p = next;
-        next += 1;
-        if mask::is_member(mask_len, mask, cols[p] as usize) {
-            out_col_idx[at] = cols[p];
-            out_values[at] = vals[p];
+    for (place, column) in cols.iter().enumerate() {
+        if mask::is_member(mask_len, mask, *column as usize) {
+            out_col_idx[at] = *column;
+            out_values[at] = vals[place];
             at += 1;
         }
     }
@@ -80,22 +74,17 @@ fn fill_rows(
     ensures values { Appended (restricted (as_csr nrows ncols row_ptr.now col_idx.now values.now) (as_mask mask_len mask.now)).val 0 result out_values.old out_values.new }
 {
     let mut at: usize = 0;
-    let mut row: usize = 0;
-    while row < nrows {
-        let next = row + 1;
+    for row in 0..nrows {
         out_row_ptr[row] = hybit_core::narrow(at);
-        let start = row_ptr[row] as usize;
-        let end = row_ptr[next] as usize;
         at = keep_row(
-            &col_idx[start..end],
-            &values[start..end],
+            lent::part(row_ptr, col_idx, row),
+            lent::part(row_ptr, values, row),
             mask_len,
             mask,
             at,
             out_col_idx,
             out_values,
         );
-        row = next;
     }
     out_row_ptr[nrows] = hybit_core::narrow(at);
     at

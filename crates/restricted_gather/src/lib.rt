@@ -15,9 +15,8 @@ fn members_hold(global_size: usize, members: &[u32]) -> bool
     ensures { result ≡ member_rules global_size members.now }
 {
     let mut least: usize = 0;
-    let mut i: usize = 0;
-    while i < members.len() {
-        let g = members[i] as usize;
+    for member in members {
+        let g = *member as usize;
         if g < least {
             return false;
         }
@@ -25,7 +24,6 @@ fn members_hold(global_size: usize, members: &[u32]) -> bool
             return false;
         }
         least = g + 1;
-        i += 1;
     }
     true
 }
@@ -72,12 +70,8 @@ fn gather(members: &[u32], global: &[f64], local: &mut [f64])
     requires { (every (λ g. ltb g (length global.now)) members.now ≡ true) × (length local.old ≡ length members.now) }
     ensures { local.new ≡ gathered members.now global.now }
 {
-    let n = members.len();
-    let mut i: usize = 0;
-    while i < n {
-        let g = members[i] as usize;
-        local[i] = global[g];
-        i += 1;
+    for (place, member) in members.iter().enumerate() {
+        local[place] = global[*member as usize];
     }
 }
 

@@ -109,9 +109,6 @@ module _ (m : Csr) (a : Mask) where
       local_refused e k = let r : region_checks m a ≡ refused (paper e) = refused_by (region_checks m a) v e h k in rw (local_chain, r)
 
       module _ (k : v ≡ Ok tt) where
-        pub local_region : Region m a
-        local_region = region_facts (accepted_by (region_checks m a) v h k)
-
         pub local_short : false ≡ fits_local m a places room → refuses (plain 13) ≡ region_answer m a places room
         unfolding region_answer
         local_short f = let r : region_checks m a ≡ accepted = accepted_by (region_checks m a) v h k in rw (local_chain, r, ← f)

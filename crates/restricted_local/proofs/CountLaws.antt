@@ -1,14 +1,16 @@
 -- The numbers of a region: counted row by row, what they are of the local list, and that a count of entries stays below 2^24.
 -- Assumes nothing.
-use mathlib.Core.Bool.{Bool, true, false, ◌&&◌}
+use mathlib.Core.Bool.{Bool, true, false, cond, ◌&&◌}
 use mathlib.Core.List.{List, [], ◌∷◌, ◌++◌, append-nil, append_assoc, map}
 use mathlib.Core.Path.{◌≡◌, refl, sym, ap, ◌∙◌}
-use Prim.Native.Nat.{ℕ, zero, suc, ◌+◌, ◌-◌, ◌*◌, ◌^◌, ◌≤◌, ◌<◌}
+use Prim.Native.Nat.{ℕ, zero, suc, ◌+◌, ◌*◌, ◌^◌, ◌≤◌, ◌<◌}
 use native.Mathlib.Omega.{arith}
 use lib.Dec.{leb, ltb}
-use lib.ListN.{length, get_or, take, drop, length-append, length-map, length-take, length-drop}
+use lib.ListN.{length, get_or, length-append, length-map}
 use lib.Ieee.{Float}
 use borrow.Author.Tests.{leb-true, le-leb}
+use Rattle.std.specs.Prelude.{count_by}
+use Rattle.std.proofs.lemmas.List.Recursion.{is_count_by}
 use Rattle.hybit_core.proofs.BoolLaws.{and_left, and_right, and_both}
 use Rattle.lent.specs.Lists.{cons_if, every, joined, only, part, spread}
 use Rattle.lent.proofs.ListLaws.{joined_lengths, joined-le, length-only, length-joined-suc, spread-append}
@@ -18,8 +20,8 @@ use Rattle.word.proofs.BelowLaws.{below_snoc, below-zero}
 use Rattle.mask.specs.Mask.{Mask, active}
 use Rattle.csr32.specs.Csr.{Csr, Entry, entries}
 use Rattle.csr32.specs.Made.{entries_in, CsrRoom, fits_csr}
-use Rattle.csr32.proofs.FrameLaws.{RowIn, part_length, parts_all}
-use Rattle.csr32.proofs.CsrLaws.{Valid, valid, row_of, row_of_values, row_sides, entries_lent, row_lent}
+use Rattle.csr32.proofs.FrameLaws.{part_length, parts_all}
+use Rattle.csr32.proofs.CsrLaws.{Valid, valid, row_of, row_sides, row_columns}
 use Rattle.csr32.proofs.MadeLaws.{made_columns, made_values, made_pointers}
 use Rattle.restricted.specs.Local.{region_members, renumbered, local_list, region_entries, fits_local, region_of}
 use Rattle.restricted.specs.declared.LocalRegion.{LocalRegion}
@@ -64,45 +66,47 @@ module _ {B : Type 0} where
         go true e h = omega (arith, spread-one (below p r) r, length-joined-suc f r)
         go false e h = omega (arith, ap (λ (l : List ℕ). length (spread f l)) (append-nil (below p r)), length-joined-suc f r)
 
--- ---- a row: from s, its pointer, up to e, the next one
+-- ---- columns, counted
 
-module _ {m : Csr} (v : Valid m) (r s e : ℕ) (h : r < m.rows) (es : s ≡ get_or m.ptr r 0) (ee : e ≡ get_or m.ptr (r + 1) 0) where
-  pub row_length : length (entries m r) ≡ e - s
+pub only_count : (t : ℕ → Bool) (cs : List ℕ) → length (only t cs) ≡ count_by t cs
+unfolding only
+only_count t = is_count_by (λ (l : List ℕ). length (only t l)) t refl (λ c cs. one (t c) c (only t cs))
+  where
+    one : (b : Bool) (c : ℕ) (l : List ℕ) → length (cons_if b c l) ≡ cond b (1 + length l) (length l)
+    one true c l = omega arith
+    one false c l = refl
+
+-- ---- a row, whose columns are lent as cs
+
+module _ {m : Csr} (v : Valid m) (r : ℕ) (cs : List ℕ) (ec : cs ≡ part m.ptr m.col r) where
+  pub row_length : length (entries m r) ≡ length cs
   unfolding entries
-  row_length = length-zip (part m.ptr m.col r) (part m.ptr m.val r) (sym (row_sides v r)) ∙ omega (arith, part_length m.ptr m.col r (row_of v h))
+  row_length = length-zip (part m.ptr m.col r) (part m.ptr m.val r) (sym (row_sides v r)) ∙ ap length (sym ec)
 
-  pub row_kept_lem : (t : ℕ → Bool) → length (only t (take (e - s) (drop s m.col))) ≡ length (entries_in t (entries m r))
-  row_kept_lem t =
-      let cs : List ℕ = take (e - s) (drop s m.col) in
-      let vs : List Float = take (e - s) (drop s m.val) in
-      sym (length-kept t cs vs (sym (row_lent v r s e m.cols es ee refl).0)) ∙ ap (λ (l : List Entry). length (entries_in t l)) (entries_lent m r s e es ee)
+  pub row_kept_lem : (t : ℕ → Bool) → length (only t cs) ≡ length (entries_in t (entries m r))
+  unfolding entries
+  row_kept_lem t = ap (λ (l : List ℕ). length (only t l)) ec ∙ sym (length-kept t (part m.ptr m.col r) (part m.ptr m.val r) (row_sides v r))
 
-  pub row_few : e - s ≤ 2 ^ 24
-  row_few = omega (arith, (row_of v h).inside, v.entries_in)
+  pub row_few : r < m.rows → length cs ≤ 2 ^ 24
+  row_few h = omega (arith, ap length ec, part_length m.ptr m.col r (row_of v h), (row_of v h).inside, v.entries_in)
 
 -- as the code has it of a region
 module _ {m : Csr} {a : Mask} (reg : Region m a) where
-  pub row_at_lem : (r : ℕ) → r < m.rows → RowIn m.ptr (length m.col) r
-  row_at_lem r h = row_of (valid m reg.list_accepted) h
-
-  pub row_at_values : (r : ℕ) → r < m.rows → RowIn m.ptr (length m.val) r
-  row_at_values r h = row_of_values (valid m reg.list_accepted) h
-
   pub rows_few : m.rows ≤ 2 ^ 20
   rows_few = (valid m reg.list_accepted).rows_in
 
-  pub entries-few : length m.col ≤ 2 ^ 24
-  entries-few = (valid m reg.list_accepted).entries_in
+  module _ (r : ℕ) (cs : List ℕ) (ec : cs ≡ part m.ptr m.col r) where
+    pub part-few : r < m.rows → length cs ≤ 2 ^ 24
+    part-few h = row_few (valid m reg.list_accepted) r cs ec h
 
-  pub part-few : (s e : ℕ) → length (take (e - s) (drop s m.col)) ≤ 2 ^ 24
-  part-few s e = omega (arith, length-take (e - s) (drop s m.col), length-drop s m.col, entries-few)
+    pub count-few : r < m.rows → (k : ℕ) → k ≡ length (only (active a) cs) → k ≤ 2 ^ 24
+    count-few h k q = omega (arith, part-few h, length-only (active a) cs)
 
-  pub count-few : (s e k : ℕ) → k ≡ length (only (active a) (take (e - s) (drop s m.col))) → k ≤ 2 ^ 24
-  count-few s e k q = omega (arith, part-few s e, length-only (active a) (take (e - s) (drop s m.col)))
-
-  pub columns_lent : (r s e : ℕ) → s ≡ get_or m.ptr r 0 → e ≡ get_or m.ptr (r + 1) 0
-      → (length (take (e - s) (drop s m.val)) ≡ length (take (e - s) (drop s m.col))) × (every (λ c. ltb c a.size) (take (e - s) (drop s m.col)) ≡ true)
-  columns_lent r s e es ee = row_lent (valid m reg.list_accepted) r s e a.size es ee (reg.size_is ∙ reg.square)
+    pub columns_lent : (vs : List Float) → vs ≡ part m.ptr m.val r → (length vs ≡ length cs) × (every (λ c. ltb c a.size) cs ≡ true)
+    columns_lent vs ev =
+        let v : Valid m = valid m reg.list_accepted in
+        let size : a.size ≡ m.cols = reg.size_is ∙ reg.square in
+        (ap length ev ∙ sym (row_sides v r) ∙ ap length (sym ec), rw (ec, size) (row_columns v r))
 
 -- ---- the numbers of the first r rows
 
@@ -127,18 +131,18 @@ module _ (m : Csr) (a : Mask) where
   }
 
   module _ (r nodes kept source : ℕ) (inv : Counting m a r nodes kept source) where
-    pub counting_more : (v : Valid m) (s e k : ℕ) → r < m.rows → true ≡ active a r → s ≡ get_or m.ptr r 0 → e ≡ get_or m.ptr (r + 1) 0 → k ≡ length (only (active a) (take (e - s) (drop s m.col))) → Counting m a (r + 1) (nodes + 1) (kept + k) (source + (e - s))
-    counting_more v s e k h t es ee ek =
-        let some : k ≡ length (kept_row m a r) = ek ∙ row_kept_lem v r s e h es ee (active a) in
-        let all : length (entries m r) ≡ e - s = row_length v r s e h es ee in
-        let less : k ≤ e - s = omega (arith, some, all, length-only (λ (e : Entry). active a e.0) (entries m r)) in
+    pub counting_more : (v : Valid m) (cs : List ℕ) (k : ℕ) → r < m.rows → true ≡ active a r → cs ≡ part m.ptr m.col r → k ≡ length (only (active a) cs) → Counting m a (r + 1) (nodes + 1) (kept + k) (source + length cs)
+    counting_more v cs k h t ec ek =
+        let some : k ≡ length (kept_row m a r) = ek ∙ row_kept_lem v r cs ec (active a) in
+        let all : length (entries m r) ≡ length cs = row_length v r cs ec in
+        let less : k ≤ length cs = omega (arith, some, all, length-only (λ (e : Entry). active a e.0) (entries m r)) in
         record {
           inside = omega arith;
           nodes_are = omega (arith, inv.nodes_are, ap length (below_in (active a) r t), length-append (below (active a) r) (r ∷ []));
           kept_are = omega (arith, inv.kept_are, some, spread_in (kept_row m a) (active a) r t);
           source_are = omega (arith, inv.source_are, all, spread_in (entries m) (active a) r t);
-          kept_few = omega (arith, inv.kept_few, row_few v r s e h es ee);
-          source_few = omega (arith, inv.source_few, row_few v r s e h es ee);
+          kept_few = omega (arith, inv.kept_few, row_few v r cs ec h);
+          source_few = omega (arith, inv.source_few, row_few v r cs ec h);
         }
 
     pub counting_other : r < m.rows → false ≡ active a r → Counting m a (r + 1) nodes kept source

@@ -1,23 +1,23 @@
 -- The rows of a local list, written one after the other. Assumes nothing.
 use mathlib.Core.Bool.{true}
 use mathlib.Core.List.{List, [], ◌∷◌, ◌++◌, map, map-map, map-append, zip}
-use mathlib.Core.Path.{◌≡◌, refl, sym, ap, ◌∙◌}
-use Prim.Native.Nat.{ℕ, suc, ◌+◌, ◌-◌, ◌%◌, ◌^◌, ◌≤◌, ◌<◌}
+use mathlib.Core.Path.{◌≡◌, refl, sym, ap, ap₂, ◌∙◌}
+use Prim.Native.Nat.{ℕ, suc, ◌+◌, ◌%◌, ◌^◌, ◌≤◌, ◌<◌}
 use native.Mathlib.Nat.{mod-eq_of_lt}
 use native.Mathlib.Numerals.{add-one}
 use native.Mathlib.Omega.{arith}
-use lib.ListN.{length, get_or, set, take, drop, length-map, length-set}
+use lib.ListN.{length, get_or, set, length-map, length-set}
 use lib.Ieee.{Float}
-use Rattle.lent.specs.Lists.{joined, each, starts}
+use Rattle.lent.specs.Lists.{joined, each, starts, part}
 use Rattle.lent.specs.Lent.{Appended}
 use Rattle.lent.proofs.ListLaws.{length-joined-le, length-joined-suc}
 use Rattle.lent.proofs.LentLaws.{appended_none, appended_join, appended_snoc}
 use Rattle.word.specs.Bits.{count}
-use Rattle.word.proofs.BelowLaws.{length-below-le, selects}
+use Rattle.word.proofs.BelowLaws.{length-below-le}
 use Rattle.mask.specs.Mask.{Mask, active}
 use Rattle.csr32.specs.Csr.{Csr, Entry, entries}
 use Rattle.csr32.specs.Made.{entries_in, as_csr_room, fits_csr, csr_of}
-use Rattle.csr32.proofs.CsrLaws.{valid, entries_lent}
+use Rattle.csr32.proofs.CsrLaws.{valid}
 use Rattle.restricted.specs.Local.{region_members, renumbered, local_list}
 use Rattle.restricted_local.specs.Region.{Region}
 use Rattle.restricted_local.proofs.CountLaws.{local_row, local_values, local_few, fits_facts}
@@ -43,14 +43,6 @@ pub record Rowing (m : Csr) (a : Mask) (op oc : List ℕ) (ov : List Float) (i a
   pub pointers : Appended (each (λ r. length (joined (local_row m a) r)) i) 0 i op np
   pub columns : Appended (map (λ (e : Entry). e.0) (joined (local_row m a) i)) 0 at oc nc
   pub values : Appended (map (λ (e : Entry). e.1) (joined (local_row m a) i)) 0 at ov nv
-
--- the i-th member is a row of the list
-pub member_row : {m : Csr} {a : Mask} → Region m a → (rows : List ℕ) (i row : ℕ) → rows ≡ region_members a → i < length rows → row ≡ get_or rows i 0 → row < m.rows
-unfolding region_members
-member_row {m} {a} reg rows i row q h e =
-    let here : get_or rows i 0 ≡ get_or (region_members a) i 0 = ap (λ (l : List ℕ). get_or l i 0) q in
-    let long : length rows ≡ length (region_members a) = ap length q in
-    omega (arith, here, (selects (active a) a.size i (omega (arith, long))).bound, reg.size_is)
 
 pub members-few : {m : Csr} {a : Mask} → Region m a → (rows : List ℕ) → rows ≡ region_members a → length rows ≤ 2 ^ 20
 unfolding region_members
@@ -79,10 +71,6 @@ module _ (m : Csr) (a : Mask) (op oc : List ℕ) (ov : List Float) where
     at-few : at ≤ 2 ^ 24
     at-few = omega (arith, so_far, length-joined-le (local_row m a) i (length (region_members a)) inv.inside, local_few m a (valid m reg.list_accepted) reg.size_is)
 
-    pub rowing_few : i ≤ 2 ^ 20
-    unfolding region_members
-    rowing_few = omega (arith, inv.inside, length-below-le (active a) a.size, reg.size_is, (valid m reg.list_accepted).rows_in)
-
     pub rowing_pointer : i < length np
     rowing_pointer = omega (arith, inv.inside, inv.same_pointers, (fits_facts m a (as_csr_room (length op) (length oc) (length ov)) fits).pointers_in)
 
@@ -95,42 +83,38 @@ module _ (m : Csr) (a : Mask) (op oc : List ℕ) (ov : List Float) where
         ap (each (λ r. length (joined (local_row m a) r))) (add-one i) ∙ ap (λ (n : ℕ). each (λ r. length (joined (local_row m a) r)) i ++ (n ∷ [])) (sym is) in
         rw more (appended_snoc (each (λ r. length (joined (local_row m a) r)) i) 0 i op np v inv.pointers rowing_pointer)
 
-    module _ (rows : List ℕ) (row s e : ℕ) (rq : rows ≡ region_members a) (h : i < length rows) (er : row ≡ get_or rows i 0) (es : s ≡ get_or m.ptr row 0) (ee : e ≡ get_or m.ptr (row + 1) 0) where
-      lent : List Entry
-      lent = zip (take (e - s) (drop s m.col)) (take (e - s) (drop s m.val))
-
-      lent_is : map (renumbered a) (entries_in (active a) lent) ≡ local_row m a i
-      unfolding lent
+    module _ (rows : List ℕ) (row : ℕ) (cs : List ℕ) (vs : List Float) (rq : rows ≡ region_members a) (h : i < length rows) (er : row ≡ get_or rows i 0) (ec : cs ≡ part m.ptr m.col row) (ev : vs ≡ part m.ptr m.val row) where
+      lent_is : map (renumbered a) (entries_in (active a) (zip cs vs)) ≡ local_row m a i
+      unfolding entries
       lent_is =
           let here : row ≡ get_or (region_members a) i 0 = er ∙ ap (λ (l : List ℕ). get_or l i 0) rq in
-          ap (λ (l : List Entry). map (renumbered a) (entries_in (active a) l)) (entries_lent m row s e es ee ∙ ap (entries m) here)
+          ap₂ (λ (c : List ℕ) (v : List Float). map (renumbered a) (entries_in (active a) (zip c v))) ec ev ∙ ap (λ (k : ℕ). map (renumbered a) (entries_in (active a) (entries m k))) here
 
       within : i < length (region_members a)
       within = omega (arith, ap length rq)
 
-      fit : at + length (entries_in (active a) lent) ≤ total
+      fit : at + length (entries_in (active a) (zip cs vs)) ≤ total
       unfolding total
-      fit = omega (arith, so_far, ap length lent_is, length-map (entries_in (active a) lent) (renumbered a), length-joined-suc (local_row m a) i, length-joined-le (local_row m a) (suc i) (length (region_members a)) within)
+      fit = omega (arith, so_far, ap length lent_is, length-map (entries_in (active a) (zip cs vs)) (renumbered a), length-joined-suc (local_row m a) i, length-joined-le (local_row m a) (suc i) (length (region_members a)) within)
 
-      pub rowing_columns : at + length (entries_in (active a) (zip (take (e - s) (drop s m.col)) (take (e - s) (drop s m.val)))) ≤ length nc
-      unfolding total lent
+      pub rowing_columns : at + length (entries_in (active a) (zip cs vs)) ≤ length nc
+      unfolding total
       rowing_columns = omega (arith, fit, inv.same_columns, local_values m a, (fits_facts m a (as_csr_room (length op) (length oc) (length ov)) fits).columns_in)
 
-      pub rowing_values : at + length (entries_in (active a) (zip (take (e - s) (drop s m.col)) (take (e - s) (drop s m.val)))) ≤ length nv
-      unfolding total lent
+      pub rowing_values : at + length (entries_in (active a) (zip cs vs)) ≤ length nv
+      unfolding total
       rowing_values = omega (arith, fit, inv.same_values, local_values m a, (fits_facts m a (as_csr_room (length op) (length oc) (length ov)) fits).values_in)
 
-      joined_more : joined (local_row m a) (i + 1) ≡ joined (local_row m a) i ++ map (renumbered a) (entries_in (active a) lent)
+      joined_more : joined (local_row m a) (i + 1) ≡ joined (local_row m a) i ++ map (renumbered a) (entries_in (active a) (zip cs vs))
       unfolding joined
       joined_more = ap (joined (local_row m a)) (add-one i) ∙ ap (λ (l : List Entry). joined (local_row m a) i ++ l) (sym lent_is)
 
       pub rowing_more : (v : ℕ) → v ≡ at % 2 ^ 32 → (to : ℕ) (lc : List ℕ) (lv : List Float) → length lc ≡ length nc → length lv ≡ length nv
-          → Appended (map (λ (e : Entry). e.0) (map (renumbered a) (entries_in (active a) (zip (take (e - s) (drop s m.col)) (take (e - s) (drop s m.val)))))) at to nc lc
-          → Appended (map (λ (e : Entry). e.1) (map (renumbered a) (entries_in (active a) (zip (take (e - s) (drop s m.col)) (take (e - s) (drop s m.val)))))) at to nv lv
+          → Appended (map (λ (e : Entry). e.0) (map (renumbered a) (entries_in (active a) (zip cs vs)))) at to nc lc
+          → Appended (map (λ (e : Entry). e.1) (map (renumbered a) (entries_in (active a) (zip cs vs)))) at to nv lv
           → Rowing m a op oc ov (i + 1) to (set np i v) lc lv
-      unfolding lent
       rowing_more v q to lc lv sc sv ac av =
-          let new : List Entry = map (renumbered a) (entries_in (active a) lent) in
+          let new : List Entry = map (renumbered a) (entries_in (active a) (zip cs vs)) in
           let old : List Entry = joined (local_row m a) i in
           record {
             inside = omega (arith, within);

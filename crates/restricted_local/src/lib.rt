@@ -22,16 +22,11 @@ use restricted::LocalRegion;
 
 // How many of the columns lie in the region.
 fn count_row(cols: &[u32], region_len: usize, region: &[u64]) -> usize
-    requires { length cols.now ≤ 2 ^ 24 }
     ensures { result ≡ length (only (active (as_mask region_len region.now)) cols.now) }
 {
-    let mut kept: usize = 0;
-    let mut p: usize = 0;
-    while p < cols.len() {
-        kept += usize::from(mask::is_member(region_len, region, cols[p] as usize));
-        p += 1;
-    }
-    kept
+    cols.iter()
+        .filter(|column| mask::is_member(region_len, region, **column as usize))
+        .count()
 }
 
 // The region's numbers: its members, their entries in the region's columns, and all their entries.
@@ -50,16 +45,12 @@ fn count_region(
     let mut nodes: usize = 0;
     let mut kept: usize = 0;
     let mut source: usize = 0;
-    let mut next: usize = 0;
-    while next < nrows {
-        let row = next;
-        next += 1;
+    for row in 0..nrows {
         if mask::is_member(region_len, region, row) {
-            let start = row_ptr[row] as usize;
-            let end = row_ptr[row + 1] as usize;
+            let cols = lent::part(row_ptr, col_idx, row);
             nodes += 1;
-            kept += count_row(&col_idx[start..end], region_len, region);
-            source += end - start;
+            kept += count_row(cols, region_len, region);
+            source += cols.len();
         }
     }
     LocalRegion {
@@ -137,10 +128,7 @@ fn put_members(region_len: usize, region: &[u64], out: &mut [u32]) -> usize
     ensures { Appended (region_members (as_mask region_len region.now)) 0 result out.old out.new }
 {
     let mut at: usize = 0;
-    let mut next: usize = 0;
-    while next < region_len {
-        let row = next;
-        next += 1;
+    for row in 0..region_len {
         if mask::is_member(region_len, region, row) {
             out[at] = hybit_core::narrow(row);
             at += 1;
@@ -165,13 +153,10 @@ fn count_words(words: &[u64], counts: &mut [u32])
     requires { (length words.now ≤ 2 ^ 14) × (length words.now ≤ length counts.old) }
     ensures { Appended (each (λ w. count (bit_at words.now) (64 * w)) (length words.now)) 0 (length words.now) counts.old counts.new }
 {
-    let n = words.len();
     let mut ones: usize = 0;
-    let mut k: usize = 0;
-    while k < n {
-        counts[k] = hybit_core::narrow(ones);
-        ones += word::popcount(words[k]);
-        k += 1;
+    for (place, bits) in words.iter().enumerate() {
+        counts[place] = hybit_core::narrow(ones);
+        ones += word::popcount(*bits);
     }
 }
 
@@ -206,14 +191,11 @@ fn keep_row(
     ensures values { Appended (map (λ (e : Entry). e.1) (map (renumbered (as_mask region_len region.now)) (entries_in (active (as_mask region_len region.now)) (zip cols.now vals.now)))) from result out_values.old out_values.new }
 {
     let mut at = from;
-    let mut next: usize = 0;
-    while next < cols.len() {
-        let p = next;
-        next += 1;
-        let c = cols[p] as usize;
+    for (place, column) in cols.iter().enumerate() {
+        let c = *column as usize;
         if mask::is_member(region_len, region, c) {
             out_col_idx[at] = local_number(region_len, region, counts, c);
-            out_values[at] = vals[p];
+            out_values[at] = vals[place];
             at += 1;
         }
     }
@@ -243,17 +225,13 @@ fn fill_rows(
     ensures columns { Appended (local_list (as_csr nrows ncols row_ptr.now col_idx.now values.now) (as_mask region_len region.now)).col 0 result out_col_idx.old out_col_idx.new }
     ensures values { Appended (local_list (as_csr nrows ncols row_ptr.now col_idx.now values.now) (as_mask region_len region.now)).val 0 result out_values.old out_values.new }
 {
-    let nodes = rows.len();
     let mut at: usize = 0;
-    let mut i: usize = 0;
-    while i < nodes {
+    for (i, member) in rows.iter().enumerate() {
+        let row = *member as usize;
         out_row_ptr[i] = hybit_core::narrow(at);
-        let row = rows[i] as usize;
-        let start = row_ptr[row] as usize;
-        let end = row_ptr[row + 1] as usize;
         at = keep_row(
-            &col_idx[start..end],
-            &values[start..end],
+            lent::part(row_ptr, col_idx, row),
+            lent::part(row_ptr, values, row),
             region_len,
             region,
             counts,
@@ -261,9 +239,8 @@ fn fill_rows(
             out_col_idx,
             out_values,
         );
-        i += 1;
     }
-    out_row_ptr[nodes] = hybit_core::narrow(at);
+    out_row_ptr[rows.len()] = hybit_core::narrow(at);
     at
 }
 

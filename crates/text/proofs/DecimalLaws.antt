@@ -1,7 +1,7 @@
 -- Laws of decimals as text: what the parts of a word make. Assumes nothing.
 use Rattle.std.specs.Prelude.{Option, Some, None}
 use Prim.Native.Nat.{ℕ, suc, ◌+◌, ◌-◌, ◌*◌, ◌^◌, ◌≤◌, ◌<◌}
-use mathlib.Core.Bool.{false, ◌&&◌}
+use mathlib.Core.Bool.{true, false, ◌&&◌, and-true, false≢true}
 use mathlib.Core.List.{List, [], ◌∷◌}
 use mathlib.Core.Path.{◌≡◌, refl, sym, ◌∙◌}
 use native.Mathlib.Nat.{suc-mul, mul-le-mul_right}
@@ -9,12 +9,16 @@ use native.Mathlib.Numerals.{add-one}
 use native.Mathlib.Omega.{arith}
 use lib.Ieee.{Float}
 use lib.Pow.{pow-add}
-use lib.ListN.{length, get_or, take, drop, length-drop}
+use lib.ListN.{length, take, drop, length-drop}
 use lib.Seq.{take_all}
 use borrow.Author.Tests.{le-leb, lt-leb, eq-eqb, ne_eqb}
 use Rattle.hybit_core.specs.Floats.{ratio_of}
 use Rattle.text.specs.Numbers.{numeral, whole_of, place_of, parts, alone, unsigned_of, negated, real_of}
-use Rattle.text.proofs.NumberLaws.{power_most, whole_is, whole-not, whole-small, and_last, place_most}
+use Rattle.text.proofs.NumberLaws.{power_most, whole_is, whole-not, whole-small, and_last, place_most, place_found, place_missing}
+use Rattle.std.specs.List.{position}
+use lib.Dec.{eqb}
+use lib.Pointwise.{pointwise}
+use Rattle.hybit_core.proofs.BoolLaws.{and_left}
 
 -- ---- digits without a point
 
@@ -63,30 +67,24 @@ module _ (a b : List ℕ) where
 lent_rest : (w : List ℕ) (k : ℕ) → take (length w - k) (drop k w) ≡ drop k w
 lent_rest w k = take_all (length w - k) (drop k w) (simp length-drop (omega arith))
 
-pub point_inside : (p : ℕ) (w : List ℕ) → p ≡ place_of 46 w → (p ≡ length w → ⊥) → p < length w
-point_inside p w e n = omega (arith, place_most 46 w)
-
-pub unsigned_alone : (p : ℕ) (w : List ℕ) (r : (Option Float)) → p ≡ place_of 46 w → p ≡ length w → r ≡ alone w → r ≡ unsigned_of w
+pub unsigned_alone : (w : List ℕ) (r : (Option Float)) → position (λ x. eqb x 46) w ≡ None → r ≡ alone w → r ≡ unsigned_of w
 unfolding unsigned_of
-unsigned_alone p w r e h k = k ∙ rw (eq-eqb (place_of 46 w) (length w) (sym e ∙ h))
+unsigned_alone w r e k = k ∙ rw (eq-eqb (place_of 46 w) (length w) (omega (arith, place_missing 46 w e, place_most 46 w)))
 
-pub unsigned_parts : (p : ℕ) (w : List ℕ) (r : (Option Float)) → p ≡ place_of 46 w → (p ≡ length w → ⊥) → r ≡ parts (take p w) (take (length w - (p + 1)) (drop (p + 1) w)) → r ≡ unsigned_of w
+pub unsigned_parts : (p : ℕ) (w : List ℕ) (r : (Option Float)) → position (λ x. eqb x 46) w ≡ Some p → r ≡ parts (take p w) (take (length w - (p + 1)) (drop (p + 1) w)) → r ≡ unsigned_of w
 unfolding unsigned_of
-unsigned_parts p w r e n k = k ∙ rw (lent_rest w (p + 1), ne_eqb (place_of 46 w) (length w) (λ d. n (e ∙ d)), add-one, e)
+unsigned_parts p w r e k =
+    let f = place_found 46 p w e in
+    k ∙ rw (lent_rest w (p + 1), ne_eqb (place_of 46 w) (length w) (omega (arith, f.0, f.1)), add-one, f.0)
 
 -- ---- a word, with a minus sign or without
 
-pub real_none : (w : List ℕ) → length w ≡ 0 → None ≡ real_of w
+pub real_minus : (w v : List ℕ) (u r : (Option Float)) → pointwise eqb (take 1 w) (45 ∷ []) ≡ true → v ≡ drop 1 w → u ≡ unsigned_of v → r ≡ negated u → r ≡ real_of w
 unfolding real_of
-real_none [] h = refl
-real_none (c ∷ w) h = absurd (omega arith)
+real_minus [] v u r n m e q = absurd (false≢true n)
+real_minus (c ∷ w) v u r n m e q = q ∙ rw (and_left (eqb c 45) true n, e, m)
 
-pub real_minus : (w : List ℕ) (u r : (Option Float)) → (length w ≡ 0 → ⊥) → get_or w 0 0 ≡ 45 → u ≡ unsigned_of (take (length w - 1) (drop 1 w)) → r ≡ negated u → r ≡ real_of w
-unfolding real_of
-real_minus [] u r n h e q = absurd (n refl)
-real_minus (c ∷ w) u r n h e q = q ∙ rw (eq-eqb c 45 h, e, lent_rest (c ∷ w) 1)
-
-pub real_plain : (w : List ℕ) (r : (Option Float)) → (length w ≡ 0 → ⊥) → (get_or w 0 0 ≡ 45 → ⊥) → r ≡ unsigned_of w → r ≡ real_of w
-unfolding real_of
-real_plain [] r n h e = absurd (n refl)
-real_plain (c ∷ w) r n h e = e ∙ rw (ne_eqb c 45 h)
+pub real_plain : (w : List ℕ) (r : (Option Float)) → pointwise eqb (take 1 w) (45 ∷ []) ≡ false → r ≡ unsigned_of w → r ≡ real_of w
+unfolding real_of unsigned_of place_of alone numeral
+real_plain [] r n e = e ∙ refl
+real_plain (c ∷ w) r n e = e ∙ rw (sym (and-true (eqb c 45)) ∙ n)

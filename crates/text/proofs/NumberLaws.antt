@@ -7,13 +7,16 @@ use mathlib.Core.Path.{◌≡◌, refl, sym, ap, ◌∙◌}
 use native.Mathlib.Nat.{pow-succ', pow-le-pow_right, mul_assoc, mul_comm}
 use native.Mathlib.Numerals.{add-one}
 use native.Mathlib.Omega.{arith}
-use lib.Dec.{leb, eqb}
+use lib.Dec.{leb, ltb, eqb}
+use Rattle.std.proofs.lemmas.Bool.{ltb-true, ltb-false}
 use lib.ListN.{length, get_or, drop, drop_of_length-le}
 use lib.Seq.{drop-cons}
-use borrow.Author.Tests.{leb-true, le-leb, lt-leb, eq-eqb, ne_eqb}
+use borrow.Author.Tests.{leb-true, le-leb, lt-leb}
 use Rattle.hybit_core.proofs.BoolLaws.{and_left, and_right, and_both}
 use Rattle.lent.specs.Lists.{every}
 use Rattle.lent.proofs.ListLaws.{every_more, every_fails, every_done}
+use Rattle.std.specs.List.{position, position_or_len}
+use Rattle.std.proofs.lemmas.List.Recursion.{is_position_or_len}
 use Rattle.text.specs.Numbers.{digit, tens, numeral, whole_of, place_of}
 
 -- ---- powers of ten
@@ -135,22 +138,28 @@ module _ (w : List ℕ) where
         let same : tens w ≡ value = inv.rest ∙ rw drop_of_length-le in
         ap Some (sym same) ∙ whole-good w all
 
--- ---- the place of a byte b, looked for up to place i
+-- ---- the place of the first byte b, as the library's `position` finds it
 
-module _ (b : ℕ) (w : List ℕ) (i : ℕ) (inv : place_of b w ≡ i + place_of b (drop i w)) where
-  place_step : i < length w → place_of b w ≡ i + cond (eqb (get_or w i 0) b) 0 (suc (place_of b (drop (i + 1) w)))
-  unfolding place_of
-  place_step h = inv ∙ rw (add-one, drop-cons w i 0)
+one_more : (n : ℕ) → suc n ≡ 1 + n
+one_more n = omega arith
 
-  pub place_found : i < length w → get_or w i 0 ≡ b → i ≡ place_of b w
-  place_found h e = sym (place_step h ∙ rw (eq-eqb (get_or w i 0) b e) (omega arith))
+place_is : (b : ℕ) (w : List ℕ) → place_of b w ≡ position_or_len (λ x. eqb x b) w
+unfolding place_of
+place_is b w = is_position_or_len (place_of b) (λ x. eqb x b) refl (λ x xs. ap (cond (eqb x b) 0) (one_more (place_of b xs))) w
 
-  pub place_more : i < length w → (get_or w i 0 ≡ b → ⊥) → place_of b w ≡ i + 1 + place_of b (drop (i + 1) w)
-  place_more h n = place_step h ∙ rw (ne_eqb (get_or w i 0) b n) (omega arith)
+pub place_found : (b i : ℕ) (w : List ℕ) → position (λ x. eqb x b) w ≡ Some i → (i ≡ place_of b w) × (i < length w)
+place_found b i w = rw (← place_is b w) (go (ltb (place_of b w) (length w)) refl)
+  where
+    go : (t : Bool) → ltb (place_of b w) (length w) ≡ t → cond t (Some (place_of b w)) None ≡ Some i → (i ≡ place_of b w) × (i < length w)
+    go true x e = let same : i ≡ place_of b w = cc in (same, rw same (ltb-true (place_of b w) (length w) x))
+    go false x e = let z : ◌≡◌ {A = ℕ} 0 1 = cc in absurd (omega arith)
 
-  pub place_none : length w ≤ i → i ≡ place_of b w
-  unfolding place_of
-  place_none h = sym (inv ∙ rw drop_of_length-le (omega arith))
+pub place_missing : (b : ℕ) (w : List ℕ) → position (λ x. eqb x b) w ≡ None → length w ≤ place_of b w
+place_missing b w = rw (← place_is b w) (go (ltb (place_of b w) (length w)) refl)
+  where
+    go : (t : Bool) → ltb (place_of b w) (length w) ≡ t → cond t (Some (place_of b w)) None ≡ None → length w ≤ place_of b w
+    go true x e = let z : ◌≡◌ {A = ℕ} 0 1 = cc in absurd (omega arith)
+    go false x e = ltb-false (place_of b w) (length w) x
 
 pub place_most : (b : ℕ) (w : List ℕ) → place_of b w ≤ length w
 unfolding place_of

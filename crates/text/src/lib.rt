@@ -1,66 +1,24 @@
 // Numbers read from text, for the program trial: whole numbers and decimals.
 #![tactic(auto)]
 
-ghost use Rattle.std.specs.Prelude.{◌≡◌, ◌≤◌, ◌^◌};
-ghost use Rattle.text.specs.Numbers.{digit, whole_of, place_of, alone, parts, unsigned_of, real_of};
-
-fn is_digit(b: u8) -> bool
-    ensures { result ≡ digit b }
-{
-    if b < 48 {
-        return false;
-    }
-    b <= 57
-}
+ghost use Rattle.std.specs.Prelude.{◌≡◌, ◌==◌, position};
+ghost use Rattle.text.specs.Numbers.{whole_of, alone, parts, unsigned_of, real_of};
 
 // A whole number of one to fifteen digits.
 pub fn read_whole(word: &[u8]) -> Option<usize>
     ensures { result ≡ whole_of word.now }
 {
-    if word.len() == 0 {
-        return None;
-    }
-    if word.len() > 15 {
+    if word.is_empty() || word.len() > 15 {
         return None;
     }
     let mut value: usize = 0;
-    let mut i: usize = 0;
-    while i < word.len() {
-        let b = word[i];
-        if !is_digit(b) {
+    for b in word {
+        if !b.is_ascii_digit() {
             return None;
         }
-        value = 10 * value + (b - 48) as usize;
-        i += 1;
+        value = 10 * value + (*b - b'0') as usize;
     }
     Some(value)
-}
-
-fn power_of_ten(k: usize) -> usize
-    requires { k ≤ 15 }
-    ensures { result ≡ 10 ^ k }
-{
-    let mut power: usize = 1;
-    let mut i: usize = 0;
-    while i < k {
-        power = 10 * power;
-        i += 1;
-    }
-    power
-}
-
-// Where the first byte `b` stands; the length where there is none.
-fn place_of(b: u8, word: &[u8]) -> usize
-    ensures { result ≡ place_of b word.now }
-{
-    let mut i: usize = 0;
-    while i < word.len() {
-        if word[i] == b {
-            return i;
-        }
-        i += 1;
-    }
-    i
 }
 
 // Digits without a point.
@@ -80,30 +38,32 @@ fn with_point(before: &[u8], behind: &[u8]) -> Option<f64>
     if before.len() + behind.len() > 15 {
         return None;
     }
-    let power = power_of_ten(behind.len());
+    let power = 10usize.pow(behind.len() as u32);
     Some(hybit_core::ratio((a * power + b) as u64, power as u64))
+}
+
+// Where the first point stands.
+fn point_of(word: &[u8]) -> Option<usize>
+    ensures { result ≡ position (λ b. b == 46) word.now }
+{
+    word.iter().position(|b| *b == b'.')
 }
 
 fn unsigned(word: &[u8]) -> Option<f64>
     ensures { result ≡ unsigned_of word.now }
 {
-    let point = place_of(b'.', word);
-    if point == word.len() {
-        return without_point(word);
+    match point_of(word) {
+        Some(point) => with_point(&word[..point], &word[point + 1..]),
+        None => without_point(word),
     }
-    with_point(&word[..point], &word[point + 1..])
 }
 
 // A decimal: perhaps a minus sign, digits, perhaps a point and digits behind it; at most fifteen digits.
 pub fn read_real(word: &[u8]) -> Option<f64>
     ensures { result ≡ real_of word.now }
 {
-    if word.len() == 0 {
-        return None;
+    match word.strip_prefix(b"-") {
+        Some(rest) => unsigned(rest).map(|v| -v),
+        None => unsigned(word),
     }
-    if word[0] == b'-' {
-        let v = unsigned(&word[1..])?;
-        return Some(-v);
-    }
-    unsigned(word)
 }

@@ -123,10 +123,8 @@ fn numbers_climb(words: &[u32]) -> bool
     ensures { result ≡ climbs 0 words.now }
 {
     let mut holds = true;
-    let mut i: usize = 1;
-    while i < words.len() {
+    for i in 1..words.len() {
         holds = also_above(holds, words[i - 1], words[i]);
-        i += 1;
     }
     holds
 }
@@ -144,10 +142,8 @@ fn masks_hold(masks: &[u64]) -> bool
     ensures { result ≡ every (λ m. not (m == 0)) masks.now }
 {
     let mut holds = true;
-    let mut i: usize = 0;
-    while i < masks.len() {
-        holds = also_some(holds, masks[i]);
-        i += 1;
+    for mask in masks {
+        holds = also_some(holds, *mask);
     }
     holds
 }
@@ -181,13 +177,11 @@ fn rows_hold(
     requires { framed_lists nrows row_word_ptr.now (length word_indices.now) (length masks.now) ≡ true }
     ensures { result ≡ row_rules (as_words nrows ncols row_word_ptr.now word_indices.now masks.now structural_nnz) }
 {
-    let mut row: usize = 0;
-    while row < nrows {
+    for row in 0..nrows {
         let words = lent::part(row_word_ptr, word_indices, row);
         if !row_holds(ncols, words, lent::part(row_word_ptr, masks, row)) {
             return false;
         }
-        row += 1;
     }
     true
 }
@@ -197,10 +191,8 @@ pub fn count_bits(masks: &[u64]) -> usize
     ensures { result ≡ set_bits masks.now % 2 ^ 64 }
 {
     let mut ones: usize = 0;
-    let mut i: usize = 0;
-    while i < masks.len() {
-        ones = std::num::wrapping_add_usize(ones, word::popcount(masks[i]));
-        i += 1;
+    for mask in masks {
+        ones = std::num::wrapping_add_usize(ones, word::popcount(*mask));
     }
     ones
 }

@@ -97,6 +97,7 @@ fn count_row(
     let mut count: usize = 0;
     let mut at: usize = 0;
     let mut other_at: usize = 0;
+    // Two rows side by side: which of the two goes on, each step tells.
     while at + other_at < all {
         let s = next_word(
             operation,
@@ -138,6 +139,7 @@ fn merge_row(
     let mut to = from;
     let mut at: usize = 0;
     let mut other_at: usize = 0;
+    // Two rows side by side: which of the two goes on, each step tells.
     while at + other_at < all {
         let s = next_word(
             operation,
@@ -175,14 +177,12 @@ fn count_words(
     ensures { result ≡ length (combined_words operation (as_words nrows ncols row_word_ptr.now word_indices.now masks.now 0) (as_words nrows ncols other_row_word_ptr.now other_word_indices.now other_masks.now 0)).word }
 {
     let mut count: usize = 0;
-    let mut row: usize = 0;
-    while row < nrows {
+    for row in 0..nrows {
         let left = lent::part(row_word_ptr, word_indices, row);
         let left_masks = lent::part(row_word_ptr, masks, row);
         let right = lent::part(other_row_word_ptr, other_word_indices, row);
         let right_masks = lent::part(other_row_word_ptr, other_masks, row);
         count += count_row(operation, ncols, left, left_masks, right, right_masks);
-        row += 1;
     }
     count
 }
@@ -210,8 +210,7 @@ fn merge_rows(
     ensures bits { Appended (combined_words operation (as_words nrows ncols row_word_ptr.now word_indices.now masks.now 0) (as_words nrows ncols other_row_word_ptr.now other_word_indices.now other_masks.now 0)).mask 0 result out_masks.old out_masks.new }
 {
     let mut to: usize = 0;
-    let mut row: usize = 0;
-    while row < nrows {
+    for row in 0..nrows {
         out_ptr[row] = hybit_core::narrow(to);
         let left = lent::part(row_word_ptr, word_indices, row);
         let left_masks = lent::part(row_word_ptr, masks, row);
@@ -228,7 +227,6 @@ fn merge_rows(
             out_words,
             out_masks,
         );
-        row += 1;
     }
     to
 }

@@ -138,12 +138,10 @@ fn contains_in(words: &[u32], masks: &[u64], col: usize) -> bool
     ensures { result ≡ row_member words.now masks.now col }
 {
     let target = col / 64;
-    let mut i: usize = 0;
-    while i < words.len() {
+    for i in 0..words.len() {
         if words[i] as usize == target {
             return word::contains_offset(masks[i], col % 64);
         }
-        i += 1;
     }
     false
 }
@@ -186,8 +184,7 @@ fn rank_in(ncols: usize, words: &[u32], masks: &[u64], col: usize) -> usize
 {
     let target = col / 64;
     let mut rank: usize = 0;
-    let mut i: usize = 0;
-    while i < words.len() {
+    for i in 0..words.len() {
         let index = words[i] as usize;
         if index > target {
             return rank;
@@ -196,7 +193,6 @@ fn rank_in(ncols: usize, words: &[u32], masks: &[u64], col: usize) -> usize
             return rank + word::ones_below(masks[i], col % 64);
         }
         rank += word::popcount(masks[i]);
-        i += 1;
     }
     rank
 }
@@ -262,8 +258,7 @@ fn select_in(ncols: usize, words: &[u32], masks: &[u64], ordinal: usize) -> Opti
     ensures { result ≡ selected (row_member words.now masks.now) ncols ordinal }
 {
     let mut left = ordinal;
-    let mut k: usize = 0;
-    while k < words.len() {
+    for k in 0..words.len() {
         let ones = word::popcount(masks[k]);
         if left < ones {
             let Some(offset) = word::select(masks[k], left) else {
@@ -274,7 +269,6 @@ fn select_in(ncols: usize, words: &[u32], masks: &[u64], ordinal: usize) -> Opti
             return Some(col);
         }
         left -= ones;
-        k += 1;
     }
     None
 }

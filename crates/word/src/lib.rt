@@ -82,10 +82,8 @@ pub fn select(mask: u64, ordinal: usize) -> Option<usize>
         return None;
     }
     let mut bits = mask;
-    let mut k: usize = 0;
-    while k < ordinal {
+    for _ in 0..ordinal {
         bits = without_lowest(bits);
-        k += 1;
     }
     Some(lowest(bits))
 }

@@ -9,12 +9,6 @@ overflow_add-end c = omega (arith, tile_end _ _ _ _ _ _ _ c.requires (c.word_in.
 pub offset_bounds-values-offset : goal.offset_bounds-values-offset
 offset_bounds-values-offset c = omega (arith, tile_end _ _ _ _ _ _ _ c.requires (c.word_in.ensures) c.slot_count.ensures)
 
-pub slice_bounds-add_dense-count : goal.slice_bounds-add_dense-count
-slice_bounds-add_dense-count c = omega (arith, tile_end _ _ _ _ _ _ _ c.requires (c.word_in.ensures) c.slot_count.ensures)
-
-pub slice_bounds-add_dense-start : goal.slice_bounds-add_dense-start
-slice_bounds-add_dense-start c = omega (arith, tile_end _ _ _ _ _ _ _ c.requires (c.word_in.ensures) c.slot_count.ensures)
-
 pub slice_bounds-add_dense-end : goal.slice_bounds-add_dense-end
 slice_bounds-add_dense-end c = omega (arith, tile_end _ _ _ _ _ _ _ c.requires (c.word_in.ensures) c.slot_count.ensures)
 
@@ -26,12 +20,6 @@ returns-then-kind_in-eq2 c = dense_adds c.args.values.now c.args.x.now c.args.ma
 
 pub offset_bounds-values-offset-2 : goal.offset_bounds-values-offset-2
 offset_bounds-values-offset-2 c = omega (arith, tile_end _ _ _ _ _ _ _ c.requires (c.word_in.ensures) c.slot_count.ensures)
-
-pub slice_bounds-compact_sum-count : goal.slice_bounds-compact_sum-count
-slice_bounds-compact_sum-count c = omega (arith, tile_end _ _ _ _ _ _ _ c.requires (c.word_in.ensures) c.slot_count.ensures)
-
-pub slice_bounds-compact_sum-start : goal.slice_bounds-compact_sum-start
-slice_bounds-compact_sum-start c = omega (arith, tile_end _ _ _ _ _ _ _ c.requires (c.word_in.ensures) c.slot_count.ensures)
 
 pub slice_bounds-compact_sum-end : goal.slice_bounds-compact_sum-end
 slice_bounds-compact_sum-end c = omega (arith, tile_end _ _ _ _ _ _ _ c.requires (c.word_in.ensures) c.slot_count.ensures)

@@ -1,9 +1,8 @@
 -- `abtm_apply::fill_product` meets its contract. Assumes nothing.
 use mathlib.Core.Path.{refl}
-use Prim.Native.Nat.{◌-◌}
 use native.Mathlib.Omega.{arith}
 use Rattle.abtm_check.proofs.TilesLaws.{row_places, lent_offsets, lent_metas}
-use Rattle.abtm_apply.proofs.ProductLaws.{rows_none, rows_few, lent_inside, row_number, rows_long, rows-room, rows_more, rows_done, tiles_good}
+use Rattle.abtm_apply.proofs.ProductLaws.{rows_none, rows_few, lent_inside, row_number, rows-room, rows_more, rows_done, tiles_good}
 use Rattle.abtm_apply.proofs.fill_product.Goals as goal
 
 pub loop-row-init : goal.loop-row-init
@@ -15,18 +14,11 @@ offset_bounds-row_tile_ptr-row c = omega (arith, rows_few _ _ _ c.requires)
 pub bounds-row_tile_ptr-row : goal.bounds-row_tile_ptr-row
 bounds-row_tile_ptr-row c = omega (arith, (row_places _ (tiles_good _ _ _ c.requires) c.loop-row.row _ _ (omega arith) refl refl).here)
 
-pub overflow_add-row : goal.overflow_add-row
-overflow_add-row c = omega (arith, rows_few _ _ _ c.requires)
-
 pub offset_bounds-row_tile_ptr-row-in-loop-row : goal.offset_bounds-row_tile_ptr-row-in-loop-row
 offset_bounds-row_tile_ptr-row-in-loop-row c = omega (arith, rows_few _ _ _ c.requires)
 
 pub bounds-row_tile_ptr-row-in-loop-row : goal.bounds-row_tile_ptr-row-in-loop-row
 bounds-row_tile_ptr-row-in-loop-row c = omega (arith, (row_places _ (tiles_good _ _ _ c.requires) c.loop-row.row _ _ (omega arith) refl refl).next)
-
-pub offset_bounds-masks-start : goal.offset_bounds-masks-start
-offset_bounds-masks-start c = let p = row_places _ (tiles_good _ _ _ c.requires) c.loop-row.row _ _ (omega arith) refl refl in
-    omega (arith, p.order, p.in_masks)
 
 pub slice_bounds-row_sum-count : goal.slice_bounds-row_sum-count
 slice_bounds-row_sum-count c = let p = row_places _ (tiles_good _ _ _ c.requires) c.loop-row.row _ _ (omega arith) refl refl in
@@ -40,10 +32,6 @@ pub slice_bounds-row_sum-end : goal.slice_bounds-row_sum-end
 slice_bounds-row_sum-end c = let p = row_places _ (tiles_good _ _ _ c.requires) c.loop-row.row _ _ (omega arith) refl refl in
     omega (arith, p.order, p.in_masks)
 
-pub offset_bounds-value_offsets-start : goal.offset_bounds-value_offsets-start
-offset_bounds-value_offsets-start c = let p = row_places _ (tiles_good _ _ _ c.requires) c.loop-row.row _ _ (omega arith) refl refl in
-    omega (arith, p.order, p.in_offsets)
-
 pub slice_bounds-row_sum-count-in-loop-row : goal.slice_bounds-row_sum-count-in-loop-row
 slice_bounds-row_sum-count-in-loop-row c = let p = row_places _ (tiles_good _ _ _ c.requires) c.loop-row.row _ _ (omega arith) refl refl in
     omega (arith, p.order, p.in_offsets)
@@ -55,10 +43,6 @@ slice_bounds-row_sum-start-in-loop-row c = let p = row_places _ (tiles_good _ _ 
 pub slice_bounds-row_sum-end-in-loop-row : goal.slice_bounds-row_sum-end-in-loop-row
 slice_bounds-row_sum-end-in-loop-row c = let p = row_places _ (tiles_good _ _ _ c.requires) c.loop-row.row _ _ (omega arith) refl refl in
     omega (arith, p.order, p.in_offsets)
-
-pub offset_bounds-metas-start : goal.offset_bounds-metas-start
-offset_bounds-metas-start c = let p = row_places _ (tiles_good _ _ _ c.requires) c.loop-row.row _ _ (omega arith) refl refl in
-    omega (arith, p.order, p.in_metas)
 
 pub slice_bounds-row_sum-count-in-loop-row-2 : goal.slice_bounds-row_sum-count-in-loop-row-2
 slice_bounds-row_sum-count-in-loop-row-2 c = let p = row_places _ (tiles_good _ _ _ c.requires) c.loop-row.row _ _ (omega arith) refl refl in
@@ -83,9 +67,6 @@ bounds-y-row c = rows-room _ _ _ c.requires _ refl _ _ c.loop-row.invariant (ome
 
 pub loop-row-preserved : goal.loop-row-preserved
 loop-row-preserved c = rows_more _ _ _ c.requires _ refl _ _ c.loop-row.invariant _ (omega arith) (row_number _ _ _ c.requires c.loop-row.row _ _ (omega arith) refl refl _ c.row_sum.ensures)
-
-pub shape_of-y : goal.shape_of-y
-shape_of-y c = rows_long _ _ _ c.requires _ refl _ _ c.loop-row.invariant
 
 pub returns : goal.returns
 returns c = rows_done _ _ _ c.requires _ refl _ _ c.loop-row.invariant (omega arith)

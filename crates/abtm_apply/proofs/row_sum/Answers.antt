@@ -1,6 +1,5 @@
 -- `abtm_apply::row_sum` meets its contract. Assumes nothing.
 use mathlib.Core.Path.{refl}
-use Prim.Native.Nat.{◌-◌}
 use native.Mathlib.Omega.{arith}
 use Rattle.abtm_apply.proofs.RowLaws.{tile_in, summing_none, summing_more, summing_done}
 use Rattle.abtm_apply.proofs.row_sum.Goals as goal

@@ -8,6 +8,3 @@ use Rattle.abtm_build.proofs.fill_rows.Given as goal
 
 abbrev pub invariant-loop-next : goal.invariant-loop-next
 invariant-loop-next l = (length l.sums ≡ length l.initial.sums) × (length l.words ≡ length l.initial.words) × (length l.blocks ≡ length l.initial.blocks) × (l.sums ≡ replicate (length l.sums) zero64) × Filling (as_csr l.nrows l.ncols l.row_ptr l.col_idx l.entries) l.config l.initial.row_tile_ptr l.initial.masks l.initial.value_offsets l.initial.metas l.initial.values l.next l.at l.row_tile_ptr l.masks l.value_offsets l.metas l.values
-
-abbrev pub decreases-loop-next : goal.decreases-loop-next
-decreases-loop-next l = l.nrows - l.next

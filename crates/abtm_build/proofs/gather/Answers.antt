@@ -1,10 +1,8 @@
 -- `abtm_build::gather` meets its contract. Assumes nothing.
-use mathlib.Core.Path.{refl, sym, ◌∙◌, ap}
+use mathlib.Core.Path.{refl, sym, ◌∙◌}
 use Prim.Native.Nat.{◌-◌}
 use native.Mathlib.Omega.{arith}
-use Rattle.hybit_core.proofs.BoolLaws.{flag_on, flag_off}
 use Rattle.abtm_build.proofs.WindowLaws.{sized_as, marked_zeros, gathered_none, gathered_as, gathered-at, gathered_in, gathered-past, gathered_before, gathered-zero, gathered_done, gathered_next}
-use mathlib.Core.Bool.{not}
 use Rattle.abtm_build.proofs.gather.Goals as goal
 
 pub loop-k-init : goal.loop-k-init
@@ -13,19 +11,19 @@ loop-k-init c = (refl, refl, refl, refl, omega arith, marked_zeros 64 _ _ _ c.re
 pub add_at-requires : goal.add_at-requires
 add_at-requires c = record { fact_1 = omega arith; fact_2 = sized_as _ _ _ _ _ _ c.loop-k.invariant.1 c.loop-k.invariant.2 c.loop-k.invariant.3 c.requires.fact_3; fact_3 = c.loop-k.invariant.5; fact_4 = c.loop-k.invariant.6 }
 
-pub loop-k-preserved-then-i-width : goal.loop-k-preserved-then-i-width
-loop-k-preserved-then-i-width c = let z = sym (flag_off _ _ c.is_zero.ensures (ap not c.if-not-is_zero.true)) in
+pub loop-k-preserved : goal.loop-k-preserved
+loop-k-preserved c = let z = sym c.is_zero.ensures ∙ c.if-is_zero.false in
     let g = gathered_in _ _ _ _ _ _ _ c.loop-k.invariant.7 _ _ (omega arith) c.requires.fact_1 refl refl z (omega arith) (omega arith) in
     (c.loop-k.invariant.0, c.add_at.auto.sums ∙ c.loop-k.invariant.1, c.add_at.auto.words ∙ c.loop-k.invariant.2, c.add_at.auto.blocks ∙ c.loop-k.invariant.3, c.loop-k.invariant.4, c.add_at.ensures.words, c.add_at.ensures.blocks, gathered_as _ _ _ _ _ _ _ _ c.add_at.ensures.sums g)
 
-pub loop-k-preserved-else-i-width : goal.loop-k-preserved-else-i-width
-loop-k-preserved-else-i-width c = (c.loop-k.invariant.0, c.loop-k.invariant.1, c.loop-k.invariant.2, c.loop-k.invariant.3, omega arith, c.loop-k.invariant.5, c.loop-k.invariant.6, gathered-at _ _ _ _ _ _ _ _ c.min-next.ensures (gathered-past _ _ _ _ _ _ _ c.loop-k.invariant.7 _ _ (omega arith) c.requires.fact_1 refl refl (omega arith) (omega arith)))
+pub loop-k-preserved-then-i-width : goal.loop-k-preserved-then-i-width
+loop-k-preserved-then-i-width c = (c.loop-k.invariant.0, c.loop-k.invariant.1, c.loop-k.invariant.2, c.loop-k.invariant.3, omega arith, c.loop-k.invariant.5, c.loop-k.invariant.6, gathered-at _ _ _ _ _ _ _ _ c.min-next.ensures (gathered-past _ _ _ _ _ _ _ c.loop-k.invariant.7 _ _ (omega arith) c.requires.fact_1 refl refl (omega arith) (omega arith)))
 
-pub loop-k-preserved-else-base-c : goal.loop-k-preserved-else-base-c
-loop-k-preserved-else-base-c c = (c.loop-k.invariant.0, c.loop-k.invariant.1, c.loop-k.invariant.2, c.loop-k.invariant.3, c.loop-k.invariant.4, c.loop-k.invariant.5, c.loop-k.invariant.6, gathered_before _ _ _ _ _ _ _ c.loop-k.invariant.7 _ _ (omega arith) c.requires.fact_1 refl refl (omega arith))
+pub loop-k-preserved-then-c-base : goal.loop-k-preserved-then-c-base
+loop-k-preserved-then-c-base c = (c.loop-k.invariant.0, c.loop-k.invariant.1, c.loop-k.invariant.2, c.loop-k.invariant.3, c.loop-k.invariant.4, c.loop-k.invariant.5, c.loop-k.invariant.6, gathered_before _ _ _ _ _ _ _ c.loop-k.invariant.7 _ _ (omega arith) c.requires.fact_1 refl refl (omega arith))
 
-pub loop-k-preserved : goal.loop-k-preserved
-loop-k-preserved c = let z = sym (flag_on _ _ c.is_zero.ensures (ap not c.if-not-is_zero.false)) in
+pub loop-k-preserved-then-is_zero : goal.loop-k-preserved-then-is_zero
+loop-k-preserved-then-is_zero c = let z = sym c.is_zero.ensures ∙ c.if-is_zero.true in
     (c.loop-k.invariant.0, c.loop-k.invariant.1, c.loop-k.invariant.2, c.loop-k.invariant.3, c.loop-k.invariant.4, c.loop-k.invariant.5, c.loop-k.invariant.6, gathered-zero _ _ _ _ _ _ _ c.loop-k.invariant.7 _ _ (omega arith) c.requires.fact_1 refl refl z)
 
 pub returns : goal.returns

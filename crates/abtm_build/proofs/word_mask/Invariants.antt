@@ -10,6 +10,3 @@ use Rattle.abtm_build.proofs.word_mask.Given as goal
 
 abbrev pub invariant-loop-i : goal.invariant-loop-i
 invariant-loop-i l = l.mask ≡ word_of (λ j. ltb j l.i && not (is_zero (get_or l.sums j nan)))
-
-abbrev pub decreases-loop-i : goal.decreases-loop-i
-decreases-loop-i l = 64 - l.i

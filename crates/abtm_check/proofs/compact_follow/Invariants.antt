@@ -1,9 +1,6 @@
-use Rattle.std.proofs.Common.{◌-◌, length}
+use Rattle.std.proofs.Common.{◌-◌}
 use Rattle.abtm_check.proofs.CompactLaws.{compact_kind, Scanning}
 use Rattle.abtm_check.proofs.compact_follow.Given as goal
 
 abbrev pub invariant-loop-i : goal.invariant-loop-i
 invariant-loop-i l = Scanning compact_kind l.masks l.value_offsets l.metas l.end l.holds l.i
-
-abbrev pub decreases-loop-i : goal.decreases-loop-i
-decreases-loop-i l = length l.masks - l.i

@@ -1,4 +1,4 @@
-use Rattle.std.proofs.Common.{◌≡◌, ◌-◌, ◌%◌, ◌^◌, length, take}
+use Rattle.std.proofs.Common.{◌≡◌, ◌-◌, ◌%◌, ◌^◌, take}
 use Rattle.topology.specs.Words.{set_bits}
 use Rattle.abtm_check.proofs.RunLaws.{kind_holds}
 use Rattle.abtm_check.proofs.CompactLaws.{Scanning}
@@ -6,6 +6,3 @@ use Rattle.abtm_check.proofs.mixed_follow.Given as goal
 
 abbrev pub invariant-loop-i : goal.invariant-loop-i
 invariant-loop-i l = Scanning kind_holds l.masks l.value_offsets l.metas l.end l.holds l.i × (l.bits ≡ set_bits (take (l.i - 1) l.masks) % 2 ^ 64)
-
-abbrev pub decreases-loop-i : goal.decreases-loop-i
-decreases-loop-i l = length l.masks - l.i

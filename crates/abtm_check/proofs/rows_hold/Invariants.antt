@@ -7,6 +7,3 @@ use Rattle.abtm_check.proofs.rows_hold.Given as goal
 
 abbrev pub invariant-loop-row : goal.invariant-loop-row
 invariant-loop-row l = row_rules (as_words l.nrows l.ncols l.row_tile_ptr (map word_in l.metas) l.masks 0) ≡ every (λ r. row_rule l.ncols (part l.row_tile_ptr (map word_in l.metas) r) (part l.row_tile_ptr l.masks r)) (from (λ r. true) l.row (l.nrows - l.row))
-
-abbrev pub decreases-loop-row : goal.decreases-loop-row
-decreases-loop-row l = l.nrows - l.row

@@ -5,8 +5,5 @@ use Rattle.abtm_values.specs.Values.{solid}
 use Rattle.abtm_check.proofs.RunLaws.{Tested}
 use Rattle.abtm_check.proofs.values_hold.Given as goal
 
-abbrev pub invariant-loop-next : goal.invariant-loop-next
-invariant-loop-next l = Tested l.masks l.value_offsets l.metas l.values l.next × (l.matrix_nnz ≡ set_bits l.masks) × (l.upto ≤ length l.values) × (length (only solid l.values) ≡ l.solid + length (only solid (drop l.upto l.values)))
-
-abbrev pub decreases-loop-next : goal.decreases-loop-next
-decreases-loop-next l = length l.masks - l.next
+abbrev pub invariant-loop-i : goal.invariant-loop-i
+invariant-loop-i l = Tested l.masks l.value_offsets l.metas l.values l.i × (l.matrix_nnz ≡ set_bits l.masks) × (l.upto ≤ length l.values) × (length (only solid l.values) ≡ l.solid + length (only solid (drop l.upto l.values)))

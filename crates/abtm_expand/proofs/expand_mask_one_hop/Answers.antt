@@ -1,16 +1,10 @@
 -- `abtm_expand::expand_mask_one_hop` meets its contract. Assumes nothing.
 use native.Mathlib.Omega.{arith}
 use lib.ListN.{length-take}
-use Rattle.hybit_core.proofs.AnswerLaws.{accepted_by, answer_refused, answer_accepted}
-use Rattle.lent.proofs.LentLaws.{built_refused, built_accepted}
+use Rattle.hybit_core.proofs.AnswerLaws.{accepted_by}
 use Rattle.abtm_expand.proofs.ExpandLaws.{expand_facts, expand_used}
-use Rattle.abtm_expand.proofs.CallLaws.{front_long, mask-built}
+use Rattle.abtm_expand.proofs.CallLaws.{front_long}
 use Rattle.abtm_expand.proofs.expand_mask_one_hop.Goals as goal
-
-pub returns-in-Err : goal.returns-in-Err
-returns-in-Err c = let e = c.examine_expand-v.ensures in
-    let r = c.in-Err.is in
-    record { answer = answer_refused _ _ _ e r; mask = built_refused _ _ _ _ _ _ _ e r c.clear_from.ensures }
 
 pub slice_bounds-fill_mask-end : goal.slice_bounds-fill_mask-end
 slice_bounds-fill_mask-end c = let e = c.examine_expand-v.ensures in
@@ -30,9 +24,3 @@ fill_mask-requires c = let e = c.examine_expand-v.ensures in
     let f = expand_facts _ _ _ _ (accepted_by _ _ e r) in
     let long = front_long c.args.mask_len c.args.mask.now c.args.out.now f.mask.counted f.room_in in
     record { fact_1 = expand_used _ _ _ _ _ (accepted_by _ _ e r) long; fact_2 = long }
-
-pub returns : goal.returns
-returns c = let e = c.examine_expand-v.ensures in
-    let r = c.in_default.is in
-    let f = expand_facts _ _ _ _ (accepted_by _ _ e r) in
-    record { answer = answer_accepted _ _ e r; mask = built_accepted _ _ _ _ _ _ e r (mask-built _ _ _ _ _ _ f.mask.counted c.fill_mask.ensures (omega (arith, f.room_in, f.mask.counted)) c.clear_from-2.ensures) }

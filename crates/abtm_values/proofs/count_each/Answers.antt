@@ -6,14 +6,14 @@ use Rattle.word.proofs.PassLaws.{passing_none, passing_more, passing_done}
 use borrow.Author.Rules.{rules}
 use Rattle.abtm_values.proofs.count_each.Goals as goal
 
-pub loop-i-init : goal.loop-i-init
-loop-i-init c = passing_none _ _
+pub loop-value-init : goal.loop-value-init
+loop-value-init c = passing_none _ _
 
 pub overflow_add-solid : goal.overflow_add-solid
-overflow_add-solid c = omega (arith, (passing_more _ _ _ _ c.loop-i.invariant nan _ (search rules) c.one_if_solid-solid.ensures).few)
+overflow_add-solid c = omega (arith, (passing_more _ _ _ _ c.loop-value.invariant nan _ (search rules) c.one_if_solid-solid.ensures).few)
 
-pub loop-i-preserved : goal.loop-i-preserved
-loop-i-preserved c = passing_more _ _ _ _ c.loop-i.invariant nan _ (search rules) c.one_if_solid-solid.ensures
+pub loop-value-preserved : goal.loop-value-preserved
+loop-value-preserved c = passing_more _ _ _ _ c.loop-value.invariant nan _ (search rules) c.one_if_solid-solid.ensures
 
 pub returns : goal.returns
-returns c = passing_done _ _ _ _ c.loop-i.invariant (search rules)
+returns c = passing_done _ _ _ _ c.loop-value.invariant (search rules)

@@ -4,11 +4,11 @@ use mathlib.Core.Path.{refl}
 use Rattle.csr32.proofs.ScanLaws.{passed_none, passed_more, passed_done}
 use Rattle.csr32.proofs.columns_below.Goals as goal
 
-pub loop-i-init : goal.loop-i-init
-loop-i-init c = passed_none _ _
+pub loop-col-init : goal.loop-col-init
+loop-col-init c = passed_none _ _
 
-pub loop-i-preserved : goal.loop-i-preserved
-loop-i-preserved c = passed_more _ _ _ _ c.loop-i.invariant 0 _ _ (search rules) refl c.both-good.ensures
+pub loop-col-preserved : goal.loop-col-preserved
+loop-col-preserved c = passed_more _ _ _ _ c.loop-col.invariant 0 _ _ (search rules) refl c.both-good.ensures
 
 pub returns : goal.returns
 returns c = search (passed_done, rules)

@@ -4,6 +4,3 @@ use Rattle.csr32_apply.proofs.add_entries.Given as goal
 
 abbrev pub invariant-loop-p : goal.invariant-loop-p
 invariant-loop-p l = (l.p ≤ l.to) × Adding l.col_idx l.values l.x l.from l.to l.start l.p l.sum
-
-abbrev pub decreases-loop-p : goal.decreases-loop-p
-decreases-loop-p l = l.to - l.p

@@ -7,6 +7,3 @@ use Rattle.csr32_apply.proofs.fill_product.Given as goal
 
 abbrev pub invariant-loop-row : goal.invariant-loop-row
 invariant-loop-row l = (l.nrows ≤ 2 ^ 20) × (l.third ≤ l.nrows) × (l.row ≤ l.third) × (length l.y ≡ l.nrows) × Thirds (λ r. row_product (entries (as_csr l.nrows l.ncols l.row_ptr l.col_idx l.values) r) l.x) l.third l.row l.y
-
-abbrev pub decreases-loop-row : goal.decreases-loop-row
-decreases-loop-row l = l.third - l.row

@@ -22,12 +22,6 @@ offset_bounds-words-w c = let l = filled_length _ _ _ _ c.loop-w.invariant.2 c.l
 pub bounds-words-w : goal.bounds-words-w
 bounds-words-w c = let l = filled_length _ _ _ _ c.loop-w.invariant.2 c.loop-w.invariant.0 in omega arith
 
-pub overflow_add-w : goal.overflow_add-w
-overflow_add-w c = omega arith
-
-pub loop-w-smaller : goal.loop-w-smaller
-loop-w-smaller c = omega arith
-
 pub loop-w-preserved : goal.loop-w-preserved
 loop-w-preserved c = (omega arith, c.loop-w.invariant.1, filled_more _ _ _ _ c.loop-w.invariant.2 _ (active_word _ _ _ c.trimmed.ensures) (omega arith))
 

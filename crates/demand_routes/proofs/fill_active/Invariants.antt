@@ -8,6 +8,3 @@ use Rattle.demand_routes.proofs.fill_active.Given as goal
 
 abbrev pub invariant-loop-w : goal.invariant-loop-w
 invariant-loop-w l = (l.w ≤ length l.initial.words) × (l.n ≡ length l.initial.words) × Filled (mask_of (λ c. true) l.ncols) l.initial.words l.w l.words
-
-abbrev pub decreases-loop-w : goal.decreases-loop-w
-decreases-loop-w l = l.n - l.w

@@ -1,24 +1,11 @@
 -- `dense_block_apply::partial_sum` meets its contract. Assumes nothing.
 use mathlib.Core.Path.{refl, ap, ◌∙◌}
-use Prim.Native.Nat.{ℕ, ◌-◌, ◌*◌}
-use native.Mathlib.Omega.{arith}
+use Prim.Native.Nat.{ℕ, ◌*◌}
 use Rattle.dense_block.specs.Blocks.{as_blocks}
 use Rattle.dense_block_apply.specs.Product.{block_sum}
-use Rattle.dense_block_apply.proofs.BlockLaws.{fits_under, fits_within, fits_forty, row_here, last_row, last_place}
+use Rattle.dense_block_apply.proofs.BlockLaws.{row_here, last_row, last_place}
 use Rattle.dense_block_apply.proofs.RowLaws.{sum-none, sum_more, sum_done}
 use Rattle.dense_block_apply.proofs.partial_sum.Goals as goal
-
-pub overflow_mul-local_row : goal.overflow_mul-local_row
-overflow_mul-local_row c = let k = last_row c.args.size _ c.args.nrows c.args.ncols c.args.row_ptr.now c.args.col_idx.now c.args.values.now c.args.x.now c.args.nrows c.args.row _ c.width-width.ensures c.full_blocks-last.ensures c.requires.fact_1 c.requires.fact_2.0 c.requires.fact_2.1 in
-    fits_within k.below c.ranges.row
-
-pub overflow_sub-local_row : goal.overflow_sub-local_row
-overflow_sub-local_row c = let k = last_row c.args.size _ c.args.nrows c.args.ncols c.args.row_ptr.now c.args.col_idx.now c.args.values.now c.args.x.now c.args.nrows c.args.row _ c.width-width.ensures c.full_blocks-last.ensures c.requires.fact_1 c.requires.fact_2.0 c.requires.fact_2.1 in
-    k.below
-
-pub overflow_add-last : goal.overflow_add-last
-overflow_add-last c = let k = last_row c.args.size _ c.args.nrows c.args.ncols c.args.row_ptr.now c.args.col_idx.now c.args.values.now c.args.x.now c.args.nrows c.args.row _ c.width-width.ensures c.full_blocks-last.ensures c.requires.fact_1 c.requires.fact_2.0 c.requires.fact_2.1 in
-    omega (arith, k.pointers.next)
 
 pub pointer-end-requires : goal.pointer-end-requires
 pointer-end-requires c = let k = last_row c.args.size _ c.args.nrows c.args.ncols c.args.row_ptr.now c.args.col_idx.now c.args.values.now c.args.x.now c.args.nrows c.args.row _ c.width-width.ensures c.full_blocks-last.ensures c.requires.fact_1 c.requires.fact_2.0 c.requires.fact_2.1 in
@@ -32,44 +19,15 @@ pub loop-p-init : goal.loop-p-init
 loop-p-init c = let k = last_row c.args.size _ c.args.nrows c.args.ncols c.args.row_ptr.now c.args.col_idx.now c.args.values.now c.args.x.now c.args.nrows c.args.row _ c.width-width.ensures c.full_blocks-last.ensures c.requires.fact_1 c.requires.fact_2.0 c.requires.fact_2.1 in
     sum-none _ _ _ _ _ _ k c.pointer-p.ensures c.pointer-end.ensures
 
-pub offset_bounds-col_idx-p : goal.offset_bounds-col_idx-p
-offset_bounds-col_idx-p c = omega (arith, c.loop-p.invariant.row.inside)
-
-pub bounds-col_idx-p : goal.bounds-col_idx-p
-bounds-col_idx-p c = row_here c.loop-p.invariant.row c.loop-p.p c.loop-p-test.true
-
-pub overflow_mul-col : goal.overflow_mul-col
-overflow_mul-col c = let q = last_place c.loop-p.invariant.of c.loop-p.p _ (row_here c.loop-p.invariant.row c.loop-p.p c.loop-p-test.true) refl in
-    fits_under q.column c.ranges.ncols
-
-pub overflow_mul-at : goal.overflow_mul-at
-overflow_mul-at c = let q = last_place c.loop-p.invariant.of c.loop-p.p _ (row_here c.loop-p.invariant.row c.loop-p.p c.loop-p-test.true) refl in
-    fits_forty q.square
-
-pub overflow_mul-at-in-loop-p : goal.overflow_mul-at-in-loop-p
-overflow_mul-at-in-loop-p c = let q = last_place c.loop-p.invariant.of c.loop-p.p _ (row_here c.loop-p.invariant.row c.loop-p.p c.loop-p-test.true) refl in
-    fits_forty q.first
-
-pub overflow_mul-at-in-loop-p-2 : goal.overflow_mul-at-in-loop-p-2
-overflow_mul-at-in-loop-p-2 c = let q = last_place c.loop-p.invariant.of c.loop-p.p _ (row_here c.loop-p.invariant.row c.loop-p.p c.loop-p-test.true) refl in
-    fits_forty q.row
-
-pub overflow_add-at : goal.overflow_add-at
-overflow_add-at c = let q = last_place c.loop-p.invariant.of c.loop-p.p _ (row_here c.loop-p.invariant.row c.loop-p.p c.loop-p-test.true) refl in
-    fits_forty q.start
-
 pub overflow_sub-ncols : goal.overflow_sub-ncols
 overflow_sub-ncols c = let q = last_place c.loop-p.invariant.of c.loop-p.p _ (row_here c.loop-p.invariant.row c.loop-p.p c.loop-p-test.true) refl in
     q.inside
 
-pub add_terms-block-requires : goal.add_terms-block-requires
-add_terms-block-requires c = let q = last_place c.loop-p.invariant.of c.loop-p.p _ (row_here c.loop-p.invariant.row c.loop-p.p c.loop-p-test.true) refl in let rest = q.terms _ c.min-count.ensures in record { fact_1 = rest.0; fact_2 = rest.1.0; fact_3 = rest.1.1 }
-
-pub overflow_add-p : goal.overflow_add-p
-overflow_add-p c = omega arith
+pub add_terms-sum-requires : goal.add_terms-sum-requires
+add_terms-sum-requires c = let q = last_place c.loop-p.invariant.of c.loop-p.p _ (row_here c.loop-p.invariant.row c.loop-p.p c.loop-p-test.true) refl in let rest = q.terms _ c.min-count.ensures in record { fact_1 = rest.0; fact_2 = rest.1.0; fact_3 = rest.1.1 }
 
 pub loop-p-preserved : goal.loop-p-preserved
-loop-p-preserved c = sum_more _ _ _ _ _ _ _ _ c.loop-p.invariant _ _ _ _ refl (ap (λ (k : ℕ). c.width-width.result * k) refl) c.min-count.ensures c.loop-p-test.true c.add_terms-block.ensures
+loop-p-preserved c = sum_more _ _ _ _ _ _ _ _ c.loop-p.invariant _ _ _ _ refl (ap (λ (k : ℕ). c.width-width.result * k) refl) c.min-count.ensures c.loop-p-test.true c.add_terms-sum.ensures
 
 pub returns : goal.returns
 returns c = sum_done _ _ _ _ _ _ _ _ c.loop-p.invariant c.loop-p-test.false

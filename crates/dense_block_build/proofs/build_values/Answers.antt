@@ -1,23 +1,14 @@
 -- `dense_block_build::build_values` meets its contract. Assumes nothing.
-use native.Mathlib.Omega.{arith}
 use Rattle.csr32.proofs.CsrLaws.{valid}
 use Rattle.levels.proofs.LevelLaws.{zeros_long}
-use Rattle.dense_block_build.proofs.FillLaws.{local_few, local_words, local_bits, local_starts}
-use borrow.Author.Rules.{rules}
+use Rattle.dense_block_build.proofs.FillLaws.{local_words, local_bits, local_starts}
 use Rattle.dense_block_build.proofs.build_values.Goals as goal
-
-pub overflow_add-nwords : goal.overflow_add-nwords
-overflow_add-nwords c = let h = local_few c.args.size _ _ (valid _ c.requires.fact_1).cols_in c.blocks_for.ensures in
-    search rules
 
 pub slice_bounds-bits-end : goal.slice_bounds-bits-end
 slice_bounds-bits-end c = local_words c.args.size _ _ (valid _ c.requires.fact_1).cols_in c.blocks_for.ensures
 
 pub slice_bounds-fill_values-end : goal.slice_bounds-fill_values-end
 slice_bounds-fill_values-end c = zeros_long _ 5462 (local_words c.args.size _ _ (valid _ c.requires.fact_1).cols_in c.blocks_for.ensures)
-
-pub slice_bounds-fill_values-end-2 : goal.slice_bounds-fill_values-end-2
-slice_bounds-fill_values-end-2 c = zeros_long 5462 5462 (omega arith)
 
 pub fill_values-requires : goal.fill_values-requires
 fill_values-requires c = let v = (valid _ c.requires.fact_1).cols_in in

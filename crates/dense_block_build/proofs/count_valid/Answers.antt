@@ -1,11 +1,9 @@
 -- `dense_block_build::count_valid` meets its contract. Assumes nothing.
 use mathlib.Core.Path.{refl}
-use Prim.Native.Nat.{◌-◌}
 use native.Mathlib.Omega.{arith}
 use Rattle.dense_block.proofs.WidthLaws.{width_six}
-use Rattle.dense_block_build.proofs.SizeLaws.{next_fits}
 use Rattle.dense_block_build.proofs.FillLaws.{in_bands, pointers_here, pointers_next, band_order, band-inside, part_is}
-use Rattle.dense_block_build.proofs.SlotLaws.{counting_none, counting_done, counting_first, counting_asks, counting_fits, counting_more}
+use Rattle.dense_block_build.proofs.SlotLaws.{counting_none, counting_done, counting_asks, counting_fits, counting_more}
 use borrow.Author.Rules.{rules}
 use Rattle.dense_block_build.proofs.count_valid.Goals as goal
 
@@ -19,31 +17,12 @@ offset_bounds-out_row_ptr-band c = let h = pointers_here _ c.args.size _ _ c.req
 pub bounds-out_row_ptr-band : goal.bounds-out_row_ptr-band
 bounds-out_row_ptr-band c = pointers_here _ c.args.size _ _ c.requires.fact_2.0 c.requires.fact_2.1 _ (in_bands c.args.size _ _ _ c.blocks_for-bands.ensures c.loop-band-test.true)
 
-pub overflow_add-band : goal.overflow_add-band
-overflow_add-band c = let h = pointers_next _ c.args.size _ _ c.requires.fact_2.0 c.requires.fact_2.1 _ (in_bands c.args.size _ _ _ c.blocks_for-bands.ensures c.loop-band-test.true) in
-    search rules
-
 pub offset_bounds-out_row_ptr-band-in-loop-band : goal.offset_bounds-out_row_ptr-band-in-loop-band
 offset_bounds-out_row_ptr-band-in-loop-band c = let h = pointers_next _ c.args.size _ _ c.requires.fact_2.0 c.requires.fact_2.1 _ (in_bands c.args.size _ _ _ c.blocks_for-bands.ensures c.loop-band-test.true) in
     search rules
 
 pub bounds-out_row_ptr-band-in-loop-band : goal.bounds-out_row_ptr-band-in-loop-band
 bounds-out_row_ptr-band-in-loop-band c = pointers_next _ c.args.size _ _ c.requires.fact_2.0 c.requires.fact_2.1 _ (in_bands c.args.size _ _ _ c.blocks_for-bands.ensures c.loop-band-test.true)
-
-pub overflow_mul-width : goal.overflow_mul-width
-overflow_mul-width c = let h = counting_first _ c.args.size c.requires.fact_1 _ _ c.loop-band.invariant (in_bands c.args.size _ _ _ c.blocks_for-bands.ensures c.loop-band-test.true) _ c.width-width.ensures in
-    search rules
-
-pub overflow_sub-nrows : goal.overflow_sub-nrows
-overflow_sub-nrows c = let h = counting_first _ c.args.size c.requires.fact_1 _ _ c.loop-band.invariant (in_bands c.args.size _ _ _ c.blocks_for-bands.ensures c.loop-band-test.true) _ c.width-width.ensures in
-    search rules
-
-pub offset_bounds-out_col_idx-start : goal.offset_bounds-out_col_idx-start
-offset_bounds-out_col_idx-start c = let g = c.well_formed.1.1.1.1.1.1.1.0 in
-    let h = in_bands c.args.size _ _ _ c.blocks_for-bands.ensures c.loop-band-test.true in
-    let o = band_order _ c.args.size _ _ c.requires.fact_2.0 c.requires.fact_2.1 _ h _ _ refl refl in
-    let l = band-inside _ c.args.size _ _ c.requires.fact_2.0 c.requires.fact_2.1 _ h _ _ refl refl in
-    search rules
 
 pub slice_bounds-row_slots-count : goal.slice_bounds-row_slots-count
 slice_bounds-row_slots-count c = let g = c.well_formed.1.1.1.1.1.1.1.0 in
@@ -73,12 +52,6 @@ row_slots-slots-requires c = let h = in_bands c.args.size _ _ _ c.blocks_for-ban
 pub overflow_add-slots : goal.overflow_add-slots
 overflow_add-slots c = let h = in_bands c.args.size _ _ _ c.blocks_for-bands.ensures c.loop-band-test.true in
     record { fits = counting_fits _ c.args.size c.requires.fact_1 _ _ c.loop-band.invariant h _ c.width-width.ensures _ (part_is _ c.args.size _ _ c.requires.fact_2.0 c.requires.fact_2.1 _ h _ _ refl refl) _ _ c.min-rows.ensures c.row_slots-slots.ensures }
-
-pub overflow_add-end : goal.overflow_add-end
-overflow_add-end c = next_fits _ _ (pointers_next _ c.args.size _ _ c.requires.fact_2.0 c.requires.fact_2.1 _ (in_bands c.args.size _ _ _ c.blocks_for-bands.ensures c.loop-band-test.true)) c.well_formed.1.1.1.1.1.1.0.0
-
-pub loop-band-smaller : goal.loop-band-smaller
-loop-band-smaller c = omega (arith, c.loop-band-test.true)
 
 pub loop-band-preserved : goal.loop-band-preserved
 loop-band-preserved c = let h = in_bands c.args.size _ _ _ c.blocks_for-bands.ensures c.loop-band-test.true in

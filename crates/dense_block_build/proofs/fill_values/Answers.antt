@@ -1,15 +1,9 @@
 -- `dense_block_build::fill_values` meets its contract. Assumes nothing.
 use mathlib.Core.Path.{refl}
-use Prim.Native.Nat.{◌-◌}
-use native.Mathlib.Omega.{arith}
-use Rattle.dense_block_build.proofs.SizeLaws.{square_is, square_small, next_fits}
-use Rattle.dense_block_build.proofs.FillLaws.{in_bands, pointers_here, pointers_next, band_order, band-inside, filling_none, filling_bits, filling_same, filling_done, filling_notes, filling_start, filling_end, filling_asks, filling_more}
+use Rattle.dense_block_build.proofs.SizeLaws.{square_is}
+use Rattle.dense_block_build.proofs.FillLaws.{in_bands, pointers_here, pointers_next, band_order, band-inside, filling_none, filling_same, filling_done, filling_notes, filling_start, filling_end, filling_asks, filling_more}
 use borrow.Author.Rules.{rules}
 use Rattle.dense_block_build.proofs.fill_values.Goals as goal
-
-pub overflow_mul-slots : goal.overflow_mul-slots
-overflow_mul-slots c = let h = square_small c.args.size _ c.width-width.ensures in
-    search rules
 
 pub loop-band-init : goal.loop-band-init
 loop-band-init c = filling_none _ c.args.size _ _ c.requires.fact_2.0 c.requires.fact_2.1 _ _ _ c.requires.fact_3 c.requires.fact_5
@@ -21,23 +15,12 @@ offset_bounds-out_row_ptr-band c = let h = pointers_here _ c.args.size _ _ c.req
 pub bounds-out_row_ptr-band : goal.bounds-out_row_ptr-band
 bounds-out_row_ptr-band c = pointers_here _ c.args.size _ _ c.requires.fact_2.0 c.requires.fact_2.1 _ (in_bands c.args.size _ _ _ c.blocks_for-bands.ensures c.loop-band-test.true)
 
-pub overflow_add-band : goal.overflow_add-band
-overflow_add-band c = let h = pointers_next _ c.args.size _ _ c.requires.fact_2.0 c.requires.fact_2.1 _ (in_bands c.args.size _ _ _ c.blocks_for-bands.ensures c.loop-band-test.true) in
-    search rules
-
 pub offset_bounds-out_row_ptr-band-in-loop-band : goal.offset_bounds-out_row_ptr-band-in-loop-band
 offset_bounds-out_row_ptr-band-in-loop-band c = let h = pointers_next _ c.args.size _ _ c.requires.fact_2.0 c.requires.fact_2.1 _ (in_bands c.args.size _ _ _ c.blocks_for-bands.ensures c.loop-band-test.true) in
     search rules
 
 pub bounds-out_row_ptr-band-in-loop-band : goal.bounds-out_row_ptr-band-in-loop-band
 bounds-out_row_ptr-band-in-loop-band c = pointers_next _ c.args.size _ _ c.requires.fact_2.0 c.requires.fact_2.1 _ (in_bands c.args.size _ _ _ c.blocks_for-bands.ensures c.loop-band-test.true)
-
-pub offset_bounds-out_col_idx-start : goal.offset_bounds-out_col_idx-start
-offset_bounds-out_col_idx-start c = let g = c.well_formed.1.1.1.1.1.1.1.0 in
-    let h = in_bands c.args.size _ _ _ c.blocks_for-bands.ensures c.loop-band-test.true in
-    let o = band_order _ c.args.size _ _ c.requires.fact_2.0 c.requires.fact_2.1 _ h _ _ refl refl in
-    let l = band-inside _ c.args.size _ _ c.requires.fact_2.0 c.requires.fact_2.1 _ h _ _ refl refl in
-    search rules
 
 pub slice_bounds-note_columns-count : goal.slice_bounds-note_columns-count
 slice_bounds-note_columns-count c = let g = c.well_formed.1.1.1.1.1.1.1.0 in
@@ -62,33 +45,6 @@ slice_bounds-note_columns-end c = let g = c.well_formed.1.1.1.1.1.1.1.0 in
 
 pub note_columns-requires : goal.note_columns-requires
 note_columns-requires c = let h = in_bands c.args.size _ _ _ c.blocks_for-bands.ensures c.loop-band-test.true in let rest = filling_notes _ c.args.size _ _ c.requires.fact_2.0 c.requires.fact_2.1 _ _ _ _ _ c.loop-band.invariant h _ _ refl refl c.requires.fact_1 _ c.blocks_for-n.ensures c.requires.fact_4 in record { fact_1 = rest.0; fact_2 = rest.1.0; fact_3 = rest.1.1.0; fact_4 = rest.1.1.1 }
-
-pub overflow_mul-start : goal.overflow_mul-start
-overflow_mul-start c = let h = in_bands c.args.size _ _ _ c.blocks_for-bands.ensures c.loop-band-test.true in
-    let e = square_is c.args.size _ c.width-width.ensures in
-    let o = filling_start _ c.args.size _ _ c.requires.fact_2.0 c.requires.fact_2.1 _ _ _ _ _ c.loop-band.invariant h _ _ refl refl _ e in
-    let l = filling_end _ c.args.size _ _ c.requires.fact_2.0 c.requires.fact_2.1 _ _ _ _ _ c.loop-band.invariant h _ _ refl refl _ e in
-    let q = filling_same _ c.args.size _ _ c.requires.fact_2.0 c.requires.fact_2.1 _ _ _ _ _ c.loop-band.invariant _ c.requires.fact_5 in
-    let g = c.well_formed.1.1.1.1.1.1.1.1.1.1.0 in
-    search rules
-
-pub overflow_mul-end : goal.overflow_mul-end
-overflow_mul-end c = let h = in_bands c.args.size _ _ _ c.blocks_for-bands.ensures c.loop-band-test.true in
-    let e = square_is c.args.size _ c.width-width.ensures in
-    let o = filling_start _ c.args.size _ _ c.requires.fact_2.0 c.requires.fact_2.1 _ _ _ _ _ c.loop-band.invariant h _ _ refl refl _ e in
-    let l = filling_end _ c.args.size _ _ c.requires.fact_2.0 c.requires.fact_2.1 _ _ _ _ _ c.loop-band.invariant h _ _ refl refl _ e in
-    let q = filling_same _ c.args.size _ _ c.requires.fact_2.0 c.requires.fact_2.1 _ _ _ _ _ c.loop-band.invariant _ c.requires.fact_5 in
-    let g = c.well_formed.1.1.1.1.1.1.1.1.1.1.0 in
-    search rules
-
-pub offset_bounds-out_values-start : goal.offset_bounds-out_values-start
-offset_bounds-out_values-start c = let h = in_bands c.args.size _ _ _ c.blocks_for-bands.ensures c.loop-band-test.true in
-    let e = square_is c.args.size _ c.width-width.ensures in
-    let o = filling_start _ c.args.size _ _ c.requires.fact_2.0 c.requires.fact_2.1 _ _ _ _ _ c.loop-band.invariant h _ _ refl refl _ e in
-    let l = filling_end _ c.args.size _ _ c.requires.fact_2.0 c.requires.fact_2.1 _ _ _ _ _ c.loop-band.invariant h _ _ refl refl _ e in
-    let q = filling_same _ c.args.size _ _ c.requires.fact_2.0 c.requires.fact_2.1 _ _ _ _ _ c.loop-band.invariant _ c.requires.fact_5 in
-    let g = c.well_formed.1.1.1.1.1.1.1.1.1.1.0 in
-    search rules
 
 pub slice_bounds-add_band-count : goal.slice_bounds-add_band-count
 slice_bounds-add_band-count c = let h = in_bands c.args.size _ _ _ c.blocks_for-bands.ensures c.loop-band-test.true in
@@ -121,13 +77,6 @@ pub add_band-requires : goal.add_band-requires
 add_band-requires c = let h = in_bands c.args.size _ _ _ c.blocks_for-bands.ensures c.loop-band-test.true in
     let e = square_is c.args.size _ c.width-width.ensures in let rest = filling_asks _ c.args.size _ _ c.requires.fact_2.0 c.requires.fact_2.1 _ _ _ _ _ c.loop-band.invariant h _ _ refl refl _ e c.requires.fact_1 _ _ _ c.blocks_for-n.ensures c.note_columns.ensures.bits c.note_columns.ensures.ranks in record { fact_1 = rest.0; fact_2 = rest.1.0; fact_3 = rest.1.1.0; fact_4 = rest.1.1.1.0; fact_5 = rest.1.1.1.1 }
 
-pub offset_bounds-out_col_idx-start-in-loop-band : goal.offset_bounds-out_col_idx-start-in-loop-band
-offset_bounds-out_col_idx-start-in-loop-band c = let g = c.well_formed.1.1.1.1.1.1.1.0 in
-    let h = in_bands c.args.size _ _ _ c.blocks_for-bands.ensures c.loop-band-test.true in
-    let o = band_order _ c.args.size _ _ c.requires.fact_2.0 c.requires.fact_2.1 _ h _ _ refl refl in
-    let l = band-inside _ c.args.size _ _ c.requires.fact_2.0 c.requires.fact_2.1 _ h _ _ refl refl in
-    search rules
-
 pub slice_bounds-forget-count : goal.slice_bounds-forget-count
 slice_bounds-forget-count c = let g = c.well_formed.1.1.1.1.1.1.1.0 in
     let h = in_bands c.args.size _ _ _ c.blocks_for-bands.ensures c.loop-band-test.true in
@@ -149,25 +98,10 @@ slice_bounds-forget-end c = let g = c.well_formed.1.1.1.1.1.1.1.0 in
     let l = band-inside _ c.args.size _ _ c.requires.fact_2.0 c.requires.fact_2.1 _ h _ _ refl refl in
     search rules
 
-pub overflow_add-end : goal.overflow_add-end
-overflow_add-end c = next_fits _ _ (pointers_next _ c.args.size _ _ c.requires.fact_2.0 c.requires.fact_2.1 _ (in_bands c.args.size _ _ _ c.blocks_for-bands.ensures c.loop-band-test.true)) c.well_formed.1.1.1.1.1.1.0.0
-
-pub loop-band-smaller : goal.loop-band-smaller
-loop-band-smaller c = omega (arith, c.loop-band-test.true)
-
 pub loop-band-preserved : goal.loop-band-preserved
 loop-band-preserved c = let h = in_bands c.args.size _ _ _ c.blocks_for-bands.ensures c.loop-band-test.true in
     let e = square_is c.args.size _ c.width-width.ensures in
     filling_more _ c.args.size _ _ c.requires.fact_2.0 c.requires.fact_2.1 _ _ _ _ _ c.loop-band.invariant h _ _ refl refl _ e _ _ _ _ _ c.blocks_for-n.ensures c.note_columns.ensures.bits c.forget.ensures c.note_columns.auto.starts c.add_band.ensures
-
-pub shape_of-bits : goal.shape_of-bits
-shape_of-bits c = filling_bits _ c.args.size _ _ c.requires.fact_2.0 c.requires.fact_2.1 _ _ _ _ _ c.loop-band.invariant _ c.requires.fact_3
-
-pub shape_of-starts : goal.shape_of-starts
-shape_of-starts c = c.loop-band.invariant.same
-
-pub shape_of-out_values : goal.shape_of-out_values
-shape_of-out_values c = filling_same _ c.args.size _ _ c.requires.fact_2.0 c.requires.fact_2.1 _ _ _ _ _ c.loop-band.invariant _ c.requires.fact_5
 
 pub returns : goal.returns
 returns c = filling_done _ c.args.size _ _ c.requires.fact_2.0 c.requires.fact_2.1 _ _ _ _ _ c.loop-band.invariant _ c.blocks_for-bands.ensures c.loop-band-test.false

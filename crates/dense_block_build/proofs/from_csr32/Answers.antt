@@ -1,22 +1,6 @@
 -- `dense_block_build::from_csr32` meets its contract. Assumes nothing.
-use mathlib.Core.Path.{◌∙◌}
-use Rattle.dense_block_build.proofs.SizeLaws.{square_pos, square_small}
 use Rattle.dense_block_build.proofs.BuildLaws.{padded-at, columns_refused, values_short, fill_asks, blocks_built}
-use borrow.Author.Rules.{rules}
 use Rattle.dense_block_build.proofs.from_csr32.Goals as goal
-
-pub overflow_mul-width : goal.overflow_mul-width
-overflow_mul-width c = let h = square_small c.args.size _ c.width-width.ensures in
-    search rules
-
-pub nonzero_div-out_values : goal.nonzero_div-out_values
-nonzero_div-out_values c = square_pos c.args.size _ c.width-width.ensures
-
-pub shape_of-out_row_ptr-then-out_values-width : goal.shape_of-out_row_ptr-then-out_values-width
-shape_of-out_row_ptr-then-out_values-width c = c.clear_all.auto.row_ptr ∙ c.from_csr32-found.auto.out_row_ptr
-
-pub shape_of-out_col_idx-then-out_values-width : goal.shape_of-out_col_idx-then-out_values-width
-shape_of-out_col_idx-then-out_values-width c = c.clear_all.auto.col_idx ∙ c.from_csr32-found.auto.out_col_idx
 
 pub returns-then-out_values-width : goal.returns-then-out_values-width
 returns-then-out_values-width c = let rest = values_short _ c.args.size _ _ _ _ c.from_csr32-found.ensures.answer _ c.in-Ok.is _ c.width-width.ensures _ _ _ c.if-out_values-width.true (padded-at _ _ _ _ _ c.from_csr32-found.auto.out_row_ptr c.clear_all.ensures.pointers) (padded-at _ _ _ _ _ c.from_csr32-found.auto.out_col_idx c.clear_all.ensures.columns) c.clear_all.ensures.values in record { answer = rest.0; pointers = rest.1.0; columns = rest.1.1.0; values = rest.1.1.1 }

@@ -1,9 +1,5 @@
-use Prim.Native.Nat.{◌-◌, ◌≤◌}
 use Rattle.dense_block_build.proofs.FlatLaws.{LineIn}
 use Rattle.dense_block_build.proofs.load_line.Given as goal
 
 abbrev pub invariant-loop-j : goal.invariant-loop-j
-invariant-loop-j l = (LineIn l.values l.line l.j) × (l.j ≤ l.width)
-
-abbrev pub decreases-loop-j : goal.decreases-loop-j
-decreases-loop-j l = l.width - l.j
+invariant-loop-j l = LineIn l.values l.line l.j

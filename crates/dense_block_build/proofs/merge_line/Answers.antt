@@ -1,27 +1,12 @@
 -- `dense_block_build::merge_line` meets its contract. Assumes nothing.
 use Rattle.dense_block.proofs.WidthLaws.{width_six}
-use Rattle.dense_block_build.proofs.SizeLaws.{width_pos, place_small}
-use Prim.Native.Nat.{◌-◌}
+use Rattle.dense_block_build.proofs.SizeLaws.{width_pos}
 use Rattle.dense_block_build.proofs.MergeLaws.{merging_none, merging_more, merging_done}
 use borrow.Author.Rules.{rules}
 use Rattle.dense_block_build.proofs.merge_line.Goals as goal
 
 pub loop-k-init : goal.loop-k-init
 loop-k-init c = merging_none _ _ _ _ c.well_formed.1.0.1.0.1
-
-pub offset_bounds-merged-j : goal.offset_bounds-merged-j
-offset_bounds-merged-j c = let h = place_small c.args.size _ _ c.place_of-j.ensures in
-    search rules
-
-pub bounds-merged-j : goal.bounds-merged-j
-bounds-merged-j c = place_small c.args.size _ _ c.place_of-j.ensures
-
-pub offset_bounds-merged-j-in-loop-k : goal.offset_bounds-merged-j-in-loop-k
-offset_bounds-merged-j-in-loop-k c = let h = place_small c.args.size _ _ c.place_of-j.ensures in
-    search rules
-
-pub bounds-merged-j-in-loop-k : goal.bounds-merged-j-in-loop-k
-bounds-merged-j-in-loop-k c = place_small c.args.size _ _ c.place_of-j.ensures
 
 pub loop-k-preserved : goal.loop-k-preserved
 loop-k-preserved c = merging_more _ _ _ _ _ _ c.loop-k.invariant c.requires _ (search rules) (width_six c.args.size) (width_pos c.args.size) c.place_of-j.ensures

@@ -1,6 +1,6 @@
 -- `dense_block_check::count_fast` meets its contract. Assumes nothing.
 use mathlib.Core.Path.{refl, sym}
-use Rattle.dense_block_check.proofs.FastLaws.{width_small, fast_front, fast_end_lem}
+use Rattle.dense_block_check.proofs.FastLaws.{fast_front, fast_end_lem}
 use lib.Seq.{length-take-le}
 use native.Mathlib.Omega.{arith}
 use Rattle.dense_block_check.proofs.count_fast.Goals as goal
@@ -14,9 +14,6 @@ bounds-row_ptr-full_blocks c = omega (arith, fast_end_lem c.args.size c.args.nro
 pub slice_bounds-count_full-end : goal.slice_bounds-count_full-end
 slice_bounds-count_full-end c = let e = fast_end_lem c.args.size c.args.nrows _ c.args.row_ptr.now c.args.col_idx.now c.requires c.full_blocks.ensures in
     sym (length-take-le _ _ (omega (arith, e.inside)))
-
-pub count_full-requires : goal.count_full-requires
-count_full-requires c = width_small c.args.size _ c.width-width.ensures
 
 pub returns : goal.returns
 returns c = fast_front c.args.size _ _ _ _ _ _ c.args.row_ptr.now c.args.col_idx.now c.args.values.now c.requires c.width-width.ensures c.full_blocks.ensures refl c.count_full.ensures

@@ -1,10 +1,5 @@
-use Prim.Native.Nat.{◌-◌}
-use lib.ListN.{length}
 use Rattle.dense_block_check.proofs.ClimbLaws.{Keeping}
 use Rattle.dense_block_check.proofs.row_holds.Given as goal
 
-abbrev pub invariant-loop-i : goal.invariant-loop-i
-invariant-loop-i l = Keeping l.limit l.cols l.holds l.before l.i
-
-abbrev pub decreases-loop-i : goal.decreases-loop-i
-decreases-loop-i l = length l.cols - l.i
+abbrev pub invariant-loop-col : goal.invariant-loop-col
+invariant-loop-col l = Keeping l.limit l.cols l.col-items l.holds l.before l.col-index

@@ -1,43 +1,14 @@
 -- `dense_block_check::rows_hold` meets its contract. Assumes nothing.
 use mathlib.Core.Path.{refl, ap}
-use Prim.Native.Nat.{◌-◌}
-use native.Mathlib.Omega.{arith}
 use borrow.Author.Rules.{rules}
 use Rattle.dense_block.specs.Blocks.{as_blocks, width_of}
-use Rattle.dense_block_check.proofs.ClimbLaws.{rows_none, rows_more, rows_fail, rows_done, rows_told, row_here}
+use Rattle.dense_block_check.proofs.ClimbLaws.{rows_none, rows_more, rows_fail, rows_done, rows_told}
 use Rattle.dense_block_check.proofs.RuleLaws.{limit_told}
 use mathlib.Core.Bool.{not}
 use Rattle.dense_block_check.proofs.rows_hold.Goals as goal
 
 pub loop-row-init : goal.loop-row-init
 loop-row-init c = rows_none _ _ _ _ _ c.requires.fact_1 c.blocks_for-rows.ensures
-
-pub offset_bounds-row_ptr-row : goal.offset_bounds-row_ptr-row
-offset_bounds-row_ptr-row c = omega (arith, row_here _ _ _ _ _ c.loop-row.invariant (search rules))
-
-pub bounds-row_ptr-row : goal.bounds-row_ptr-row
-bounds-row_ptr-row c = omega (arith, row_here _ _ _ _ _ c.loop-row.invariant (search rules))
-
-pub overflow_add-row : goal.overflow_add-row
-overflow_add-row c = omega (arith, row_here _ _ _ _ _ c.loop-row.invariant (search rules))
-
-pub offset_bounds-row_ptr-row-in-loop-row : goal.offset_bounds-row_ptr-row-in-loop-row
-offset_bounds-row_ptr-row-in-loop-row c = omega (arith, row_here _ _ _ _ _ c.loop-row.invariant (search rules))
-
-pub bounds-row_ptr-row-in-loop-row : goal.bounds-row_ptr-row-in-loop-row
-bounds-row_ptr-row-in-loop-row c = omega (arith, row_here _ _ _ _ _ c.loop-row.invariant (search rules))
-
-pub offset_bounds-col_idx-start : goal.offset_bounds-col_idx-start
-offset_bounds-col_idx-start c = omega (arith, row_here _ _ _ _ _ c.loop-row.invariant (search rules))
-
-pub slice_bounds-row_holds-count : goal.slice_bounds-row_holds-count
-slice_bounds-row_holds-count c = omega (arith, row_here _ _ _ _ _ c.loop-row.invariant (search rules))
-
-pub slice_bounds-row_holds-start : goal.slice_bounds-row_holds-start
-slice_bounds-row_holds-start c = omega (arith, row_here _ _ _ _ _ c.loop-row.invariant (search rules))
-
-pub slice_bounds-row_holds-end : goal.slice_bounds-row_holds-end
-slice_bounds-row_holds-end c = omega (arith, row_here _ _ _ _ _ c.loop-row.invariant (search rules))
 
 pub returns-then-not-row_holds : goal.returns-then-not-row_holds
 returns-then-not-row_holds c = rows_told (as_blocks c.args.nrows c.args.ncols (width_of c.args.size) c.args.row_ptr.now c.args.col_idx.now c.args.values.now) _ _ _ _ c.blocks_for-rows.ensures (limit_told c.args.size _ _ _ c.requires.fact_2 c.blocks_for.ensures c.narrow-limit.ensures) c.loop-row.invariant

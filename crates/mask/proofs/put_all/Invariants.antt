@@ -6,6 +6,3 @@ use Rattle.mask.proofs.put_all.Given as goal
 
 abbrev pub invariant-loop-k : goal.invariant-loop-k
 invariant-loop-k l = (l.n ≡ length l.words) × Listing l.words l.initial.out l.k l.at l.out
-
-abbrev pub decreases-loop-k : goal.decreases-loop-k
-decreases-loop-k l = l.n - l.k

@@ -6,6 +6,3 @@ use Rattle.mask_sets.proofs.combine_words.Given as goal
 
 abbrev pub invariant-loop-k : goal.invariant-loop-k
 invariant-loop-k l = (l.count ≡ length l.initial.words) × Combining l.operation l.initial.words l.other l.k l.words
-
-abbrev pub decreases-loop-k : goal.decreases-loop-k
-decreases-loop-k l = l.count - l.k

@@ -1,10 +1,6 @@
 use Prim.Native.Nat.{◌-◌}
-use lib.ListN.{length}
 use Rattle.mask_sets.proofs.PairLaws.{Apart}
 use Rattle.mask_sets.proofs.words_meet.Given as goal
 
 abbrev pub invariant-loop-k : goal.invariant-loop-k
 invariant-loop-k l = Apart l.words l.other l.k
-
-abbrev pub decreases-loop-k : goal.decreases-loop-k
-decreases-loop-k l = length l.words - l.k

@@ -11,6 +11,3 @@ use Rattle.metadata_first.proofs.counts_hold.Given as goal
 
 abbrev pub invariant-loop-row : goal.invariant-loop-row
 invariant-loop-row l = value_rules (as_store l.nrows l.ncols l.row_word_ptr l.word_indices l.masks (set_bits l.masks) l.row_value_ptr l.values) ≡ every (λ r. eqb (length (part l.row_value_ptr l.values r)) (count (member (as_words l.nrows l.ncols l.row_word_ptr l.word_indices l.masks (set_bits l.masks)) r) l.ncols)) (from (λ r. true) l.row (l.nrows - l.row))
-
-abbrev pub decreases-loop-row : goal.decreases-loop-row
-decreases-loop-row l = l.nrows - l.row

@@ -132,9 +132,6 @@ slice_bounds-pack_row-end-in-loop-next-4 c = let h = packing_part _ _ _ _ c.requ
 pub pack_row-requires : goal.pack_row-requires
 pack_row-requires c = let rest = packing_row _ _ _ _ c.requires.fact_1 _ _ _ _ _ _ _ _ c.loop-next.invariant c.loop-next-test.true _ _ refl refl _ c.count_bits.ensures _ _ refl refl c.requires.fact_2.0 c.requires.fact_2.1 in record { fact_1 = rest.0; fact_2 = rest.1.0; fact_3 = rest.1.1.0; fact_4 = rest.1.1.1.0; fact_5 = rest.1.1.1.1 }
 
-pub loop-next-smaller : goal.loop-next-smaller
-loop-next-smaller c = omega (arith, c.loop-next-test.true)
-
 pub loop-next-preserved : goal.loop-next-preserved
 loop-next-preserved c = packing_more _ _ _ _ c.requires.fact_1 _ _ _ _ _ _ _ _ c.loop-next.invariant c.loop-next-test.true _ _ refl refl _ c.count_bits.ensures _ _ refl refl _ _ _ _ c.narrow.ensures c.pack_row.auto.bits c.pack_row.auto.starts c.pack_row.ensures
 

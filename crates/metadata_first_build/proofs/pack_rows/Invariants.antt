@@ -5,6 +5,3 @@ use Rattle.metadata_first_build.proofs.pack_rows.Given as goal
 
 abbrev pub invariant-loop-next : goal.invariant-loop-next
 invariant-loop-next l = Packing (as_csr l.nrows l.ncols l.row_ptr l.col_idx l.values) l.initial.bits l.initial.starts l.next l.at l.bits l.starts l.row_value_ptr l.packed
-
-abbrev pub decreases-loop-next : goal.decreases-loop-next
-decreases-loop-next l = l.nrows - l.next

@@ -1,11 +1,7 @@
 use Prim.Native.Nat.{◌-◌}
-use lib.ListN.{length}
 use Rattle.topology.specs.Words.{row_member}
 use Rattle.metadata_first_build.proofs.PlaceLaws.{Placing}
 use Rattle.metadata_first_build.proofs.place_words.Given as goal
 
 abbrev pub invariant-loop-i : goal.invariant-loop-i
 invariant-loop-i l = Placing (row_member l.words l.masks) l.ncols l.initial.bits l.initial.starts l.i l.place l.bits l.starts
-
-abbrev pub decreases-loop-i : goal.decreases-loop-i
-decreases-loop-i l = length l.words - l.i

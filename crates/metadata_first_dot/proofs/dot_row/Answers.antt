@@ -27,8 +27,8 @@ overflow_mul-index c = let h = walked_base _ _ _ _ _ _ _ _ _ _ _ c.loop-i.invari
 pub sum_word-sum-requires : goal.sum_word-sum-requires
 sum_word-sum-requires c = record { fact_1 = (walked_place _ _ _ _ _ _ _ _ _ _ _ c.loop-i.invariant c.loop-i-test.true _ refl _ c.intersection-bits.ensures, walked_base _ _ _ _ _ _ _ _ _ _ _ c.loop-i.invariant c.loop-i-test.true _ refl _ c.intersection-bits.ensures); fact_2 = walked_inside _ _ _ _ _ _ _ _ _ _ _ c.loop-i.invariant c.loop-i-test.true _ refl _ c.intersection-bits.ensures }
 
-pub overflow_add-candidate-else-bits-eq0 : goal.overflow_add-candidate-else-bits-eq0
-overflow_add-candidate-else-bits-eq0 c = let h = walked_candidate _ _ _ _ _ _ _ _ _ _ _ c.loop-i.invariant c.loop-i-test.true _ refl _ c.intersection-bits.ensures _ c.popcount-candidate-else-bits-eq0.ensures in omega (arith, h)
+pub overflow_add-candidate-in-loop-i : goal.overflow_add-candidate-in-loop-i
+overflow_add-candidate-in-loop-i c = let h = walked_candidate _ _ _ _ _ _ _ _ _ _ _ c.loop-i.invariant c.loop-i-test.true _ refl _ c.intersection-bits.ensures _ c.popcount-candidate-in-loop-i.ensures in omega (arith, h)
 
 pub overflow_add-executed : goal.overflow_add-executed
 overflow_add-executed c = let h = walked_executed _ _ _ _ _ _ _ _ _ _ _ c.loop-i.invariant c.loop-i-test.true _ refl _ c.intersection-bits.ensures _ c.popcount-executed.ensures in omega (arith, h)
@@ -37,7 +37,7 @@ pub overflow_add-active_words : goal.overflow_add-active_words
 overflow_add-active_words c = let h = walked_words _ _ _ _ _ _ _ _ _ _ _ c.loop-i.invariant c.loop-i-test.true _ refl _ c.intersection-bits.ensures _ (one_word _ c.if-bits-eq0.false) in omega (arith, h)
 
 pub loop-i-preserved : goal.loop-i-preserved
-loop-i-preserved c = walked_more _ _ _ _ _ _ _ _ _ _ _ c.loop-i.invariant c.loop-i-test.true _ refl _ c.intersection-bits.ensures _ _ _ _ c.sum_word-sum.ensures c.popcount-candidate-else-bits-eq0.ensures c.popcount-executed.ensures (one_word _ c.if-bits-eq0.false)
+loop-i-preserved c = walked_more _ _ _ _ _ _ _ _ _ _ _ c.loop-i.invariant c.loop-i-test.true _ refl _ c.intersection-bits.ensures _ _ _ _ c.sum_word-sum.ensures c.popcount-candidate-in-loop-i.ensures c.popcount-executed.ensures (one_word _ c.if-bits-eq0.false)
 
 pub overflow_sub-result : goal.overflow_sub-result
 overflow_sub-result c = let h = walked_le _ _ _ _ _ _ _ _ _ _ _ c.loop-i.invariant (omega arith) in omega (arith, h)

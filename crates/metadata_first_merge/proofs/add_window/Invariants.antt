@@ -6,6 +6,3 @@ use Rattle.metadata_first_merge.proofs.add_window.Given as goal
 
 abbrev pub invariant-loop-k : goal.invariant-loop-k
 invariant-loop-k l = (l.width ≡ length l.initial.sums) × (length l.sums ≡ length l.initial.sums) × Summed l.cols l.vals l.base (length l.initial.sums) l.k l.sums
-
-abbrev pub decreases-loop-k : goal.decreases-loop-k
-decreases-loop-k l = length l.cols - l.k

@@ -8,6 +8,3 @@ use Rattle.metadata_first_merge.proofs.rows_hold.Given as goal
 
 abbrev pub invariant-loop-row : goal.invariant-loop-row
 invariant-loop-row l = (l.row ≤ l.nrows) × (length l.sums ≡ length l.initial.sums) × (l.sums ≡ replicate (length l.initial.sums) zero64) × RowsFinite (as_csr l.nrows l.ncols l.row_ptr l.col_idx l.values) l.row
-
-abbrev pub decreases-loop-row : goal.decreases-loop-row
-decreases-loop-row l = l.nrows - l.row

@@ -6,16 +6,16 @@ use mathlib.Core.Bool.{not}
 use Rattle.metadata_first_merge.proofs.sums_hold.Goals as goal
 
 pub returns-then-not-is_finite : goal.returns-then-not-is_finite
-returns-then-not-is_finite c = sums_fails _ _ _ c.loop-k.k c.loop-k.invariant _ (omega arith) refl (omega arith) (omega arith) c.is_finite.result c.is_finite.ensures (ap not c.if-not-is_finite.true)
+returns-then-not-is_finite c = sums_fails _ _ _ c.loop-col.col-index c.loop-col.invariant _ (omega arith) refl (omega arith) (omega arith) c.is_finite.result c.is_finite.ensures (ap not c.if-not-is_finite.true)
 
-pub loop-k-preserved-else-not-is_finite : goal.loop-k-preserved-else-not-is_finite
-loop-k-preserved-else-not-is_finite c = sums_more _ _ _ c.loop-k.k c.loop-k.invariant _ (omega arith) refl (omega arith) (omega arith) c.is_finite.result c.is_finite.ensures (ap not c.if-not-is_finite.false)
+pub loop-col-preserved : goal.loop-col-preserved
+loop-col-preserved c = sums_more _ _ _ c.loop-col.col-index c.loop-col.invariant _ (omega arith) refl (omega arith) (omega arith) c.is_finite.result c.is_finite.ensures (ap not c.if-not-is_finite.false)
 
-pub loop-k-preserved-else-i-sums : goal.loop-k-preserved-else-i-sums
-loop-k-preserved-else-i-sums c = sums_past _ _ _ c.loop-k.k c.loop-k.invariant _ (omega arith) refl (omega arith) (omega arith)
+pub loop-col-preserved-then-i-sums : goal.loop-col-preserved-then-i-sums
+loop-col-preserved-then-i-sums c = sums_past _ _ _ c.loop-col.col-index c.loop-col.invariant _ (omega arith) refl (omega arith) (omega arith)
 
-pub loop-k-preserved : goal.loop-k-preserved
-loop-k-preserved c = sums_before _ _ _ c.loop-k.k c.loop-k.invariant _ (omega arith) refl (omega arith)
+pub loop-col-preserved-then-c-base : goal.loop-col-preserved-then-c-base
+loop-col-preserved-then-c-base c = sums_before _ _ _ c.loop-col.col-index c.loop-col.invariant _ (omega arith) refl (omega arith)
 
 pub returns : goal.returns
-returns c = sums_done _ _ _ c.loop-k.k c.loop-k.invariant (omega arith)
+returns c = sums_done _ _ _ c.loop-col.col-index c.loop-col.invariant (omega arith)

@@ -2,8 +2,5 @@ use Prim.Native.Nat.{◌≤◌, ◌-◌}
 use lib.ListN.{length}
 use Rattle.plots.proofs.show_floats.Given as goal
 
-abbrev pub invariant-loop-k : goal.invariant-loop-k
-invariant-loop-k l = l.k ≤ length l.values
-
-abbrev pub decreases-loop-k : goal.decreases-loop-k
-decreases-loop-k l = length l.values - l.k
+abbrev pub invariant-loop-value : goal.invariant-loop-value
+invariant-loop-value l = l.value-index ≤ length l.values

@@ -2,8 +2,5 @@ use Prim.Native.Nat.{◌≤◌, ◌-◌}
 use lib.ListN.{length}
 use Rattle.plots.proofs.show_indices.Given as goal
 
-abbrev pub invariant-loop-k : goal.invariant-loop-k
-invariant-loop-k l = l.k ≤ length l.indices
-
-abbrev pub decreases-loop-k : goal.decreases-loop-k
-decreases-loop-k l = length l.indices - l.k
+abbrev pub invariant-loop-index : goal.invariant-loop-index
+invariant-loop-index l = l.index-index ≤ length l.indices

@@ -2,8 +2,5 @@ use Prim.Native.Nat.{◌≤◌, ◌-◌}
 use lib.ListN.{length}
 use Rattle.plots.proofs.show_words.Given as goal
 
-abbrev pub invariant-loop-k : goal.invariant-loop-k
-invariant-loop-k l = l.k ≤ length l.words
-
-abbrev pub decreases-loop-k : goal.decreases-loop-k
-decreases-loop-k l = length l.words - l.k
+abbrev pub invariant-loop-bits : goal.invariant-loop-bits
+invariant-loop-bits l = l.bits-index ≤ length l.words

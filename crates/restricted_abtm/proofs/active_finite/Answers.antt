@@ -1,18 +1,11 @@
 -- `restricted_abtm::active_finite` meets its contract. Assumes nothing.
 use mathlib.Core.Path.{refl, ap}
-use Prim.Native.Nat.{◌-◌}
 use native.Mathlib.Omega.{arith}
 use Rattle.hybit_core.proofs.BoolLaws.{flag_on, flag_off}
 use Rattle.restricted_abtm.proofs.ReadyLaws.{ready_word, tile_ready_lem, bits_in}
-use Rattle.restricted_abtm.proofs.KeptLaws.{tested_none, tested_fails, tested_more, tested_done}
+use Rattle.restricted_abtm.proofs.KeptLaws.{tested_fails, tested_more, tested_done}
 use mathlib.Core.Bool.{not}
 use Rattle.restricted_abtm.proofs.active_finite.Goals as goal
-
-pub loop-k-init : goal.loop-k-init
-loop-k-init c = tested_none _ _ _ _ _
-
-pub offset_bounds-mask-word : goal.offset_bounds-mask-word
-offset_bounds-mask-word c = omega (arith, ready_word _ _ _ (tile_ready_lem c.args.masks.now c.args.value_offsets.now c.args.metas.now c.args.values.now c.args.mask.now c.requires.fact_1.0 c.requires.fact_1.1 c.loop-k.k _ (omega arith) refl c.requires.fact_2))
 
 pub bounds-mask-word : goal.bounds-mask-word
 bounds-mask-word c = omega (arith, ready_word _ _ _ (tile_ready_lem c.args.masks.now c.args.value_offsets.now c.args.metas.now c.args.values.now c.args.mask.now c.requires.fact_1.0 c.requires.fact_1.1 c.loop-k.k _ (omega arith) refl c.requires.fact_2))

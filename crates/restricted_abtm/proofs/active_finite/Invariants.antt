@@ -1,10 +1,5 @@
-use Prim.Native.Nat.{◌-◌}
-use lib.ListN.{length}
 use Rattle.restricted_abtm.proofs.KeptLaws.{Tested}
 use Rattle.restricted_abtm.proofs.active_finite.Given as goal
 
 abbrev pub invariant-loop-k : goal.invariant-loop-k
 invariant-loop-k l = Tested l.masks l.value_offsets l.metas l.values l.mask l.k
-
-abbrev pub decreases-loop-k : goal.decreases-loop-k
-decreases-loop-k l = length l.masks - l.k

@@ -1,14 +1,10 @@
 -- `restricted_abtm::count_kept` meets its contract. Assumes nothing.
-use Prim.Native.Nat.{◌-◌}
 use native.Mathlib.Omega.{arith}
 use Rattle.restricted_abtm.proofs.KeptLaws.{counted_none, counted_word, counted-few, counted_more, counted_done}
 use Rattle.restricted_abtm.proofs.count_kept.Goals as goal
 
 pub loop-k-init : goal.loop-k-init
 loop-k-init c = counted_none _ _ _
-
-pub offset_bounds-mask-word : goal.offset_bounds-mask-word
-offset_bounds-mask-word c = omega (arith, counted_word _ _ _ c.requires.fact_2 _ _ c.loop-k.invariant (omega arith) _ (c.word_in-word.ensures) c.requires.fact_3)
 
 pub bounds-mask-word : goal.bounds-mask-word
 bounds-mask-word c = counted_word _ _ _ c.requires.fact_2 _ _ c.loop-k.invariant (omega arith) _ (c.word_in-word.ensures) c.requires.fact_3

@@ -7,9 +7,6 @@ use Rattle.restricted_abtm.proofs.CallLaws.{kept_infinite, kept-many, few_pointe
 use mathlib.Core.Bool.{not}
 use Rattle.restricted_abtm.proofs.examine_kept.Goals as goal
 
-pub kept_finite-requires : goal.kept_finite-requires
-kept_finite-requires c = record { fact_1 = c.requires.fact_1; fact_2 = c.requires.fact_2 }
-
 pub returns-then-not-kept_finite : goal.returns-then-not-kept_finite
 returns-then-not-kept_finite c = kept_infinite _ _ _ _ _ (flag_off _ _ c.kept_finite.ensures (ap not c.if-not-kept_finite.true))
 

@@ -1,10 +1,8 @@
 -- `restricted_abtm::from_abtm` meets its contract. Assumes nothing.
 use mathlib.Core.Path.{ap}
-use native.Mathlib.Omega.{arith}
 use Rattle.hybit_core.specs.Table.{told}
-use Rattle.hybit_core.proofs.AnswerLaws.{accepted_by, given_refused, given_accepted}
+use Rattle.hybit_core.proofs.AnswerLaws.{given_refused, given_accepted}
 use Rattle.lent.proofs.LentLaws.{built_refused, built_accepted, appended_cleared}
-use Rattle.restricted_abtm.proofs.FillLaws.{rows_few}
 use Rattle.restricted_abtm.proofs.CallLaws.{records_refuse, last_decides, wiped, restriction_is}
 use Rattle.restricted_abtm.proofs.from_abtm.Goals as goal
 
@@ -13,16 +11,10 @@ returns-in-Err c = let no = c.in-Err.is in
     let said = records_refuse _ _ _ _ _ c.examine-v.ensures no in
     record { answer = given_refused _ _ _ _ said no; pointers = built_refused _ _ _ _ _ _ _ said no c.clear_lists.ensures.pointers; columns = built_refused _ _ _ _ _ _ _ said no c.clear_lists.ensures.columns; values = built_refused _ _ _ _ _ _ _ said no c.clear_lists.ensures.values }
 
-pub fill-f-requires : goal.fill-f-requires
-fill-f-requires c = accepted_by _ _ c.examine-v.ensures c.in_default.is
-
 pub returns-in-Err-w : goal.returns-in-Err-w
 returns-in-Err-w c = let no = c.in-Err-w.is in
     let said = last_decides _ _ _ _ c.fill-f.result.verdict c.examine-v.ensures c.in_default.is c.fill-f.ensures.answer in
     record { answer = given_refused _ _ _ _ said no; pointers = built_refused _ _ _ _ _ _ _ said no (wiped _ _ _ _ c.fill-f.auto.out_row_ptr c.clear_lists-in-Err-w.ensures.pointers); columns = built_refused _ _ _ _ _ _ _ said no (wiped _ _ _ _ c.fill-f.auto.out_col_idx c.clear_lists-in-Err-w.ensures.columns); values = built_refused _ _ _ _ _ _ _ said no (wiped _ _ _ _ c.fill-f.auto.out_values c.clear_lists-in-Err-w.ensures.values) }
-
-pub overflow_add-nrows : goal.overflow_add-nrows
-overflow_add-nrows c = omega (arith, rows_few _ _ _ (accepted_by _ _ c.examine-v.ensures c.in_default.is))
 
 pub returns : goal.returns
 returns c = let good = c.in_default-w.is in

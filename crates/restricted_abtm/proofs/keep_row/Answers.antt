@@ -1,6 +1,5 @@
 -- `restricted_abtm::keep_row` meets its contract. Assumes nothing.
 use mathlib.Core.Path.{refl}
-use Prim.Native.Nat.{◌-◌}
 use native.Mathlib.Omega.{arith}
 use Rattle.restricted_abtm.proofs.ReadyLaws.{ready_word, tile_ready_lem, base_in, bits_in}
 use Rattle.restricted_abtm.proofs.KeptLaws.{appending_none, appending_more, all-next, all_columns, all_values}
@@ -8,9 +7,6 @@ use Rattle.restricted_abtm.proofs.keep_row.Goals as goal
 
 pub loop-k-init : goal.loop-k-init
 loop-k-init c = appending_none _ _ _ _ _ _ _ _ _
-
-pub offset_bounds-mask-word : goal.offset_bounds-mask-word
-offset_bounds-mask-word c = omega (arith, ready_word _ _ _ (tile_ready_lem c.args.masks.now c.args.value_offsets.now c.args.metas.now c.args.values.now c.args.mask.now c.requires.fact_1.0 c.requires.fact_1.1 c.loop-k.k _ (omega arith) refl c.requires.fact_2))
 
 pub bounds-mask-word : goal.bounds-mask-word
 bounds-mask-word c = omega (arith, ready_word _ _ _ (tile_ready_lem c.args.masks.now c.args.value_offsets.now c.args.metas.now c.args.values.now c.args.mask.now c.requires.fact_1.0 c.requires.fact_1.1 c.loop-k.k _ (omega arith) refl c.requires.fact_2))
@@ -21,12 +17,6 @@ keep_tile-at-requires c = record { fact_1 = base_in c.args.masks.now c.args.valu
 pub loop-k-preserved : goal.loop-k-preserved
 loop-k-preserved c = appending_more _ _ _ _ _ _ _ _ _ c.requires.fact_1.0 c.requires.fact_1.1 _ _ _ _ c.loop-k.invariant (omega arith) _ _ _ refl (c.word_in-word.ensures) c.intersection-bits.ensures _ _ _
     c.keep_tile-at.ensures.next c.keep_tile-at.ensures.columns c.keep_tile-at.ensures.values c.keep_tile-at.auto.out_col_idx c.keep_tile-at.auto.out_values
-
-pub shape_of-out_col_idx : goal.shape_of-out_col_idx
-shape_of-out_col_idx c = c.loop-k.invariant.columns.same
-
-pub shape_of-out_values : goal.shape_of-out_values
-shape_of-out_values c = c.loop-k.invariant.values.same
 
 pub returns : goal.returns
 returns c = let eo = c.requires.fact_1.0 in

@@ -2,13 +2,10 @@
 use native.Mathlib.Omega.{arith}
 use Rattle.hybit_core.proofs.BoolLaws.{flag_on, flag_off}
 use Rattle.word.proofs.WalkLaws.{walk_less}
-use Rattle.restricted_abtm.proofs.BitsLaws.{testing_none, testing_place, testing_fails, testing_more, testing_done}
+use Rattle.restricted_abtm.proofs.BitsLaws.{testing_place, testing_fails, testing_more, testing_done}
 use mathlib.Core.Path.{ap}
 use mathlib.Core.Bool.{not}
 use Rattle.restricted_abtm.proofs.tile_finite.Goals as goal
-
-pub loop-rest-init : goal.loop-rest-init
-loop-rest-init c = testing_none _ _ _ _ _ c.ranges.bits.fits c.requires
 
 pub overflow_add-place : goal.overflow_add-place
 overflow_add-place c = omega (arith, testing_place _ _ _ _ _ _ c.loop-rest.invariant c.loop-rest-test.true _ c.lowest.ensures _ c.place_in.ensures)

@@ -1,18 +1,12 @@
 -- `restricted_csr32::count_active` meets its contract. Assumes nothing.
-use mathlib.Core.Path.{refl}
-use Prim.Native.Nat.{◌-◌}
-use native.Mathlib.Omega.{arith}
-use Rattle.restricted.proofs.KeepLaws.{counted_none, counted-le, counted_more, counted_done, byte_small}
+use mathlib.Core.Path.{◌≡◌, sym, ◌∙◌}
+use borrow.Author.Rules.{rules}
+use Rattle.std.specs.Prelude.{count_by}
+use Rattle.mask.specs.Mask.{as_mask, active}
+use Rattle.restricted_csr32.proofs.FillLaws.{only_count}
 use Rattle.restricted_csr32.proofs.count_active.Goals as goal
 
-pub loop-p-init : goal.loop-p-init
-loop-p-init c = counted_none _ _
-
-pub overflow_add-kept : goal.overflow_add-kept
-overflow_add-kept c = omega (arith, counted-le _ _ _ _ c.loop-p.invariant, byte_small c.is_member.result _ c.from-kept.ensures)
-
-pub loop-p-preserved : goal.loop-p-preserved
-loop-p-preserved c = counted_more _ _ _ _ c.loop-p.invariant _ _ (omega arith) _ refl c.is_member.ensures c.from-kept.ensures
-
 pub returns : goal.returns
-returns c = counted_done _ _ _ _ c.loop-p.invariant (omega arith)
+returns c =
+    let counted : c.count.result ≡ count_by (active (as_mask c.args.mask_len c.args.mask.now)) c.args.col_idx.now = search rules in
+    counted ∙ sym (only_count _ _)

@@ -1,11 +1,7 @@
-use Prim.Native.Nat.{◌-◌, ◌≤◌}
 use Rattle.mask.specs.Mask.{as_mask}
 use Rattle.csr32.specs.Csr.{as_csr}
 use Rattle.restricted_csr32.proofs.FillLaws.{kept_row, Filling}
 use Rattle.restricted_csr32.proofs.fill_rows.Given as goal
 
 abbrev pub invariant-loop-row : goal.invariant-loop-row
-invariant-loop-row l = (l.row ≤ l.nrows) × Filling (kept_row (as_csr l.nrows l.ncols l.row_ptr l.col_idx l.values) (as_mask l.mask_len l.mask)) l.initial.out_row_ptr l.initial.out_col_idx l.initial.out_values l.row l.at l.out_row_ptr l.out_col_idx l.out_values
-
-abbrev pub decreases-loop-row : goal.decreases-loop-row
-decreases-loop-row l = l.nrows - l.row
+invariant-loop-row l = Filling (kept_row (as_csr l.nrows l.ncols l.row_ptr l.col_idx l.values) (as_mask l.mask_len l.mask)) l.initial.out_row_ptr l.initial.out_col_idx l.initial.out_values l.row l.at l.out_row_ptr l.out_col_idx l.out_values

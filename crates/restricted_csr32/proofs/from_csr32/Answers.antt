@@ -1,22 +1,8 @@
 -- `restricted_csr32::from_csr32` meets its contract. Assumes nothing.
-use native.Mathlib.Omega.{arith}
-use Rattle.hybit_core.proofs.AnswerLaws.{accepted_by, given_refused, given_accepted}
-use Rattle.lent.proofs.LentLaws.{built_refused, built_accepted, appended_cleared}
-use Rattle.restricted_csr32.proofs.FillLaws.{restrict_facts}
+use Rattle.hybit_core.proofs.AnswerLaws.{given_accepted}
+use Rattle.lent.proofs.LentLaws.{built_accepted, appended_cleared}
 use Rattle.restricted_csr32.proofs.CallLaws.{restriction_is}
 use Rattle.restricted_csr32.proofs.from_csr32.Goals as goal
-
-pub returns-in-Err : goal.returns-in-Err
-returns-in-Err c = let e = c.examine-v.ensures in
-    let r = c.in-Err.is in
-    record { answer = given_refused _ _ _ _ e r; pointers = built_refused _ _ _ _ _ _ _ e r c.clear_from.ensures; columns = built_refused _ _ _ _ _ _ _ e r c.clear_from-in-Err.ensures; values = built_refused _ _ _ _ _ _ _ e r c.clear_from-in-Err-2.ensures }
-
-pub fill_rows-kept-requires : goal.fill_rows-kept-requires
-fill_rows-kept-requires c = accepted_by _ _ c.examine-v.ensures c.in_default.is
-
-pub overflow_add-nrows : goal.overflow_add-nrows
-overflow_add-nrows c = let f = restrict_facts _ _ _ (accepted_by _ _ c.examine-v.ensures c.in_default.is) in
-    omega (arith, f.list.rows_in)
 
 pub returns : goal.returns
 returns c = let e = c.examine-v.ensures in

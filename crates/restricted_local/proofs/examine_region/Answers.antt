@@ -4,7 +4,6 @@ use native.Mathlib.Omega.{arith}
 use Rattle.hybit_core.proofs.BoolLaws.{is_equal, is_unequal}
 use Rattle.hybit_core.proofs.AnswerLaws.{told_refused, test_fails, test_passes, last_length_wrong, last_length_right}
 use Rattle.restricted_local.proofs.CheckLaws.{region_long, region_list, region_mask, region_rest}
-use Rattle.mask.proofs.check.Reads as check-reads'
 use mathlib.Core.Path.{ap}
 use mathlib.Core.Bool.{not}
 use Rattle.restricted_local.proofs.examine_region.Goals as goal

@@ -4,12 +4,6 @@ use native.Mathlib.Omega.{arith}
 use Rattle.restricted_local.proofs.RegionLaws.{number_small, number-told}
 use Rattle.restricted_local.proofs.local_number.Goals as goal
 
-pub bounds-counts-w : goal.bounds-counts-w
-bounds-counts-w c = omega (arith, c.requires.fact_1.counts_room)
-
-pub bounds-region-w : goal.bounds-region-w
-bounds-region-w c = omega (arith, c.requires.fact_1.words_room)
-
 pub overflow_add-before : goal.overflow_add-before
 overflow_add-before c = omega (arith, number_small _ _ _ c.requires.fact_1 c.requires.fact_2 _ _ refl c.ones_below.ensures)
 

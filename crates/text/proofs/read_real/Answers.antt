@@ -1,20 +1,12 @@
 -- `text::read_real` meets its contract. Assumes nothing.
-use borrow.Author.Rules.{rules}
-use Rattle.text.proofs.DecimalLaws.{real_none, real_minus, real_plain}
-use mathlib.Core.Path.{◌∙◌, sym, ap}
+use Rattle.std.proofs.Common.{rules}
 use Rattle.text.specs.Numbers.{negated}
+use Rattle.text.proofs.DecimalLaws.{real_minus, real_plain}
 use Rattle.text.proofs.read_real.Goals as goal
 
-pub returns-then-word-eq0 : goal.returns-then-word-eq0
-returns-then-word-eq0 c = search (real_none, rules)
-
-pub returns-in_err-v : goal.returns-in_err-v
+pub returns-in-Some : goal.returns-in-Some
 unfolding negated
-returns-in_err-v c = real_minus _ _ _ c.if-word-eq0.false c.if-word-eq45.true c.unsigned.ensures (c.from_residual.ensures ∙ sym (ap negated c.in_err-v.was))
+returns-in-Some c = real_minus _ _ _ _ (search rules) (search rules) c.unsigned.ensures (search rules)
 
-pub returns-then-word-eq45 : goal.returns-then-word-eq45
-unfolding negated
-returns-then-word-eq45 c = real_minus _ _ _ c.if-word-eq0.false c.if-word-eq45.true c.unsigned.ensures (sym (ap negated c.in_ok-v.was))
-
-pub returns : goal.returns
-returns c = search (real_plain, rules)
+pub returns-in-None : goal.returns-in-None
+returns-in-None c = real_plain _ _ (search rules) c.unsigned-in-None.ensures

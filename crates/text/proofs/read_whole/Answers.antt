@@ -2,37 +2,30 @@
 use borrow.Author.Rules.{rules}
 use native.Mathlib.Omega.{arith}
 use Rattle.hybit_core.proofs.BoolLaws.{flag_off, flag_on}
-use Rattle.text.proofs.NumberLaws.{whole-none, whole_long, reading_none, reading_fits, reading_more, reading_fails, reading_done, digit_least, digit_most}
-use mathlib.Core.Path.{ap}
-use mathlib.Core.Bool.{not}
+use Rattle.text.proofs.NumberLaws.{whole-none, whole_long, reading_none, reading_fits, reading_more, reading_fails, reading_done}
+use Rattle.text.specs.Numbers.{digit}
+use Rattle.text.proofs.read_whole.Goals.{then-is_empty-via-then-is_empty, then-is_empty-via-else-is_empty+then-word-gt15}
 use Rattle.text.proofs.read_whole.Goals as goal
 
-pub returns-then-word-eq0 : goal.returns-then-word-eq0
-returns-then-word-eq0 c = search (whole-none, rules)
+pub returns-then-is_empty : goal.returns-then-is_empty
+returns-then-is_empty c = elim c.then-is_empty.branch [ then-is_empty-via-then-is_empty w ↦ search (whole-none, rules) | then-is_empty-via-else-is_empty+then-word-gt15 w ↦ whole_long _ (omega arith) ]
 
-pub returns-then-word-gt15 : goal.returns-then-word-gt15
-returns-then-word-gt15 c = whole_long _ (omega arith)
+pub loop-b-init : goal.loop-b-init
+loop-b-init c = reading_none _
 
-pub loop-i-init : goal.loop-i-init
-loop-i-init c = reading_none _
-
-pub returns-then-not-is_digit : goal.returns-then-not-is_digit
-returns-then-not-is_digit c = search (reading_fails, flag_off, rules)
+pub returns-then-not-is_ascii_digit : goal.returns-then-not-is_ascii_digit
+unfolding digit
+returns-then-not-is_ascii_digit c = search (reading_fails, flag_off, rules)
 
 pub overflow_mul-value : goal.overflow_mul-value
-overflow_mul-value c = omega (arith, reading_fits _ _ _ c.loop-i.invariant (omega arith) (omega arith))
-
-pub overflow_sub-value : goal.overflow_sub-value
-overflow_sub-value c = digit_least _ (flag_on _ _ c.is_digit.ensures (ap not c.if-not-is_digit.false))
-
-pub overflow_cast-value : goal.overflow_cast-value
-overflow_cast-value c = omega (arith, digit_most _ (flag_on _ _ c.is_digit.ensures (ap not c.if-not-is_digit.false)))
+overflow_mul-value c = omega (arith, reading_fits _ _ _ c.loop-b.invariant (omega arith) (omega arith))
 
 pub overflow_add-value : goal.overflow_add-value
-overflow_add-value c = omega (arith, reading_fits _ _ _ c.loop-i.invariant (omega arith) (omega arith), digit_most _ (flag_on _ _ c.is_digit.ensures (ap not c.if-not-is_digit.false)))
+overflow_add-value c = omega (arith, reading_fits _ _ _ c.loop-b.invariant (omega arith) (omega arith))
 
-pub loop-i-preserved : goal.loop-i-preserved
-loop-i-preserved c = search (reading_more, flag_on, rules)
+pub loop-b-preserved : goal.loop-b-preserved
+unfolding digit
+loop-b-preserved c = search (reading_more, flag_on, rules)
 
 pub returns : goal.returns
 returns c = search (reading_done, rules)

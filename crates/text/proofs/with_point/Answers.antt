@@ -14,10 +14,10 @@ pub returns-then-before-behind-gt15 : goal.returns-then-before-behind-gt15
 returns-then-before-behind-gt15 c = search (parts_long, rules)
 
 pub overflow_mul-a : goal.overflow_mul-a
-overflow_mul-a c = omega (arith, parts-small _ _ _ _ _ _ _ c.read_whole.ensures c.in_ok-a.was c.read_whole-2.ensures c.in_ok-b.was (omega arith) c.power_of_ten-power.ensures)
+overflow_mul-a c = omega (arith, parts-small _ _ _ _ _ _ _ c.read_whole.ensures c.in_ok-a.was c.read_whole-2.ensures c.in_ok-b.was (omega arith) c.pow-power.ensures)
 
 pub overflow_add-a : goal.overflow_add-a
-overflow_add-a c = omega (arith, parts-small _ _ _ _ _ _ _ c.read_whole.ensures c.in_ok-a.was c.read_whole-2.ensures c.in_ok-b.was (omega arith) c.power_of_ten-power.ensures)
+overflow_add-a c = omega (arith, parts-small _ _ _ _ _ _ _ c.read_whole.ensures c.in_ok-a.was c.read_whole-2.ensures c.in_ok-b.was (omega arith) c.pow-power.ensures)
 
 pub returns : goal.returns
-returns c = parts-good _ _ _ _ _ _ _ c.read_whole.ensures c.in_ok-a.was c.read_whole-2.ensures c.in_ok-b.was (omega arith) c.power_of_ten-power.ensures _ c.ratio.ensures
+returns c = parts-good _ _ _ _ _ _ _ c.read_whole.ensures c.in_ok-a.was c.read_whole-2.ensures c.in_ok-b.was (omega arith) c.pow-power.ensures _ c.ratio.ensures

@@ -1,9 +1,6 @@
 use Rattle.topology.specs.Words.{set_bits}
-use Rattle.std.proofs.Common.{◌≡◌, ◌-◌, ◌%◌, ◌^◌, length, take}
+use Rattle.std.proofs.Common.{◌≡◌, ◌-◌, ◌%◌, ◌^◌, take}
 use Rattle.topology.proofs.count_bits.Given as goal
 
-abbrev pub invariant-loop-i : goal.invariant-loop-i
-invariant-loop-i l = l.ones ≡ set_bits (take l.i l.masks) % 2 ^ 64
-
-abbrev pub decreases-loop-i : goal.decreases-loop-i
-decreases-loop-i l = length l.masks - l.i
+abbrev pub invariant-loop-mask : goal.invariant-loop-mask
+invariant-loop-mask l = l.ones ≡ set_bits (take l.mask-index l.masks) % 2 ^ 64

@@ -1,10 +1,7 @@
-use Rattle.std.proofs.Common.{◌≡◌, ◌-◌, ◌&&◌, length, drop}
+use Rattle.std.proofs.Common.{◌≡◌, ◌-◌, ◌&&◌, drop}
 use Rattle.lent.specs.Lists.{every}
 use Rattle.topology.proofs.LastLaws.{nonzero}
 use Rattle.topology.proofs.masks_hold.Given as goal
 
-abbrev pub invariant-loop-i : goal.invariant-loop-i
-invariant-loop-i l = every nonzero l.masks ≡ (l.holds && every nonzero (drop l.i l.masks))
-
-abbrev pub decreases-loop-i : goal.decreases-loop-i
-decreases-loop-i l = length l.masks - l.i
+abbrev pub invariant-loop-mask : goal.invariant-loop-mask
+invariant-loop-mask l = every nonzero l.masks ≡ (l.holds && every nonzero (drop l.mask-index l.masks))

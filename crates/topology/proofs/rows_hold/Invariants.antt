@@ -6,6 +6,3 @@ use Rattle.topology.proofs.rows_hold.Given as goal
 
 abbrev pub invariant-loop-row : goal.invariant-loop-row
 invariant-loop-row l = row_rules (as_words l.nrows l.ncols l.row_word_ptr l.word_indices l.masks l.structural_nnz) ≡ every (λ r. row_rule l.ncols (part l.row_word_ptr l.word_indices r) (part l.row_word_ptr l.masks r)) (from (λ r. true) l.row (l.nrows - l.row))
-
-abbrev pub decreases-loop-row : goal.decreases-loop-row
-decreases-loop-row l = l.nrows - l.row

@@ -8,6 +8,3 @@ use Rattle.topology_combine.proofs.count_words.Given as goal
 
 abbrev pub invariant-loop-row : goal.invariant-loop-row
 invariant-loop-row l = (l.row ≤ l.nrows) × (l.count ≡ length (joined (words_at l.operation (as_words l.nrows l.ncols l.row_word_ptr l.word_indices l.masks 0) (as_words l.nrows l.ncols l.other_row_word_ptr l.other_word_indices l.other_masks 0)) l.row))
-
-abbrev pub decreases-loop-row : goal.decreases-loop-row
-decreases-loop-row l = l.nrows - l.row

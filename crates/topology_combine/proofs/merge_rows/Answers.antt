@@ -22,12 +22,6 @@ merge_row-to-requires c = let h = filling_room _ _ _ _ _ _ _ _ _ _ _ c.loop-row.
     let e = ap length (lent_words _ _ _ _ _ _ _ _ c.requires.fact_1 c.loop-row.row _ _ _ _ c.part-left.ensures c.part-left_masks.ensures c.part-right.ensures c.part-right_masks.ensures c.args.operation) in
     record { fact_1 = lent_rows _ _ _ _ _ _ _ _ c.requires.fact_1 c.loop-row.row _ _ _ _ c.part-left.ensures c.part-left_masks.ensures c.part-right.ensures c.part-right_masks.ensures (search rules); fact_2 = omega (arith, h.1.0, e); fact_3 = omega (arith, h.1.1, e) }
 
-pub overflow_add-row : goal.overflow_add-row
-overflow_add-row c = let t = c.loop-row-test in let f = c.ranges in search rules
-
-pub loop-row-smaller : goal.loop-row-smaller
-loop-row-smaller c = let t = c.loop-row-test in let l = c.loop-row in omega arith
-
 pub loop-row-preserved : goal.loop-row-preserved
 loop-row-preserved c = filling_more _ _ _ _ _ _ _ _ _ _ _ c.loop-row.invariant (search rules) _ _ _ _ _ _ c.narrow.ensures (lent_words _ _ _ _ _ _ _ _ c.requires.fact_1 c.loop-row.row _ _ _ _ c.part-left.ensures c.part-left_masks.ensures c.part-right.ensures c.part-right_masks.ensures c.args.operation) (lent_masks _ _ _ _ _ _ _ _ c.requires.fact_1 c.loop-row.row _ _ _ _ c.part-left.ensures c.part-left_masks.ensures c.part-right.ensures c.part-right_masks.ensures c.args.operation) c.merge_row-to.ensures.numbers c.merge_row-to.ensures.bits c.merge_row-to.auto.out_words c.merge_row-to.auto.out_masks
 

@@ -1,11 +1,7 @@
 use Rattle.topology.proofs.FrontLaws.{Ranking}
 use Rattle.topology.specs.Words.{row_member}
-use lib.ListN.{length}
 use Prim.Native.Nat.{◌-◌}
 use Rattle.topology_rows.proofs.rank_in.Given as goal
 
 abbrev pub invariant-loop-i : goal.invariant-loop-i
 invariant-loop-i l = Ranking (row_member l.words l.masks) l.ncols l.col l.i l.rank
-
-abbrev pub decreases-loop-i : goal.decreases-loop-i
-decreases-loop-i l = length l.words - l.i

@@ -1,11 +1,7 @@
 use Rattle.topology.proofs.FrontLaws.{Selecting}
 use Rattle.topology.specs.Words.{row_member}
-use lib.ListN.{length}
 use Prim.Native.Nat.{◌-◌}
 use Rattle.topology_rows.proofs.select_in.Given as goal
 
 abbrev pub invariant-loop-k : goal.invariant-loop-k
 invariant-loop-k l = Selecting (row_member l.words l.masks) l.ncols l.ordinal l.k l.left
-
-abbrev pub decreases-loop-k : goal.decreases-loop-k
-decreases-loop-k l = length l.words - l.k

@@ -6,11 +6,11 @@ use Rattle.word.proofs.select.Goals as goal
 pub returns-then-ordinal-popcount : goal.returns-then-ordinal-popcount
 returns-then-ordinal-popcount c = search (nothing_left, rules)
 
-pub loop-k-init : goal.loop-k-init
-loop-k-init c = search (left-none, rules)
+pub loop-init : goal.loop-init
+loop-init c = search (left-none, rules)
 
-pub loop-k-preserved : goal.loop-k-preserved
-loop-k-preserved c = search (left_more, rules)
+pub loop-preserved : goal.loop-preserved
+loop-preserved c = search (left_more, rules)
 
 pub returns : goal.returns
 returns c = search (left-selected, rules)

@@ -97,13 +97,10 @@ fn row_holds(ncols: usize, cols: &[u32], vals: &[f64], sums: &mut [f64]) -> bool
     ensures window { sums.new ≡ replicate (length sums.old) zero64 }
 {
     let width = sums.len();
-    let mut base: usize = 0;
-    // `(0..ncols).step_by(width)` leaves open that it ends.
-    while base < ncols {
+    for base in (0..ncols).step_by(width) {
         if !window_holds(cols, vals, base, sums) {
             return false;
         }
-        base += width;
     }
     true
 }

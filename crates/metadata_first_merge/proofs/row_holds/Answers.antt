@@ -22,3 +22,6 @@ loop-base-preserved c = (c.loop-base.invariant.0, omega arith, c.window_holds.au
 
 pub returns : goal.returns
 returns c = record { answer = searched_done c.args.ncols c.args.cols.now c.args.vals.now c.requires.fact_2 c.requires.fact_3 c.loop-base.base c.loop-base.invariant.4 (omega arith); window = c.loop-base.invariant.3 }
+
+pub returns-else-not-window_holds-clause-answer : goal.returns-else-not-window_holds-clause-answer
+returns-else-not-window_holds-clause-answer c = searched_done c.args.ncols c.args.cols.now c.args.vals.now c.requires.fact_2 c.requires.fact_3 _ (searched_more c.args.cols.now c.args.vals.now c.loop-base.base (length c.loop-base.sums) _ c.loop-base.invariant.4 (flag_on _ _ c.window_holds.ensures.answer (ap not c.if-not-window_holds.false)) (c.loop-base.invariant.2 ∙ sym c.loop-base.invariant.0)) (omega arith)

@@ -7,6 +7,3 @@ use Rattle.metadata_first_merge.proofs.row_holds.Given as goal
 
 abbrev pub invariant-loop-base : goal.invariant-loop-base
 invariant-loop-base l = (l.width ≡ length l.initial.sums) × (l.base ≤ l.ncols + l.width) × (length l.sums ≡ length l.initial.sums) × (l.sums ≡ replicate (length l.initial.sums) zero64) × Searched l.cols l.vals l.base
-
-abbrev pub decreases-loop-base : goal.decreases-loop-base
-decreases-loop-base l = l.ncols - l.base

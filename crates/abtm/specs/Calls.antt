@@ -1,5 +1,5 @@
 -- What a tile by value and thresholds answer.
-use Rattle.std.specs.Prelude.{ℕ, leb, Result, Ok, Err}
+use Rattle.std.specs.Prelude.{ℕ, zero, suc, leb, Option, None, Some, Result, Ok, Err}
 use Rattle.hybit_core.specs.Answer.{Answer, Given, gives, refuses, demand, answers}
 use Rattle.hybit_core.specs.Table.{paper}
 use Rattle.hybit_core.specs.declared.HybitError.{HybitError}
@@ -17,6 +17,13 @@ abbrev pub kind_number : TileKind → ℕ
 kind_number kind.Sparse = 0
 kind_number kind.Bitmap = 1
 kind_number kind.Dense = 2
+
+-- the kind of a number
+abbrev pub kind_numbered : ℕ → Option TileKind
+kind_numbered zero = Some kind.Sparse
+kind_numbered (suc zero) = Some kind.Bitmap
+kind_numbered (suc (suc zero)) = Some kind.Dense
+kind_numbered (suc (suc (suc n))) = None
 
 abbrev pub told_kind : Result TileKind HybitError → Given ℕ
 told_kind (Ok k) = gives (kind_number k)

@@ -1,2 +1,4 @@
 pub mod Tiles
 pub mod Calls
+pub mod Matrix
+pub mod Row

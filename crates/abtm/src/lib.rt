@@ -5,12 +5,18 @@
 
 ghost use Rattle.std.specs.Prelude.{◌≡◌, ◌*◌, length};
 ghost use Rattle.hybit_core.specs.Table.{told};
-ghost use Rattle.abtm.specs.Tiles.{word_in, kind_in, places, kind_of};
-ghost use Rattle.abtm.specs.Calls.{threshold_answer, told_kind, kind_answer};
+ghost use Rattle.abtm.specs.Tiles.{word_in, kind_in, is_dense, places, kind_of};
+ghost use Rattle.abtm.specs.Calls.{threshold_answer, kind_number, kind_numbered, told_kind, kind_answer};
 
 use hybit_core::HybitError;
 
-#[derive(Clone, Copy)]
+mod matrix;
+mod row;
+
+pub use matrix::AbtmMatrix;
+pub use row::TileRow;
+
+#[derive(Clone, Copy, PartialEq, Eq)]
 pub enum TileKind {
     Sparse,
     Bitmap,
@@ -31,45 +37,59 @@ pub struct AbtmConfig {
     pub dense_min_nnz: u8,
 }
 
+// A `meta` is a kind's number times this, and a word number.
+pub const KIND_STEP: u32 = 1073741824;
+
 // The word number of a `meta`.
 pub fn word_in(meta: u32) -> u32
     ensures { result ≡ word_in meta }
 {
-    meta % 1073741824
+    meta % KIND_STEP
 }
 
-// Its kind: 0 Sparse, 1 Bitmap, 2 Dense, or 3.
-pub fn kind_in(meta: u32) -> u32
-    ensures { result ≡ kind_in meta }
+// Its kind; there is none of number 3. No `TryFrom<u32>`: a `meta` is no number of a kind, it holds the word number besides.
+pub fn kind_in(meta: u32) -> Option<TileKind>
+    ensures { result ≡ kind_numbered (kind_in meta) }
 {
-    meta / 1073741824
+    match meta / KIND_STEP {
+        0 => Some(TileKind::Sparse),
+        1 => Some(TileKind::Bitmap),
+        2 => Some(TileKind::Dense),
+        _ => None,
+    }
+}
+
+pub fn is_dense(meta: u32) -> bool
+    ensures { result ≡ is_dense meta }
+{
+    kind_in(meta) == Some(TileKind::Dense)
 }
 
 // How many values a tile takes.
 pub fn slot_count(mask: u64, meta: u32) -> usize
     ensures { result ≡ length (places mask meta) }
 {
-    if kind_in(meta) == 2 {
-        return 64;
+    if is_dense(meta) {
+        64
+    } else {
+        word::popcount(mask)
     }
-    word::popcount(mask)
+}
+
+// The number that a `meta` has for the kind.
+impl From<TileKind> for u32 {
+    ghost from_gives = { λ k n. n ≡ kind_number k };
+
+    fn from(kind: TileKind) -> u32 {
+        kind as u32
+    }
 }
 
 impl TileDesc {
     pub fn kind(self) -> Result<TileKind, HybitError>
         ensures { told_kind result ≡ kind_answer self.meta }
     {
-        let kind = kind_in(self.meta);
-        if kind == 0 {
-            return Ok(TileKind::Sparse);
-        }
-        if kind == 1 {
-            return Ok(TileKind::Bitmap);
-        }
-        if kind == 2 {
-            return Ok(TileKind::Dense);
-        }
-        Err(HybitError::BadStore)
+        kind_in(self.meta).ok_or(HybitError::BadStore)
     }
 
     // The first column of the tile's word.
@@ -80,7 +100,7 @@ impl TileDesc {
     }
 }
 
-// The Rust's `AbtmConfig::default`.
+// The Rust's `AbtmConfig::default`, as a function: its contract gives the numbers as any other's does, not by a ghost relation.
 pub fn default_config() -> AbtmConfig
     ensures { (result.sparse_max_nnz ≡ 8) × (result.dense_min_nnz ≡ 40) }
 {
@@ -106,16 +126,16 @@ impl AbtmConfig {
         Ok(())
     }
 
-    // The kind of a tile with so many values, as `meta` has it.
-    pub fn kind_of(self, nnz: usize) -> u32
-        ensures { result ≡ kind_of self nnz }
+    // The kind of a tile with so many values.
+    pub fn kind_of(self, nnz: usize) -> TileKind
+        ensures { kind_number result ≡ kind_of self nnz }
     {
         if nnz <= self.sparse_max_nnz as usize {
-            return 0;
+            return TileKind::Sparse;
         }
         if nnz >= self.dense_min_nnz as usize {
-            return 2;
+            return TileKind::Dense;
         }
-        1
+        TileKind::Bitmap
     }
 }

@@ -1,4 +1,5 @@
 // abtm.rs: `LinearOperator::apply` of `AbtmMatrix`, the product of tiles. Each tile is read once.
+// The two mismatches stand beside their tests: a function that takes both numbers and answers them would be no plainer.
 #![tactic(auto)]
 
 ghost use Rattle.std.specs.Prelude.{◌≡◌, true, ◌+◌, ◌≤◌, ◌^◌, ltb, length};
@@ -11,23 +12,26 @@ ghost use Rattle.lent.specs.Lent.{kept};
 ghost use Rattle.word.specs.Bits.{below, members};
 ghost use Rattle.csr32.specs.Csr.{Entry};
 ghost use Rattle.csr32.specs.Sums.{added_to};
-ghost use Rattle.abtm.specs.Tiles.{as_tiles, tile_at};
+ghost use Rattle.abtm.specs.Tiles.{tile_at};
 ghost use Rattle.abtm_apply.specs.Product.{add_tile, sum_tiles, tiles_product, apply_tiles_answer};
 ghost use Rattle.abtm_apply.specs.Ready.{columns_inside, tile_inside};
+ghost use Rattle.abtm.specs.Matrix.{lent_tiles};
+ghost use Rattle.abtm.specs.Row.{listed_of};
 
+use abtm::{AbtmMatrix, TileDesc, TileRow};
 use hybit_core::HybitError;
 
 // The products of a Sparse or Bitmap tile, from 0.0: its values stand in the order of its columns.
 fn compact_sum(mask: u64, base: usize, values: &[f64], x: &[f64]) -> f64
-    requires fact_1 { base ≤ 2 ^ 40 }
-    requires fact_2 { length values.now ≡ length (members mask) }
-    requires fact_3 { columns_inside (length x.now) base mask ≡ true }
+    requires base { base ≤ 2 ^ 40 }
+    requires values { length values.now ≡ length (members mask) }
+    requires columns { columns_inside (length x.now) base mask ≡ true }
     ensures { result ≡ added_to zero64 (zip (map (λ i. base + i) (members mask)) values.now) x.now }
 {
     let mut sum: f64 = 0.0;
     let mut p: usize = 0;
     let mut rest = mask;
-    // A walk over the set bits of a word, which no range and no slice lists: each turn takes the lowest that is left.
+    // The set bits of a word, lowest first, and the values beside: an iterator of our own would be a type more, for three lines.
     while rest != 0 {
         let bit = word::lowest(rest);
         sum = sum + values[p] * x[base + bit];
@@ -51,100 +55,67 @@ fn add_dense(start: f64, base: usize, values: &[f64], x: &[f64]) -> f64
 }
 
 // The row's number after one tile more: a Dense tile adds straight to it, any other is summed on its own.
-fn add_tile(sum: f64, mask: u64, offset: usize, meta: u32, values: &[f64], x: &[f64]) -> f64
-    requires { tile_inside (length values.now) (length x.now) (mask, (offset, meta)) ≡ true }
-    ensures { result ≡ add_tile (length x.now) x.now sum (tile_at values.now (mask, (offset, meta))) }
+fn add_tile(sum: f64, tile: TileDesc, values: &[f64], x: &[f64]) -> f64
+    requires { tile_inside (length values.now) (length x.now) (tile.mask, (tile.value_offset, tile.meta)) ≡ true }
+    ensures { result ≡ add_tile (length x.now) x.now sum (tile_at values.now (tile.mask, (tile.value_offset, tile.meta))) }
 {
-    let base = 64 * abtm::word_in(meta) as usize;
-    let end = offset + abtm::slot_count(mask, meta);
-    if abtm::kind_in(meta) == 2 {
-        return add_dense(sum, base, &values[offset..end], x);
+    let base = tile.base_col();
+    let start = tile.value_offset as usize;
+    let end = start + abtm::slot_count(tile.mask, tile.meta);
+    if abtm::is_dense(tile.meta) {
+        return add_dense(sum, base, &values[start..end], x);
     }
-    sum + compact_sum(mask, base, &values[offset..end], x)
+    sum + compact_sum(tile.mask, base, &values[start..end], x)
 }
 
-// The number of a row: its parts of the tile lists.
-fn row_sum(masks: &[u64], value_offsets: &[u32], metas: &[u32], values: &[f64], x: &[f64]) -> f64
-    requires fact_1 { (length value_offsets.now ≡ length masks.now) × (length metas.now ≡ length masks.now) }
-    requires fact_2 { every (tile_inside (length values.now) (length x.now)) (zip masks.now (zip value_offsets.now metas.now)) ≡ true }
-    ensures { result ≡ sum_tiles (length x.now) x.now (map (tile_at values.now) (zip masks.now (zip value_offsets.now metas.now))) }
+// The number of a row.
+fn row_sum(row: TileRow, values: &[f64], x: &[f64]) -> f64
+    requires { every (tile_inside (length values.now) (length x.now)) (listed_of row) ≡ true }
+    ensures { result ≡ sum_tiles (length x.now) x.now (map (tile_at values.now) (listed_of row.entry)) }
 {
     let mut sum: f64 = 0.0;
-    for (i, columns) in masks.iter().enumerate() {
-        sum = add_tile(
-            sum,
-            *columns,
-            value_offsets[i] as usize,
-            metas[i],
-            values,
-            x,
-        );
+    for (i, mask) in row.masks.iter().enumerate() {
+        let tile = TileDesc {
+            mask: *mask,
+            value_offset: row.value_offsets[i],
+            meta: row.metas[i],
+        };
+        sum = add_tile(sum, tile, values, x);
     }
     sum
 }
 
 // The rows of accepted tiles.
-fn fill_product(
-    nrows: usize,
-    ncols: usize,
-    row_tile_ptr: &[u32],
-    masks: &[u64],
-    value_offsets: &[u32],
-    metas: &[u32],
-    values: &[f64],
-    matrix_nnz: usize,
-    x: &[f64],
-    y: &mut [f64],
-)
-    requires { apply_tiles_answer (as_tiles nrows ncols row_tile_ptr.now masks.now value_offsets.now metas.now values.now matrix_nnz) x.now (length y.old) ≡ accepted }
-    ensures { y.new ≡ tiles_product (as_tiles nrows ncols row_tile_ptr.now masks.now value_offsets.now metas.now values.now matrix_nnz) x.now }
+// A row's pointers are read once for its three parts: lent::part would read and compare them for each.
+fn fill_product(tiles: AbtmMatrix, x: &[f64], y: &mut [f64])
+    requires { apply_tiles_answer (lent_tiles tiles) x.now (length y.old) ≡ accepted }
+    ensures { y.new ≡ tiles_product (lent_tiles tiles.entry) x.now }
 {
-    for row in 0..nrows {
-        let start = row_tile_ptr[row] as usize;
-        let end = row_tile_ptr[row + 1] as usize;
-        y[row] = row_sum(
-            &masks[start..end],
-            &value_offsets[start..end],
-            &metas[start..end],
-            values,
-            x,
-        );
+    for row in 0..tiles.nrows {
+        let start = tiles.row_tile_ptr[row] as usize;
+        let end = tiles.row_tile_ptr[row + 1] as usize;
+        let part = TileRow {
+            masks: &tiles.masks[start..end],
+            value_offsets: &tiles.value_offsets[start..end],
+            metas: &tiles.metas[start..end],
+        };
+        y[row] = row_sum(part, tiles.values, x);
     }
 }
 
-fn examine_apply(
-    nrows: usize,
-    ncols: usize,
-    row_tile_ptr: &[u32],
-    masks: &[u64],
-    value_offsets: &[u32],
-    metas: &[u32],
-    values: &[f64],
-    matrix_nnz: usize,
-    x: &[f64],
-    places: usize,
-) -> Result<(), HybitError>
-    ensures { told result ≡ apply_tiles_answer (as_tiles nrows ncols row_tile_ptr.now masks.now value_offsets.now metas.now values.now matrix_nnz) x.now places }
+fn examine_apply(tiles: AbtmMatrix, x: &[f64], places: usize) -> Result<(), HybitError>
+    ensures { told result ≡ apply_tiles_answer (lent_tiles tiles.entry) x.now places }
 {
-    abtm_check::check(
-        nrows,
-        ncols,
-        row_tile_ptr,
-        masks,
-        value_offsets,
-        metas,
-        values,
-        matrix_nnz,
-    )?;
-    if x.len() != ncols {
+    abtm_check::check(tiles)?;
+    if x.len() != tiles.ncols {
         return Err(HybitError::DimensionMismatch {
-            expected: ncols,
+            expected: tiles.ncols,
             actual: x.len(),
         });
     }
-    if places != nrows {
+    if places != tiles.nrows {
         return Err(HybitError::DimensionMismatch {
-            expected: nrows,
+            expected: tiles.nrows,
             actual: places,
         });
     }
@@ -152,44 +123,11 @@ fn examine_apply(
 }
 
 // The row products in y, which stays as it was where the call is refused.
-pub fn apply(
-    nrows: usize,
-    ncols: usize,
-    row_tile_ptr: &[u32],
-    masks: &[u64],
-    value_offsets: &[u32],
-    metas: &[u32],
-    values: &[f64],
-    matrix_nnz: usize,
-    x: &[f64],
-    y: &mut [f64],
-) -> Result<(), HybitError>
-    ensures answer { told result ≡ apply_tiles_answer (as_tiles nrows ncols row_tile_ptr.now masks.now value_offsets.now metas.now values.now matrix_nnz) x.now (length y.old) }
-    ensures product { y.new ≡ kept (apply_tiles_answer (as_tiles nrows ncols row_tile_ptr.now masks.now value_offsets.now metas.now values.now matrix_nnz) x.now (length y.old)) (tiles_product (as_tiles nrows ncols row_tile_ptr.now masks.now value_offsets.now metas.now values.now matrix_nnz) x.now) y.old }
+pub fn apply(tiles: AbtmMatrix, x: &[f64], y: &mut [f64]) -> Result<(), HybitError>
+    ensures answer { told result ≡ apply_tiles_answer (lent_tiles tiles.entry) x.now (length y.old) }
+    ensures product { y.new ≡ kept (apply_tiles_answer (lent_tiles tiles.entry) x.now (length y.old)) (tiles_product (lent_tiles tiles.entry) x.now) y.old }
 {
-    examine_apply(
-        nrows,
-        ncols,
-        row_tile_ptr,
-        masks,
-        value_offsets,
-        metas,
-        values,
-        matrix_nnz,
-        x,
-        y.len(),
-    )?;
-    fill_product(
-        nrows,
-        ncols,
-        row_tile_ptr,
-        masks,
-        value_offsets,
-        metas,
-        values,
-        matrix_nnz,
-        x,
-        y,
-    );
+    examine_apply(tiles, x, y.len())?;
+    fill_product(tiles, x, y);
     Ok(())
 }

@@ -33,7 +33,6 @@ use Rattle.abtm_values.specs.Values.{is_zero, merged_nonzero}
 use Rattle.abtm.specs.Tiles.{Tile, Tiles, tile_of, row_tiles_of, masks_of, slots_of, tiles_of}
 use Rattle.abtm.specs.Calls.{threshold_answer}
 use Rattle.abtm.proofs.PlaceLaws.{laid_long}
-use Rattle.abtm_build.specs.declared.Cursor.{Cursor}
 use Rattle.abtm_build.specs.declared.TilesSize.{TilesSize}
 use Rattle.abtm_build.specs.Build.{tiles_from, TileRoom, as_tile_room, fits_tiles, before_answer, tile_answer, as_tiles_size, used_tiles}
 use Rattle.abtm_build.specs.Written.{row_of, Held, Rows}
@@ -210,7 +209,7 @@ module _ (m : Csr) (h : AbtmConfig) (op om oo ok : List ℕ) (ov : List Float) (
         ∙ ap (λ (x : Bool). demand x 13) e
 
     -- the rows are written to the fronts of the lists, of `some` and `many` places
-    module _ (tiles slots : ℕ) (et : tiles ≡ min (min (length om) (length oo)) (min (length ok) (2 ^ 24))) (es : slots ≡ min (length ov) (2 ^ 30)) (at : Cursor) (op1 om1 oo1 ok1 : List ℕ) (ov1 : List Float)
+    module _ (tiles slots : ℕ) (et : tiles ≡ min (min (length om) (length oo)) (min (length ok) (2 ^ 24))) (es : slots ≡ min (length ov) (2 ^ 30)) (at : TilesSize) (op1 om1 oo1 ok1 : List ℕ) (ov1 : List Float)
         (f : Rows (row_of m h) m.rows at op1 om1 oo1 ok1 ov1) (lp : length op1 ≡ length op) (lm : length om1 ≡ length (take tiles om)) (lo : length oo1 ≡ length (take tiles oo)) (lk : length ok1 ≡ length (take tiles ok)) (lv : length ov1 ≡ length (take slots ov)) where
       masks_room : length om1 ≡ tiles
       masks_room = omega (arith, length-take tiles om)
@@ -250,13 +249,13 @@ module _ (m : Csr) (h : AbtmConfig) (op om oo ok : List ℕ) (ov : List Float) (
       from_few_tiles op2 om2 oo2 ok2 ov2 l =
           short op2 om2 oo2 ok2 ov2 (no_tiles m h (length op) (length om) (length oo) (length ok) (length ov) (omega (arith, f.tiles_are, tiles_few m h good)))
 
-      pub from_few_slots : (op2 om2 oo2 ok2 : List ℕ) (ov2 : List Float) → slots < at.slots → op2 ≡ padded 0 (length op1) [] → om2 ≡ padded 0 (length (om1 ++ drop tiles om)) []
+      pub from_few_slots : (op2 om2 oo2 ok2 : List ℕ) (ov2 : List Float) → slots < at.value_slots → op2 ≡ padded 0 (length op1) [] → om2 ≡ padded 0 (length (om1 ++ drop tiles om)) []
           → oo2 ≡ padded 0 (length (oo1 ++ drop tiles oo)) [] → ok2 ≡ padded 0 (length (ok1 ++ drop tiles ok)) [] → ov2 ≡ padded zero64 (length (ov1 ++ drop slots ov)) []
           → Outcome whole (refuses (paper ShortList)) (tiles_from m h) room op2 om2 oo2 ok2 ov2
       from_few_slots op2 om2 oo2 ok2 ov2 l =
           short op2 om2 oo2 ok2 ov2 (no_slots m h (length op) (length om) (length oo) (length ok) (length ov) (omega (arith, f.slots_are, slots_few_in m h good)))
 
-      module _ (l : at.tiles ≤ tiles) (g : at.slots ≤ slots) where
+      module _ (l : at.tiles ≤ tiles) (g : at.value_slots ≤ slots) where
         held : Held (row_of m h) m.rows at op1 om1 oo1 ok1 ov1
         held = f.fits (omega (arith, masks_room)) (omega (arith, vals-room))
 
@@ -278,17 +277,17 @@ module _ (m : Csr) (h : AbtmConfig) (op om oo ok : List ℕ) (ov : List Float) (
         unfolding tiles_from tiles_of
         metas_are = take-append-le at.tiles ok1 (drop tiles ok) (omega (arith, metas_room)) ∙ held.metas_are
 
-        vals_are : take at.slots (ov1 ++ drop slots ov) ≡ (tiles_from m h).vals
+        vals_are : take at.value_slots (ov1 ++ drop slots ov) ≡ (tiles_from m h).vals
         unfolding tiles_from tiles_of
-        vals_are = take-append-le at.slots ov1 (drop slots ov) (omega (arith, vals-room)) ∙ held.vals_are
+        vals_are = take-append-le at.value_slots ov1 (drop slots ov) (omega (arith, vals-room)) ∙ held.vals_are
 
         pub from-built : (op2 om2 oo2 ok2 : List ℕ) (ov2 : List Float) (w : ℕ) → w ≡ at.tiles % 2 ^ 32
             → op2 ≡ padded 0 (length (set op1 m.rows w)) (take (m.rows + 1) (set op1 m.rows w)) → om2 ≡ padded 0 (length (om1 ++ drop tiles om)) (take at.tiles (om1 ++ drop tiles om))
             → oo2 ≡ padded 0 (length (oo1 ++ drop tiles oo)) (take at.tiles (oo1 ++ drop tiles oo)) → ok2 ≡ padded 0 (length (ok1 ++ drop tiles ok)) (take at.tiles (ok1 ++ drop tiles ok))
-            → ov2 ≡ padded zero64 (length (ov1 ++ drop slots ov)) (take at.slots (ov1 ++ drop slots ov))
-            → Outcome whole (gives (as_tiles_size at.tiles at.slots at.nnz)) (tiles_from m h) room op2 om2 oo2 ok2 ov2
+            → ov2 ≡ padded zero64 (length (ov1 ++ drop slots ov)) (take at.value_slots (ov1 ++ drop slots ov))
+            → Outcome whole (gives (as_tiles_size at.tiles at.value_slots at.matrix_nnz)) (tiles_from m h) room op2 om2 oo2 ok2 ov2
         from-built op2 om2 oo2 ok2 ov2 w ew x y z u q =
-            success whole (tiles_from m h) at.tiles at.slots at.nnz room op2 om2 oo2 ok2 ov2
+            success whole (tiles_from m h) at.tiles at.value_slots at.matrix_nnz room op2 om2 oo2 ok2 ov2
             (decides true (has_room m h (length op) (length om) (length oo) (length ok) (length ov) pointers_fit (omega (arith, f.tiles_are)) (omega (arith, f.tiles_are)) (omega (arith, f.tiles_are)) (omega (arith, f.slots_are))))
             (f.tiles_are ∙ sym (mask_long m h)) (f.slots_are ∙ sym (vals_long m h)) (f.nnz_are ∙ nnz_is m h)
             (x ∙ ap₂ (λ (i : ℕ) (s : List ℕ). padded 0 i s) (length-set op1 m.rows w ∙ lp) (starts_are w ew))

@@ -21,7 +21,7 @@ use Rattle.topology.proofs.CallLaws.{bits_le}
 use Rattle.abtm.specs.declared.AbtmConfig.{AbtmConfig}
 use Rattle.abtm_values.specs.Values.{is_zero}
 use Rattle.abtm.specs.Tiles.{Tile, places_of, places, kind_of, meta_of, tile_of, laid, masks_of}
-use Rattle.abtm_build.specs.declared.Cursor.{Cursor}
+use Rattle.abtm_build.specs.declared.TilesSize.{TilesSize}
 use Rattle.abtm_build.specs.Window.{mask_at, hit_at, tiles_between, window_value, Marked}
 use Rattle.abtm_build.specs.Written.{Laid, Wrote, Bounded, Lists}
 use Rattle.abtm_build.proofs.RowsLaws.{slots_few}
@@ -34,32 +34,32 @@ appended_one {A} from to old v w e t h =
     subst (λ (n : ℕ). Appended (w ∷ []) from n old (set old from v)) (sym t)
     (subst (λ (x : A). Appended (x ∷ []) from (from + 1) old (set old from v)) e (appended_snoc [] from from old old v (appended_none from old) h))
 
-module _ (e : Tile) (at next : Cursor) where
+module _ (e : Tile) (at next : TilesSize) where
   -- the counts after one tile
   pub record Counted : Type 0 where
     pub tiles_next : next.tiles ≡ at.tiles + 1
-    pub slots_next : next.slots ≡ at.slots + length e.slots
-    pub nnz_next : next.nnz ≡ at.nnz + count (has e.mask) 64
+    pub slots_next : next.value_slots ≡ at.value_slots + length e.slots
+    pub nnz_next : next.matrix_nnz ≡ at.matrix_nnz + count (has e.mask) 64
 
   wrote_one : (ms₀ ms os₀ os ks₀ ks : List ℕ) (vs₀ vs : List Float) → Counted
-      → (next.tiles ≤ length ms₀ → next.slots ≤ length vs₀ → Laid (e ∷ []) at next ms₀ ms os₀ os ks₀ ks vs₀ vs) → Wrote (e ∷ []) at next ms₀ ms os₀ os ks₀ ks vs₀ vs
+      → (next.tiles ≤ length ms₀ → next.value_slots ≤ length vs₀ → Laid (e ∷ []) at next ms₀ ms os₀ os ks₀ ks vs₀ vs) → Wrote (e ∷ []) at next ms₀ ms os₀ os ks₀ ks vs₀ vs
   unfolding spread
   wrote_one ms₀ ms os₀ os ks₀ ks vs₀ vs c f = record {
     tiles_are = c.tiles_next;
-    slots_are = c.slots_next ∙ ap (λ (l : List Float). at.slots + length l) (sym (append-nil e.slots));
-    nnz_are = c.nnz_next ∙ ap (λ (n : ℕ). at.nnz + n) (sym (bits_one e.mask));
+    slots_are = c.slots_next ∙ ap (λ (l : List Float). at.value_slots + length l) (sym (append-nil e.slots));
+    nnz_are = c.nnz_next ∙ ap (λ (n : ℕ). at.matrix_nnz + n) (sym (bits_one e.mask));
     fits = f;
   }
 
-  laid_one : (ms os ks : List ℕ) (vs out : List Float) (mask offset meta : ℕ) → Counted → mask ≡ e.mask → offset ≡ at.slots → meta ≡ e.meta
-      → at.tiles < length ms → at.tiles < length os → at.tiles < length ks → Appended e.slots at.slots next.slots vs out
+  laid_one : (ms os ks : List ℕ) (vs out : List Float) (mask offset meta : ℕ) → Counted → mask ≡ e.mask → offset ≡ at.value_slots → meta ≡ e.meta
+      → at.tiles < length ms → at.tiles < length os → at.tiles < length ks → Appended e.slots at.value_slots next.value_slots vs out
       → Laid (e ∷ []) at next ms (set ms at.tiles mask) os (set os at.tiles offset) ks (set ks at.tiles meta) vs out
   unfolding spread laid
   laid_one ms os ks vs out mask offset meta c a b d k l m w = record {
     masks_are = appended_one at.tiles next.tiles ms mask e.mask a c.tiles_next k;
-    offsets_are = appended_one at.tiles next.tiles os offset at.slots b c.tiles_next l;
+    offsets_are = appended_one at.tiles next.tiles os offset at.value_slots b c.tiles_next l;
     metas_are = appended_one at.tiles next.tiles ks meta e.meta d c.tiles_next m;
-    vals_are = subst (λ (new : List Float). Appended new at.slots next.slots vs out) (sym (append-nil e.slots)) w;
+    vals_are = subst (λ (new : List Float). Appended new at.value_slots next.value_slots vs out) (sym (append-nil e.slots)) w;
   }
 
 -- ---- the tile of word n, whose mask is that of its 64 sums
@@ -105,19 +105,19 @@ module _ (h : AbtmConfig) (n : ℕ) (sums : List Float) (mask : ℕ) where
             between_cons (hit_at (window_value (64 * n) sums)) n (n + 1) (omega arith)
             ∙ ap₂ (λ (t : Bool) (l : List ℕ). cons_if t n l) (ap (λ (k : ℕ). not (eqb k 0)) mask-here ∙ ap not (ne_eqb mask 0 some)) (between_none (hit_at (window_value (64 * n) sums)) (suc n) (n + 1) (λ w l u. absurd (omega arith)))
 
-    pub word_none : mask ≡ 0 → (at : Cursor) (ms os ks : List ℕ) (vs : List Float) → Wrote (tiles_between h (window_value (64 * n) sums) n (n + 1)) at at ms ms os os ks ks vs vs
+    pub word_none : mask ≡ 0 → (at : TilesSize) (ms os ks : List ℕ) (vs : List Float) → Wrote (tiles_between h (window_value (64 * n) sums) n (n + 1)) at at ms ms os os ks ks vs vs
     word_none z at ms os ks vs = wrote_as [] (tiles_between h (window_value (64 * n) sums) n (n + 1)) at at ms ms os os ks ks vs vs (sym (no_tile z)) (wrote_none at ms os ks vs)
 
     -- the counts as the code finds them
-    module _ (some : mask ≡ 0 → ⊥) (small : n < 2 ^ 30) (nnz kind low slots : ℕ) (b : nnz ≡ count (has mask) 64) (k : kind ≡ kind_of h nnz) (o : low ≡ n % 2 ^ 32) (s : slots ≡ length (places mask (kind * 1073741824 + low))) (at next : Cursor)
-        (t : next.tiles ≡ at.tiles + 1) (u : next.slots ≡ at.slots + slots) (w : next.nnz ≡ at.nnz + nnz) where
+    module _ (some : mask ≡ 0 → ⊥) (small : n < 2 ^ 30) (nnz kind low slots : ℕ) (b : nnz ≡ count (has mask) 64) (k : kind ≡ kind_of h nnz) (o : low ≡ n % 2 ^ 32) (s : slots ≡ length (places mask (kind * 1073741824 + low))) (at next : TilesSize)
+        (t : next.tiles ≡ at.tiles + 1) (u : next.value_slots ≡ at.value_slots + slots) (w : next.matrix_nnz ≡ at.matrix_nnz + nnz) where
       kind_is : kind ≡ kind_of h (count (has mask) 64)
       kind_is = k ∙ ap (kind_of h) b
 
       word_kind : (kind * 1073741824 + low) / 2 ^ 30 ≡ kind
       word_kind = omega arith
 
-      pub word_room : (room : ℕ) → next.slots ≤ room → at.slots + length (places_of kind mask) ≤ room
+      pub word_room : (room : ℕ) → next.value_slots ≤ room → at.value_slots + length (places_of kind mask) ≤ room
       word_room room l = let q : slots ≡ length (places_of kind mask) = s ∙ ap (λ (j : ℕ). length (places_of j mask)) word_kind in omega arith
 
       slots_is : slots ≡ length tile_here.slots
@@ -126,36 +126,36 @@ module _ (h : AbtmConfig) (n : ℕ) (sums : List Float) (mask : ℕ) where
           ∙ sym (length-map (places_of (kind_of h (count (has mask) 64)) mask) (λ i. cond (has mask i) (get_or sums i nan) zero64))
 
       counted : Counted tile_here at next
-      counted = record { tiles_next = t; slots_next = u ∙ ap (λ (j : ℕ). at.slots + j) slots_is; nnz_next = w ∙ ap (λ (j : ℕ). at.nnz + j) b }
+      counted = record { tiles_next = t; slots_next = u ∙ ap (λ (j : ℕ). at.value_slots + j) slots_is; nnz_next = w ∙ ap (λ (j : ℕ). at.matrix_nnz + j) b }
 
-      as_word : (ms₀ ms os₀ os ks₀ ks : List ℕ) (vs₀ vs : List Float) → (next.tiles ≤ length ms₀ → next.slots ≤ length vs₀ → Laid (tile_here ∷ []) at next ms₀ ms os₀ os ks₀ ks vs₀ vs)
+      as_word : (ms₀ ms os₀ os ks₀ ks : List ℕ) (vs₀ vs : List Float) → (next.tiles ≤ length ms₀ → next.value_slots ≤ length vs₀ → Laid (tile_here ∷ []) at next ms₀ ms os₀ os ks₀ ks vs₀ vs)
           → Wrote (tiles_between h (window_value (64 * n) sums) n (n + 1)) at next ms₀ ms os₀ os ks₀ ks vs₀ vs
       as_word ms₀ ms os₀ os ks₀ ks vs₀ vs f = wrote_as (tile_here ∷ []) (tiles_between h (window_value (64 * n) sums) n (n + 1)) at next ms₀ ms os₀ os ks₀ ks vs₀ vs (sym (one-tile some small)) (wrote_one tile_here at next ms₀ ms os₀ os ks₀ ks vs₀ vs counted f)
 
       -- no room
-      pub word_full : (ms os ks : List ℕ) (vs : List Float) → (next.tiles ≤ length ms → next.slots ≤ length vs → ⊥) → Wrote (tiles_between h (window_value (64 * n) sums) n (n + 1)) at next ms ms os os ks ks vs vs
+      pub word_full : (ms os ks : List ℕ) (vs : List Float) → (next.tiles ≤ length ms → next.value_slots ≤ length vs → ⊥) → Wrote (tiles_between h (window_value (64 * n) sums) n (n + 1)) at next ms ms os os ks ks vs vs
       word_full ms os ks vs f = as_word ms ms os os ks ks vs vs (λ a b. absurd (f a b))
 
       -- written
-      pub word_some : (ms os ks : List ℕ) (vs out : List Float) (offset : ℕ) → Lists (length ms) (length os) (length ks) (length vs) → next.tiles ≤ length ms → next.slots ≤ length vs → offset ≡ at.slots % 2 ^ 32
-          → Appended (map (λ i. cond (has mask i) (get_or sums i nan) zero64) (places_of kind mask)) at.slots (at.slots + length (places_of kind mask)) vs out
+      pub word_some : (ms os ks : List ℕ) (vs out : List Float) (offset : ℕ) → Lists (length ms) (length os) (length ks) (length vs) → next.tiles ≤ length ms → next.value_slots ≤ length vs → offset ≡ at.value_slots % 2 ^ 32
+          → Appended (map (λ i. cond (has mask i) (get_or sums i nan) zero64) (places_of kind mask)) at.value_slots (at.value_slots + length (places_of kind mask)) vs out
           → Wrote (tiles_between h (window_value (64 * n) sums) n (n + 1)) at next ms (set ms at.tiles mask) os (set os at.tiles offset) ks (set ks at.tiles (kind * 1073741824 + low)) vs out
       unfolding meta_of
       word_some ms os ks vs out offset l x y f a =
           let few : length vs ≤ 2 ^ 30 = l.few_slots in
           let same-os : length os ≡ length ms = l.offsets_same in
           let same-ks : length ks ≡ length ms = l.metas_same in
-          let g : offset ≡ at.slots = omega arith in
+          let g : offset ≡ at.value_slots = omega arith in
           let d : kind * 1073741824 + low ≡ kind_of h (count (has mask) 64) * 2 ^ 30 + n = ap (λ (j : ℕ). j * 1073741824 + low) kind_is ∙ ap (λ (j : ℕ). kind_of h (count (has mask) 64) * 2 ^ 30 + j) (omega arith) in
-          let q : at.slots + length (places_of kind mask) ≡ next.slots = ap (λ (j : ℕ). at.slots + j) (ap (λ (j : ℕ). length (places_of j mask)) (sym word_kind) ∙ sym s) ∙ sym u in
+          let q : at.value_slots + length (places_of kind mask) ≡ next.value_slots = ap (λ (j : ℕ). at.value_slots + j) (ap (λ (j : ℕ). length (places_of j mask)) (sym word_kind) ∙ sym s) ∙ sym u in
           as_word ms (set ms at.tiles mask) os (set os at.tiles offset) ks (set ks at.tiles (kind * 1073741824 + low)) vs out
           (λ _ _. laid_one tile_here at next ms os ks vs out mask offset (kind * 1073741824 + low) counted refl g d (omega arith) (omega arith) (omega arith)
-          (subst (λ (j : ℕ). Appended (map (λ i. cond (has mask i) (get_or sums i nan) zero64) (places_of j mask)) at.slots next.slots vs out) kind_is
-          (subst (λ (j : ℕ). Appended (map (λ i. cond (has mask i) (get_or sums i nan) zero64) (places_of kind mask)) at.slots j vs out) q a)))
+          (subst (λ (j : ℕ). Appended (map (λ i. cond (has mask i) (get_or sums i nan) zero64) (places_of j mask)) at.value_slots next.value_slots vs out) kind_is
+          (subst (λ (j : ℕ). Appended (map (λ i. cond (has mask i) (get_or sums i nan) zero64) (places_of kind mask)) at.value_slots j vs out) q a)))
 
 -- ---- the tiles of the words from a up to b are written
 
-pub record Emitting (h : AbtmConfig) (v : ℕ → Float) (a b : ℕ) (from at : Cursor) (ms₀ ms os₀ os ks₀ ks : List ℕ) (vs₀ vs : List Float) : Type 0 where
+pub record Emitting (h : AbtmConfig) (v : ℕ → Float) (a b : ℕ) (from at : TilesSize) (ms₀ ms os₀ os ks₀ ks : List ℕ) (vs₀ vs : List Float) : Type 0 where
   pub ordered : a ≤ b
   pub wrote : Wrote (tiles_between h v a b) from at ms₀ ms os₀ os ks₀ ks vs₀ vs
   pub same_masks : length ms ≡ length ms₀
@@ -170,7 +170,7 @@ between_le p a b o =
     omega (arith, l, length-below-le (λ i. p (a + i)) (b - a))
 
 module _ (h : AbtmConfig) (v : ℕ → Float) (a : ℕ) where
-  pub emitting_none : (b : ℕ) (at : Cursor) (ms os ks : List ℕ) (vs : List Float) → b ≡ a → Emitting h v a b at at ms ms os os ks ks vs vs
+  pub emitting_none : (b : ℕ) (at : TilesSize) (ms os ks : List ℕ) (vs : List Float) → b ≡ a → Emitting h v a b at at ms ms os os ks ks vs vs
   emitting_none b at ms os ks vs e = record {
     ordered = omega arith;
     wrote = wrote_as [] (tiles_between h v a b) at at ms ms os os ks ks vs vs (sym (tiles_skip h v a b (λ c l u. absurd (omega arith)))) (wrote_none at ms os ks vs);
@@ -180,7 +180,7 @@ module _ (h : AbtmConfig) (v : ℕ → Float) (a : ℕ) where
     same_vals = refl;
   }
 
-  module _ (m : ℕ) (from mid : Cursor) (ms₀ ms₁ os₀ os₁ ks₀ ks₁ : List ℕ) (vs₀ vs₁ : List Float) (inv : Emitting h v a m from mid ms₀ ms₁ os₀ os₁ ks₀ ks₁ vs₀ vs₁) where
+  module _ (m : ℕ) (from mid : TilesSize) (ms₀ ms₁ os₀ os₁ ks₀ ks₁ : List ℕ) (vs₀ vs₁ : List Float) (inv : Emitting h v a m from mid ms₀ ms₁ os₀ os₁ ks₀ ks₁ vs₀ vs₁) where
     pub emitting_done : (b : ℕ) → m ≡ b → Wrote (tiles_between h v a b) from mid ms₀ ms₁ os₀ os₁ ks₀ ks₁ vs₀ vs₁
     emitting_done b e = wrote_as (tiles_between h v a m) (tiles_between h v a b) from mid ms₀ ms₁ os₀ os₁ ks₀ ks₁ vs₀ vs₁ (ap (tiles_between h v a) e) inv.wrote
 
@@ -197,7 +197,7 @@ module _ (h : AbtmConfig) (v : ℕ → Float) (a : ℕ) where
     }
 
     -- the words from m up to b, which a callee wrote
-    pub emitting_more : (u : ℕ → Float) (k n b : ℕ) (to : Cursor) (ms₂ os₂ ks₂ : List ℕ) (vs₂ : List Float) → k ≡ m → n ≡ b → m ≤ b → ((c : ℕ) → 64 * m ≤ c → c < 64 * b → u c ≡ v c)
+    pub emitting_more : (u : ℕ → Float) (k n b : ℕ) (to : TilesSize) (ms₂ os₂ ks₂ : List ℕ) (vs₂ : List Float) → k ≡ m → n ≡ b → m ≤ b → ((c : ℕ) → 64 * m ≤ c → c < 64 * b → u c ≡ v c)
         → length ms₂ ≡ length ms₁ → length os₂ ≡ length os₁ → length ks₂ ≡ length ks₁ → length vs₂ ≡ length vs₁
         → Wrote (tiles_between h u k n) mid to ms₁ ms₂ os₁ os₂ ks₁ ks₂ vs₁ vs₂ → Emitting h v a b from to ms₀ ms₂ os₀ os₂ ks₀ ks₂ vs₀ vs₂
     emitting_more u k n b to ms₂ os₂ ks₂ vs₂ e f o same lm lo lk lv w = record {

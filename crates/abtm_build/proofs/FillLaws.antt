@@ -20,7 +20,7 @@ use Rattle.csr32.proofs.MergedLaws.{merged_absent}
 use Rattle.abtm.specs.declared.AbtmConfig.{AbtmConfig}
 use Rattle.abtm_values.specs.Values.{is_zero, merged_nonzero}
 use Rattle.abtm.specs.Tiles.{row_tiles_of}
-use Rattle.abtm_build.specs.declared.Cursor.{Cursor}
+use Rattle.abtm_build.specs.declared.TilesSize.{TilesSize}
 use Rattle.abtm_build.specs.Window.{tiles_between, window_value, Sized, Next}
 use Rattle.abtm_build.specs.Written.{Wrote}
 use Rattle.abtm_build.proofs.WroteLaws.{wrote_as, tiles_row}
@@ -80,7 +80,7 @@ module _ (h : AbtmConfig) (cs : List ℕ) (vs : List Float) (same : length vs �
     pub passed_more : Passed (merged_nonzero (zip cs vs)) next
     passed_more = record { zeros = λ c l u. found.none c (omega (arith, found.after)) u }
 
-    module _ (sums : List Float) (e : sums ≡ each (λ i. merged_nonzero (zip cs vs) (64 * m + i)) width) (from mid to : Cursor) (ms₀ ms₁ ms₂ os₀ os₁ os₂ ks₀ ks₁ ks₂ : List ℕ) (vals₀ vals₁ vals₂ : List Float) where
+    module _ (sums : List Float) (e : sums ≡ each (λ i. merged_nonzero (zip cs vs) (64 * m + i)) width) (from mid to : TilesSize) (ms₀ ms₁ ms₂ os₀ os₁ os₂ ks₀ ks₁ ks₂ : List ℕ) (vals₀ vals₁ vals₂ : List Float) where
       pub filling_more : Emitting h (merged_nonzero (zip cs vs)) 0 m from mid ms₀ ms₁ os₀ os₁ ks₀ ks₁ vals₀ vals₁
           → length ms₂ ≡ length ms₁ → length os₂ ≡ length os₁ → length ks₂ ≡ length ks₁ → length vals₂ ≡ length vals₁
           → (k : ℕ) → k ≡ n → Wrote (tiles_between h (window_value (64 * m) sums) m (m + k)) mid to ms₁ ms₂ os₁ os₂ ks₁ ks₂ vals₁ vals₂
@@ -92,7 +92,7 @@ module _ (h : AbtmConfig) (cs : List ℕ) (vs : List Float) (same : length vs �
           (λ c l u. window_value_lem cs vs same (64 * m) width sums e c l (omega arith)) lm lo lk lv w)
           (next / 64) (omega (arith, found.after)) (λ c l u. found.none c (omega arith) (omega arith))
 
-  pub filling_done : (cols next : ℕ) → every (λ c. ltb c cols) cs ≡ true → cols ≤ next → Passed (merged_nonzero (zip cs vs)) next → (from at : Cursor) (ms₀ ms os₀ os ks₀ ks : List ℕ) (vals₀ vals : List Float)
+  pub filling_done : (cols next : ℕ) → every (λ c. ltb c cols) cs ≡ true → cols ≤ next → Passed (merged_nonzero (zip cs vs)) next → (from at : TilesSize) (ms₀ ms os₀ os ks₀ ks : List ℕ) (vals₀ vals : List Float)
       → Emitting h (merged_nonzero (zip cs vs)) 0 (next / 64) from at ms₀ ms os₀ os ks₀ ks vals₀ vals
       → Wrote (row_tiles_of h cols (λ c. not (is_zero (merged_nonzero (zip cs vs) c))) (merged_nonzero (zip cs vs))) from at ms₀ ms os₀ os ks₀ ks vals₀ vals
   filling_done cols next inside past p from at ms₀ ms os₀ os ks₀ ks vals₀ vals inv =

@@ -1,8 +1,8 @@
 -- Laws of one row of tiles after the others, and of all rows. Assumes nothing.
 use mathlib.Core.Bool.{Bool, not, cond}
-use mathlib.Core.List.{List, [], ◌∷◌, ◌++◌, map, map-append}
+use mathlib.Core.List.{List, [], ◌∷◌, ◌++◌, map, map-append, zip}
 use mathlib.Core.Path.{◌≡◌, refl, sym, ap, ap₂, ◌∙◌, subst}
-use Prim.Native.Nat.{ℕ, suc, ◌+◌, ◌-◌, ◌*◌, ◌/◌, ◌%◌, ◌^◌, ◌≤◌, ◌<◌, zero-le}
+use Prim.Native.Nat.{ℕ, suc, ◌+◌, ◌*◌, ◌/◌, ◌%◌, ◌^◌, ◌≤◌, ◌<◌, zero-le}
 use native.Mathlib.Nat.{mod-eq_of_lt}
 use native.Mathlib.Numerals.{add-one}
 use native.Mathlib.Omega.{arith}
@@ -10,7 +10,7 @@ use lib.Ieee.{Float}
 use lib.ListN.{length, set, length-set, length-append, length-map}
 use lib.Seq.{take-suc-set}
 use Rattle.hybit_core.specs.Floats.{zero64}
-use Rattle.lent.specs.Lists.{joined, each, spread}
+use Rattle.lent.specs.Lists.{joined, each, spread, part}
 use Rattle.lent.proofs.ListLaws.{spread-append}
 use Rattle.word.specs.Bits.{has, mask_of, hit, words_of, ceil64}
 use Rattle.word.proofs.BelowLaws.{length-below-le}
@@ -22,9 +22,15 @@ use Rattle.abtm.specs.declared.AbtmConfig.{AbtmConfig}
 use Rattle.abtm_values.specs.Values.{is_zero, merged_nonzero}
 use Rattle.abtm.specs.Tiles.{Tile, places_of, meta_of, tile_of, row_tiles_of, laid, masks_of, metas_of, offsets_of, slots_of}
 use Rattle.abtm.proofs.PlaceLaws.{places-few}
-use Rattle.abtm_build.specs.declared.Cursor.{Cursor}
+use Rattle.abtm_build.specs.declared.TilesSize.{TilesSize}
 use Rattle.abtm_build.specs.Written.{Wrote, Bounded, row_of, Held, Rows}
 use Rattle.abtm_build.proofs.WroteLaws.{slots_append, masks_append, offsets_append}
+
+-- ---- the entries of a row
+
+pub entries_as : (m : Csr) (r : ℕ) (cs : List ℕ) (vs : List Float) → cs ≡ part m.ptr m.col r → vs ≡ part m.ptr m.val r → zip cs vs ≡ entries m r
+unfolding entries
+entries_as m r cs vs p q = ap₂ (λ (a : List ℕ) (b : List Float). zip a b) p q
 
 -- ---- a tile takes at most 64 values
 
@@ -50,7 +56,7 @@ module _ (h : AbtmConfig) (cols : ℕ) (p : ℕ → Bool) (v : ℕ → Float) wh
 
 -- ---- the first r rows are written
 
-pub record Filling (m : Csr) (h : AbtmConfig) (out₀ ms₀ os₀ ks₀ : List ℕ) (vs₀ : List Float) (r : ℕ) (at : Cursor) (out ms os ks : List ℕ) (vs : List Float) : Type 0 where
+pub record Filling (m : Csr) (h : AbtmConfig) (out₀ ms₀ os₀ ks₀ : List ℕ) (vs₀ : List Float) (r : ℕ) (at : TilesSize) (out ms os ks : List ℕ) (vs : List Float) : Type 0 where
   pub inside : r ≤ m.rows
   pub same_out : length out ≡ length out₀
   pub same_masks : length ms ≡ length ms₀
@@ -60,8 +66,8 @@ pub record Filling (m : Csr) (h : AbtmConfig) (out₀ ms₀ os₀ ks₀ : List �
   pub bounded : Bounded (r * 2 ^ 15) at
   pub rows_are : Rows (row_of m h) r at out ms os ks vs
 
-abbrev pub start : Cursor
-start = record { tiles = 0; slots = 0; nnz = 0 }
+abbrev pub start : TilesSize
+start = record { tiles = 0; value_slots = 0; matrix_nnz = 0 }
 
 module _ (m : Csr) (h : AbtmConfig) (out₀ ms₀ os₀ ks₀ : List ℕ) (vs₀ : List Float) where
   pub filling_none : Filling m h out₀ ms₀ os₀ ks₀ vs₀ 0 start out₀ ms₀ os₀ ks₀ vs₀
@@ -77,7 +83,7 @@ module _ (m : Csr) (h : AbtmConfig) (out₀ ms₀ os₀ ks₀ : List ℕ) (vs₀
     rows_are = record { tiles_are = refl; slots_are = refl; nnz_are = refl; fits = λ l k. record { starts_are = refl; masks_are = refl; offsets_are = refl; metas_are = refl; vals_are = refl } };
   }
 
-  module _ (ok : Valid m) (r : ℕ) (at : Cursor) (out ms os ks : List ℕ) (vs : List Float) (inv : Filling m h out₀ ms₀ os₀ ks₀ vs₀ r at out ms os ks vs) where
+  module _ (ok : Valid m) (r : ℕ) (at : TilesSize) (out ms os ks : List ℕ) (vs : List Float) (inv : Filling m h out₀ ms₀ os₀ ks₀ vs₀ r at out ms os ks vs) where
     pub filling_done : m.rows ≤ r → Rows (row_of m h) m.rows at out ms os ks vs
     filling_done l = let e : r ≡ m.rows = omega (arith, inv.inside) in subst (λ (n : ℕ). Rows (row_of m h) n at out ms os ks vs) e inv.rows_are
 
@@ -88,7 +94,7 @@ module _ (m : Csr) (h : AbtmConfig) (out₀ ms₀ os₀ ks₀ : List ℕ) (vs₀
       nnz_in = omega (arith, inv.bounded.nnz_in, inv.inside, ok.rows_in);
     }
 
-    module _ (l : r < m.rows) (es : List Entry) (e : es ≡ entries m r) (to : Cursor) (ms' os' ks' : List ℕ) (vs' : List Float)
+    module _ (l : r < m.rows) (es : List Entry) (e : es ≡ entries m r) (to : TilesSize) (ms' os' ks' : List ℕ) (vs' : List Float)
         (w₀ : Wrote (row_tiles_of h m.cols (λ c. not (is_zero (merged_nonzero es c))) (merged_nonzero es)) at to ms ms' os os' ks ks' vs vs') where
       abbrev ts : ℕ → List Tile
       ts = row_of m h
@@ -107,7 +113,7 @@ module _ (m : Csr) (h : AbtmConfig) (out₀ ms₀ os₀ ks₀ : List ℕ) (vs₀
       old = inv.rows_are
 
       module _ (v : ℕ) (ev : v ≡ at.tiles % 2 ^ 32) (few : length ms₀ ≤ 2 ^ 24) (ho : m.rows ≤ length out₀) (sm : length ms' ≡ length ms) (sv : length vs' ≡ length vs) where
-        held : to.tiles ≤ length ms' → to.slots ≤ length vs' → Held (row_of m h) (suc r) to (set out r v) ms' os' ks' vs'
+        held : to.tiles ≤ length ms' → to.value_slots ≤ length vs' → Held (row_of m h) (suc r) to (set out r v) ms' os' ks' vs'
         unfolding joined each
         held a b =
             let f = wrote.fits (omega (arith, sm, a)) (omega (arith, sv, b)) in
@@ -118,7 +124,7 @@ module _ (m : Csr) (h : AbtmConfig) (out₀ ms₀ os₀ ks₀ : List ℕ) (vs₀
               masks_are = f.masks_are.list ∙ ap (λ (l : List ℕ). l ++ masks_of (ts r)) g.masks_are ∙ sym (map-append (λ (e : Tile). e.mask) (joined ts r) (ts r));
               offsets_are =
                   f.offsets_are.list
-                  ∙ ap₂ (λ (l : List ℕ) (n : ℕ). l ++ offsets_of n (ts r)) g.offsets_are (let z : at.slots ≡ 0 + length (slots_of (joined ts r)) = omega (arith, old.slots_are) in z)
+                  ∙ ap₂ (λ (l : List ℕ) (n : ℕ). l ++ offsets_of n (ts r)) g.offsets_are (let z : at.value_slots ≡ 0 + length (slots_of (joined ts r)) = omega (arith, old.slots_are) in z)
                   ∙ sym (offsets_append 0 (joined ts r) (ts r));
               metas_are = f.metas_are.list ∙ ap (λ (l : List ℕ). l ++ metas_of (ts r)) g.metas_are ∙ sym (map-append (λ (e : Tile). e.meta) (joined ts r) (ts r));
               vals_are = f.vals_are.list ∙ ap (λ (l : List Float). l ++ slots_of (ts r)) g.vals_are ∙ sym (spread-append (λ (e : Tile). e.slots) (joined ts r) (ts r));

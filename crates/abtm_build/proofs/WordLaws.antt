@@ -1,6 +1,10 @@
 -- Laws of a word's 64 sums: its mask and its values. Assumes nothing.
 use mathlib.Core.Bool.{Bool, true, false, not, cond, ◌&&◌, ◌||◌, or-false, and-true, and-false}
 use mathlib.Core.List.{List, [], ◌∷◌, ◌++◌, map, map-append}
+use mathlib.Core.Logic.{◌⊎◌, inl, inr}
+use Rattle.abtm.specs.declared.TileKind.{TileKind}
+use Rattle.abtm.specs.declared.TileKind.TheVariants as kind
+use Rattle.abtm.specs.Calls.{kind_number}
 use mathlib.Core.Path.{◌≡◌, refl, sym, ap, ap₂, subst, ◌∙◌}
 use Prim.Native.Nat.{ℕ, ◌+◌, ◌≤◌, ◌<◌}
 use native.Mathlib.Numerals.{add-one}
@@ -123,3 +127,8 @@ module _ (kind mask : ℕ) where
     slots_compact d =
         as_places (λ i. get_or sums i nan) (members mask) (from + length (members mask)) (sym (compact_places kind mask d)) (ap (λ (n : ℕ). from + n) (sym (compact_length d)))
         (map_below (λ i. get_or sums i nan) (λ i. cond (has mask i) (get_or sums i nan) zero64) (has mask) 64 (λ i b t. ap (λ (s : Bool). cond s (get_or sums i nan) zero64) (sym t)))
+
+-- a kind that is not Dense, by its number
+pub compact_kind : (k : TileKind) → (k ≡ kind.Sparse) ⊎ (k ≡ kind.Bitmap) → kind_number k ≡ 2 → ⊥
+compact_kind k (inl e) h = omega (arith, ap kind_number e, h)
+compact_kind k (inr e) h = omega (arith, ap kind_number e, h)

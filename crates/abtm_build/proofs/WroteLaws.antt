@@ -24,7 +24,7 @@ use Rattle.abtm_values.specs.Values.{is_zero}
 use Rattle.abtm.specs.Tiles.{Tile, meta_of, tile_of, row_tiles_of, laid, masks_of, metas_of, offsets_of, slots_of}
 use Rattle.abtm.proofs.PlaceLaws.{map-places}
 use Rattle.abtm_values.proofs.ZeroLaws.{zero_is_zero}
-use Rattle.abtm_build.specs.declared.Cursor.{Cursor}
+use Rattle.abtm_build.specs.declared.TilesSize.{TilesSize}
 use Rattle.abtm_build.specs.Window.{mask_at, hit_at, tiles_between}
 use Rattle.abtm_build.specs.Written.{Laid, Wrote}
 
@@ -46,35 +46,35 @@ offsets_append k (e ∷ ts) us =
 
 -- ---- `Wrote`
 
-pub wrote_none : (at : Cursor) (ms os ks : List ℕ) (vs : List Float) → Wrote [] at at ms ms os os ks ks vs vs
+pub wrote_none : (at : TilesSize) (ms os ks : List ℕ) (vs : List Float) → Wrote [] at at ms ms os os ks ks vs vs
 unfolding set_bits spread laid
 wrote_none at ms os ks vs = record {
   tiles_are = sym (add-zero at.tiles);
-  slots_are = sym (add-zero at.slots);
-  nnz_are = sym (add-zero at.nnz);
+  slots_are = sym (add-zero at.value_slots);
+  nnz_are = sym (add-zero at.matrix_nnz);
   fits = λ l m. record {
     masks_are = appended_none at.tiles ms;
     offsets_are = appended_none at.tiles os;
     metas_are = appended_none at.tiles ks;
-    vals_are = appended_none at.slots vs;
+    vals_are = appended_none at.value_slots vs;
   };
 }
 
-module _ (ts us : List Tile) (from mid to : Cursor) (ms₀ ms₁ ms₂ os₀ os₁ os₂ ks₀ ks₁ ks₂ : List ℕ) (vs₀ vs₁ vs₂ : List Float) where
-  laid_join : mid.slots ≡ from.slots + length (slots_of ts) → Laid ts from mid ms₀ ms₁ os₀ os₁ ks₀ ks₁ vs₀ vs₁ → Laid us mid to ms₁ ms₂ os₁ os₂ ks₁ ks₂ vs₁ vs₂ → Laid (ts ++ us) from to ms₀ ms₂ os₀ os₂ ks₀ ks₂ vs₀ vs₂
+module _ (ts us : List Tile) (from mid to : TilesSize) (ms₀ ms₁ ms₂ os₀ os₁ os₂ ks₀ ks₁ ks₂ : List ℕ) (vs₀ vs₁ vs₂ : List Float) where
+  laid_join : mid.value_slots ≡ from.value_slots + length (slots_of ts) → Laid ts from mid ms₀ ms₁ os₀ os₁ ks₀ ks₁ vs₀ vs₁ → Laid us mid to ms₁ ms₂ os₁ os₂ ks₁ ks₂ vs₁ vs₂ → Laid (ts ++ us) from to ms₀ ms₂ os₀ os₂ ks₀ ks₂ vs₀ vs₂
   laid_join e a b = record {
     masks_are =
         subst (λ (l : List ℕ). Appended l from.tiles to.tiles ms₀ ms₂) (sym (map-append (λ (e : Tile). e.mask) ts us))
         (appended_join (masks_of ts) (masks_of us) from.tiles mid.tiles to.tiles ms₀ ms₁ ms₂ a.masks_are b.masks_are);
     offsets_are =
-        subst (λ (l : List ℕ). Appended l from.tiles to.tiles os₀ os₂) (ap (λ (n : ℕ). offsets_of from.slots ts ++ offsets_of n us) e ∙ sym (offsets_append from.slots ts us))
-        (appended_join (offsets_of from.slots ts) (offsets_of mid.slots us) from.tiles mid.tiles to.tiles os₀ os₁ os₂ a.offsets_are b.offsets_are);
+        subst (λ (l : List ℕ). Appended l from.tiles to.tiles os₀ os₂) (ap (λ (n : ℕ). offsets_of from.value_slots ts ++ offsets_of n us) e ∙ sym (offsets_append from.value_slots ts us))
+        (appended_join (offsets_of from.value_slots ts) (offsets_of mid.value_slots us) from.tiles mid.tiles to.tiles os₀ os₁ os₂ a.offsets_are b.offsets_are);
     metas_are =
         subst (λ (l : List ℕ). Appended l from.tiles to.tiles ks₀ ks₂) (sym (map-append (λ (e : Tile). e.meta) ts us))
         (appended_join (metas_of ts) (metas_of us) from.tiles mid.tiles to.tiles ks₀ ks₁ ks₂ a.metas_are b.metas_are);
     vals_are =
-        subst (λ (l : List Float). Appended l from.slots to.slots vs₀ vs₂) (sym (spread-append (λ (e : Tile). e.slots) ts us))
-        (appended_join (slots_of ts) (slots_of us) from.slots mid.slots to.slots vs₀ vs₁ vs₂ a.vals_are b.vals_are);
+        subst (λ (l : List Float). Appended l from.value_slots to.value_slots vs₀ vs₂) (sym (spread-append (λ (e : Tile). e.slots) ts us))
+        (appended_join (slots_of ts) (slots_of us) from.value_slots mid.value_slots to.value_slots vs₀ vs₁ vs₂ a.vals_are b.vals_are);
   }
 
   -- tiles, and more after them
@@ -92,7 +92,7 @@ module _ (ts us : List Tile) (from mid to : Cursor) (ms₀ ms₁ ms₂ os₀ os�
         fits = λ l k. laid_join as' (a.fits (omega (arith, at, bt, l)) (omega (arith, as', bs, k))) (b.fits (omega (arith, m, l)) (omega (arith, v, k)));
       }
 
-pub wrote_as : (ts us : List Tile) (from to : Cursor) (ms₀ ms₁ os₀ os₁ ks₀ ks₁ : List ℕ) (vs₀ vs₁ : List Float) → ts ≡ us → Wrote ts from to ms₀ ms₁ os₀ os₁ ks₀ ks₁ vs₀ vs₁ → Wrote us from to ms₀ ms₁ os₀ os₁ ks₀ ks₁ vs₀ vs₁
+pub wrote_as : (ts us : List Tile) (from to : TilesSize) (ms₀ ms₁ os₀ os₁ ks₀ ks₁ : List ℕ) (vs₀ vs₁ : List Float) → ts ≡ us → Wrote ts from to ms₀ ms₁ os₀ os₁ ks₀ ks₁ vs₀ vs₁ → Wrote us from to ms₀ ms₁ os₀ os₁ ks₀ ks₁ vs₀ vs₁
 wrote_as ts us from to ms₀ ms₁ os₀ os₁ ks₀ ks₁ vs₀ vs₁ e w = subst (λ (l : List Tile). Wrote l from to ms₀ ms₁ os₀ os₁ ks₀ ks₁ vs₀ vs₁) e w
 
 -- ---- the tiles of some words

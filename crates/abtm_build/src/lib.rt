@@ -2,30 +2,36 @@
 // one for each of 32,768 columns, with marks of the words and of the blocks of 64 words that have one; its tiles come out
 // ascending, and the next window starts at the row's next column. What the tiles take is counted to the end even where the lists
 // are full: only then is it known whether the result fits, since merged zeros take no place.
+// Places past the lists are the answer that they are too short: what all tiles take is known at the end alone, so no early `Err`.
+// Lists that are written stay apart in all functions, and facts of them too: a struct would have to name each in every contract.
 #![tactic(auto)]
 
 ghost use Rattle.std.specs.Prelude.{◌≡◌, true, not, cond, ◌||◌, ◌+◌, ◌*◌, ◌≤◌, ◌<◌, ◌^◌, ltb, eqb, length, take, replicate, set, get_or};
-ghost use mathlib.Core.List.{map, zip};
+ghost use mathlib.Core.List.{map};
 ghost use Rattle.std.specs.Float.{nan, binary64};
 ghost use Rattle.std.specs.Float.Ieee.{add};
-ghost use Rattle.hybit_core.specs.Answer.{accepted, answers};
+ghost use Rattle.hybit_core.specs.Answer.{answers};
 ghost use Rattle.hybit_core.specs.Floats.{zero64};
 ghost use Rattle.hybit_core.specs.Table.{told, given};
 ghost use Rattle.lent.specs.Lists.{each, every};
 ghost use Rattle.lent.specs.Lent.{Appended, padded, built};
 ghost use Rattle.word.specs.Bits.{has, below, members, word_of};
-ghost use Rattle.csr32.specs.Csr.{as_csr, csr_answer};
 ghost use Rattle.csr32.specs.Window.{Outside};
 ghost use Rattle.abtm_values.specs.Values.{is_zero, merged_nonzero};
 ghost use Rattle.abtm.specs.Tiles.{places_of, row_tiles_of};
 ghost use Rattle.abtm_build.specs.Build.{tiles_from, as_tile_room, before_answer, tile_answer, used_tiles};
 ghost use Rattle.abtm_build.specs.Window.{tiles_between, window_value, Marked, Sized, Next};
 ghost use Rattle.abtm_build.specs.Written.{Wrote, Bounded, Lists, row_of, Rows};
+ghost use Rattle.csr32.specs.Matrix.{lent_csr};
+ghost use Rattle.csr32.specs.Row.{entries_of};
+ghost use Rattle.abtm.specs.Calls.{kind_number};
 
-use abtm::AbtmConfig;
+use abtm::{AbtmConfig, TileKind};
+use csr32::{CheckedCsr32, Csr32Matrix, CsrRow};
 use hybit_core::HybitError;
 
-// How many tiles a build wrote, the places that they take in the values, and the values that are not zero.
+// How many tiles there are, the places that they take in the values, and the values that are not zero. Of a build
+// under way: the next places of its lists, and the values so far.
 #[derive(Clone, Copy)]
 pub struct TilesSize {
     pub tiles: usize,
@@ -33,13 +39,8 @@ pub struct TilesSize {
     pub matrix_nnz: usize,
 }
 
-// The next places of the tile lists and of the values, and the values so far.
-#[derive(Clone, Copy)]
-pub struct Cursor {
-    pub tiles: usize,
-    pub slots: usize,
-    pub nnz: usize,
-}
+// 64 values for each of `MAX_ENTRIES` tiles: as many as tiles can take.
+const MAX_SLOTS: usize = 1073741824;
 
 // Adds a value at a place of the window, and marks its word and its block.
 fn add_at(i: usize, v: f64, sums: &mut [f64], words: &mut [u64], blocks: &mut [u64])
@@ -57,29 +58,29 @@ fn add_at(i: usize, v: f64, sums: &mut [f64], words: &mut [u64], blocks: &mut [u
 }
 
 // Adds the row's nonzero values of the window, in stored order; answers the least column with one past the window, or `past`.
+// `past`, no `Option`: the least of columns is one `min`, and the caller's loop ends at any number past them.
+// A column lies before, in or past the window: a function for its place there would not tell the first from the last.
 fn gather(
-    cols: &[u32],
-    vals: &[f64],
+    row: CsrRow,
     base: usize,
     past: usize,
     sums: &mut [f64],
     words: &mut [u64],
     blocks: &mut [u64],
 ) -> usize
-    requires fact_1 { length vals.now ≡ length cols.now }
-    requires fact_2 { base + length sums.old ≤ past }
-    requires fact_3 { Sized (length sums.old) (length words.old) (length blocks.old) }
-    requires fact_4 { sums.old ≡ replicate (length sums.old) zero64 }
-    ensures sums { sums.new ≡ each (λ i. merged_nonzero (zip cols.now vals.now) (base + i)) (length sums.old) }
+    requires window { base + length sums.old ≤ past }
+    requires sized { Sized (length sums.old) (length words.old) (length blocks.old) }
+    requires zeros { sums.old ≡ replicate (length sums.old) zero64 }
+    ensures sums { sums.new ≡ each (λ i. merged_nonzero (entries_of row.entry) (base + i)) (length sums.old) }
     ensures words { Marked 64 sums.new words.new }
     ensures blocks { Marked 4096 sums.new blocks.new }
-    ensures next { (result ≤ past) × Next (zip cols.now vals.now) (base + length sums.old) result }
+    ensures next { (result ≤ past) × Next (entries_of row.entry) (base + length sums.old) result }
 {
     let width = sums.len();
     let mut next = past;
-    for k in 0..cols.len() {
-        let c = cols[k] as usize;
-        let value = vals[k];
+    for (k, column) in row.cols.iter().enumerate() {
+        let c = *column as usize;
+        let value = row.vals[k];
         if abtm_values::is_zero(value) {
             continue;
         }
@@ -127,7 +128,7 @@ fn also_marked(mask: u64, i: usize, v: f64) -> u64
     word::with_bit(mask, i)
 }
 
-// The places of a word's 64 sums that are not zero.
+// The places of a word's 64 sums that are not zero. The loop is over 64 places, not over the list, so that its length is known.
 fn word_mask(sums: &[f64]) -> u64
     requires { length sums.now ≡ 64 }
     ensures { result ≡ word_of (λ i. not (is_zero (get_or sums.now i nan))) }
@@ -149,6 +150,7 @@ fn dense_value(v: f64) -> f64
     v
 }
 
+// The same 64 places, as in `word_mask`.
 fn write_dense(sums: &[f64], from: usize, values: &mut [f64])
     requires fact_1 { length sums.now ≡ 64 }
     requires fact_2 { from + 64 ≤ length values.old }
@@ -166,7 +168,7 @@ fn write_present(mask: u64, sums: &[f64], from: usize, values: &mut [f64])
 {
     let mut rest = mask;
     let mut at = from;
-    // A walk over the set bits of a word: no index is counted.
+    // The set bits of a word, lowest first, and the values beside: an iterator of our own would be a type more, for three lines.
     while rest != 0 {
         values[at] = sums[word::lowest(rest)];
         at += 1;
@@ -175,16 +177,15 @@ fn write_present(mask: u64, sums: &[f64], from: usize, values: &mut [f64])
 }
 
 // The values of a tile of this mask and kind, from place `from` on.
-fn write_slots(kind: u32, mask: u64, sums: &[f64], from: usize, values: &mut [f64])
+fn write_slots(kind: TileKind, mask: u64, sums: &[f64], from: usize, values: &mut [f64])
     requires fact_1 { length sums.now ≡ 64 }
     requires fact_2 { mask ≡ word_of (λ i. not (is_zero (get_or sums.now i nan))) }
-    requires fact_3 { from + length (places_of kind mask) ≤ length values.old }
-    ensures { Appended (map (λ i. cond (has mask i) (get_or sums.now i nan) zero64) (places_of kind mask)) from (from + length (places_of kind mask)) values.old values.new }
+    requires fact_3 { from + length (places_of (kind_number kind) mask) ≤ length values.old }
+    ensures { Appended (map (λ i. cond (has mask i) (get_or sums.now i nan) zero64) (places_of (kind_number kind) mask)) from (from + length (places_of (kind_number kind) mask)) values.old values.new }
 {
-    if kind == 2 {
-        write_dense(sums, from, values);
-    } else {
-        write_present(mask, sums, from, values);
+    match kind {
+        TileKind::Dense => write_dense(sums, from, values),
+        TileKind::Sparse | TileKind::Bitmap => write_present(mask, sums, from, values),
     }
 }
 
@@ -193,12 +194,12 @@ fn emit_word(
     number: usize,
     sums: &[f64],
     config: AbtmConfig,
-    at: Cursor,
+    at: TilesSize,
     masks: &mut [u64],
     value_offsets: &mut [u32],
     metas: &mut [u32],
     values: &mut [f64],
-) -> Cursor
+) -> TilesSize
     requires fact_1 { length sums.now ≡ 64 }
     requires fact_2 { number < 2 ^ 30 }
     requires fact_3 { Bounded (2 ^ 40) at × Lists (length masks.old) (length value_offsets.old) (length metas.old) (length values.old) }
@@ -210,23 +211,23 @@ fn emit_word(
     }
     let nnz = word::popcount(mask);
     let kind = config.kind_of(nnz);
-    let meta = kind * 1073741824 + hybit_core::narrow(number);
-    let next = Cursor {
+    let meta = u32::from(kind) * abtm::KIND_STEP + hybit_core::narrow(number);
+    let next = TilesSize {
         tiles: at.tiles + 1,
-        slots: at.slots + abtm::slot_count(mask, meta),
-        nnz: at.nnz + nnz,
+        value_slots: at.value_slots + abtm::slot_count(mask, meta),
+        matrix_nnz: at.matrix_nnz + nnz,
     };
     if next.tiles > masks.len() {
         return next;
     }
-    if next.slots > values.len() {
+    if next.value_slots > values.len() {
         return next;
     }
     let tile = at.tiles;
     masks[tile] = mask;
-    value_offsets[tile] = hybit_core::narrow(at.slots);
+    value_offsets[tile] = hybit_core::narrow(at.value_slots);
     metas[tile] = meta;
-    write_slots(kind, mask, sums, at.slots, values);
+    write_slots(kind, mask, sums, at.value_slots, values);
     next
 }
 
@@ -237,12 +238,12 @@ fn emit_block(
     sums: &[f64],
     words: &[u64],
     config: AbtmConfig,
-    from: Cursor,
+    from: TilesSize,
     masks: &mut [u64],
     value_offsets: &mut [u32],
     metas: &mut [u32],
     values: &mut [f64],
-) -> Cursor
+) -> TilesSize
     requires fact_1 { (length sums.now ≡ 64 * length words.now) × (64 * block + 64 ≤ length words.now) × (first + length words.now ≤ 2 ^ 30) }
     requires fact_2 { Marked 64 sums.now words.now }
     requires fact_3 { Bounded (2 ^ 39) from × Lists (length masks.old) (length value_offsets.old) (length metas.old) (length values.old) }
@@ -275,12 +276,12 @@ fn emit_window(
     words: &[u64],
     blocks: &[u64],
     config: AbtmConfig,
-    from: Cursor,
+    from: TilesSize,
     masks: &mut [u64],
     value_offsets: &mut [u32],
     metas: &mut [u32],
     values: &mut [f64],
-) -> Cursor
+) -> TilesSize
     requires fact_1 { Sized (length sums.now) (length words.now) (length blocks.now) }
     requires fact_2 { first ≤ 2 ^ 20 }
     requires fact_3 { Marked 64 sums.now words.now }
@@ -312,24 +313,23 @@ fn emit_window(
 // The tiles of a row, window after window: the next one starts at the row's next column.
 fn fill_row(
     ncols: usize,
-    cols: &[u32],
-    vals: &[f64],
+    row: CsrRow,
     sums: &mut [f64],
     words: &mut [u64],
     blocks: &mut [u64],
     config: AbtmConfig,
-    from: Cursor,
+    from: TilesSize,
     masks: &mut [u64],
     value_offsets: &mut [u32],
     metas: &mut [u32],
     values: &mut [f64],
-) -> Cursor
-    requires fact_1 { (ncols ≤ 2 ^ 20) × (length vals.now ≡ length cols.now) }
-    requires fact_2 { every (λ c. ltb c ncols) cols.now ≡ true }
-    requires fact_3 { Sized (length sums.old) (length words.old) (length blocks.old) }
-    requires fact_4 { sums.old ≡ replicate (length sums.old) zero64 }
-    requires fact_5 { Bounded (2 ^ 36) from × Lists (length masks.old) (length value_offsets.old) (length metas.old) (length values.old) }
-    ensures tiles { Wrote (row_tiles_of config ncols (λ c. not (is_zero (merged_nonzero (zip cols.now vals.now) c))) (merged_nonzero (zip cols.now vals.now))) from result masks.old masks.new value_offsets.old value_offsets.new metas.old metas.new values.old values.new }
+) -> TilesSize
+    requires few { ncols ≤ 2 ^ 20 }
+    requires inside { every (λ c. ltb c ncols) row.cols.now ≡ true }
+    requires sized { Sized (length sums.old) (length words.old) (length blocks.old) }
+    requires zeros { sums.old ≡ replicate (length sums.old) zero64 }
+    requires lists { Bounded (2 ^ 36) from × Lists (length masks.old) (length value_offsets.old) (length metas.old) (length values.old) }
+    ensures tiles { Wrote (row_tiles_of config ncols (λ c. not (is_zero (merged_nonzero (entries_of row.entry) c))) (merged_nonzero (entries_of row.entry))) from result masks.old masks.new value_offsets.old value_offsets.new metas.old metas.new values.old values.new }
     ensures window { sums.new ≡ replicate (length sums.old) zero64 }
 {
     let past = ncols + sums.len();
@@ -338,7 +338,7 @@ fn fill_row(
     // Each window says where the next one starts, so there is no range to go over.
     while next < ncols {
         let first = next / 64;
-        next = gather(cols, vals, 64 * first, past, sums, words, blocks);
+        next = gather(row, 64 * first, past, sums, words, blocks);
         at = emit_window(
             first,
             sums,
@@ -351,18 +351,15 @@ fn fill_row(
             metas,
             values,
         );
-        clear_window(cols, 64 * first, sums, words, blocks);
+        clear_window(row.cols, 64 * first, sums, words, blocks);
     }
     at
 }
 
 // All rows, and where each starts; answers the places that they take.
+// Lists that are written stay apart: a struct of them would have to name each in every contract.
 fn fill_rows(
-    nrows: usize,
-    ncols: usize,
-    row_ptr: &[u32],
-    col_idx: &[u32],
-    entries: &[f64],
+    csr: CheckedCsr32,
     sums: &mut [f64],
     words: &mut [u64],
     blocks: &mut [u64],
@@ -372,28 +369,23 @@ fn fill_rows(
     value_offsets: &mut [u32],
     metas: &mut [u32],
     values: &mut [f64],
-) -> Cursor
-    requires fact_1 { csr_answer (as_csr nrows ncols row_ptr.now col_idx.now entries.now) ≡ accepted }
-    requires fact_2 { Sized (length sums.old) (length words.old) (length blocks.old) }
-    requires fact_3 { sums.old ≡ replicate (length sums.old) zero64 }
-    requires fact_4 { nrows ≤ length row_tile_ptr.old }
-    requires fact_5 { Lists (length masks.old) (length value_offsets.old) (length metas.old) (length values.old) }
-    ensures { Rows (row_of (as_csr nrows ncols row_ptr.now col_idx.now entries.now) config) nrows result row_tile_ptr.new masks.new value_offsets.new metas.new values.new }
+) -> TilesSize
+    requires sized { Sized (length sums.old) (length words.old) (length blocks.old) }
+    requires zeros { sums.old ≡ replicate (length sums.old) zero64 }
+    requires pointers { csr.matrix.nrows ≤ length row_tile_ptr.old }
+    requires lists { Lists (length masks.old) (length value_offsets.old) (length metas.old) (length values.old) }
+    ensures { Rows (row_of (lent_csr csr.entry.matrix) config) csr.entry.matrix.nrows result row_tile_ptr.new masks.new value_offsets.new metas.new values.new }
 {
-    let mut at = Cursor {
+    let mut at = TilesSize {
         tiles: 0,
-        slots: 0,
-        nnz: 0,
+        value_slots: 0,
+        matrix_nnz: 0,
     };
-    for next in 0..nrows {
-        let row = next;
+    for row in 0..csr.matrix.nrows {
         row_tile_ptr[row] = hybit_core::narrow(at.tiles);
-        let start = row_ptr[row] as usize;
-        let end = row_ptr[row + 1] as usize;
         at = fill_row(
-            ncols,
-            &col_idx[start..end],
-            &entries[start..end],
+            csr.matrix.ncols,
+            csr.row(row),
             sums,
             words,
             blocks,
@@ -409,33 +401,26 @@ fn fill_rows(
 }
 
 // The rows of an accepted plot list, through 260 KiB of local sums and marks.
+// Lists that are written stay apart: a struct of them would have to name each in every contract.
 fn build(
-    nrows: usize,
-    ncols: usize,
-    row_ptr: &[u32],
-    col_idx: &[u32],
-    entries: &[f64],
+    csr: CheckedCsr32,
     config: AbtmConfig,
     row_tile_ptr: &mut [u32],
     masks: &mut [u64],
     value_offsets: &mut [u32],
     metas: &mut [u32],
     values: &mut [f64],
-) -> Cursor
-    requires fact_1 { csr_answer (as_csr nrows ncols row_ptr.now col_idx.now entries.now) ≡ accepted }
-    requires fact_2 { nrows ≤ length row_tile_ptr.old }
-    requires fact_3 { Lists (length masks.old) (length value_offsets.old) (length metas.old) (length values.old) }
-    ensures { Rows (row_of (as_csr nrows ncols row_ptr.now col_idx.now entries.now) config) nrows result row_tile_ptr.new masks.new value_offsets.new metas.new values.new }
+) -> TilesSize
+    requires pointers { csr.matrix.nrows ≤ length row_tile_ptr.old }
+    requires lists { Lists (length masks.old) (length value_offsets.old) (length metas.old) (length values.old) }
+    ensures { Rows (row_of (lent_csr csr.entry.matrix) config) csr.entry.matrix.nrows result row_tile_ptr.new masks.new value_offsets.new metas.new values.new }
 {
+    // The library has no heap: a window of 32,768 columns on the stack. A row that goes further takes several.
     let mut sums = [0.0f64; 32768];
     let mut words = [0u64; 512];
     let mut blocks = [0u64; 8];
     fill_rows(
-        nrows,
-        ncols,
-        row_ptr,
-        col_idx,
-        entries,
+        csr,
         &mut sums[..32768],
         &mut words[..512],
         &mut blocks[..8],
@@ -449,6 +434,7 @@ fn build(
 }
 
 // Zeros in the pointers from place `rows` on, in the tile lists from place `tiles` on, in the values from place `slots` on.
+// Lists that are written stay apart: a struct of them would have to name each in every contract.
 fn clear_past(
     rows: usize,
     tiles: usize,
@@ -473,20 +459,12 @@ fn clear_past(
 }
 
 // The checks before the build: the plot list, the thresholds, and the room for the pointers, which needs no build.
-fn examine(
-    nrows: usize,
-    ncols: usize,
-    row_ptr: &[u32],
-    col_idx: &[u32],
-    entries: &[f64],
-    config: AbtmConfig,
-    pointers: usize,
-) -> Result<(), HybitError>
-    ensures { told result ≡ before_answer (as_csr nrows ncols row_ptr.now col_idx.now entries.now) config pointers }
+fn examine(csr: Csr32Matrix, config: AbtmConfig, pointers: usize) -> Result<(), HybitError>
+    ensures { told result ≡ before_answer (lent_csr csr.entry) config pointers }
 {
-    csr32::check(nrows, ncols, row_ptr, col_idx, entries)?;
+    csr.check()?;
     config.validate()?;
-    if pointers <= nrows {
+    if pointers <= csr.nrows {
         return Err(HybitError::ShortList);
     }
     Ok(())
@@ -494,12 +472,9 @@ fn examine(
 
 // The tiles of a plot list with the values `entries`: the used parts are nrows + 1 pointers, as many masks, offsets and metas as
 // the answer's tiles, and as many values as its slots.
+// Lists that are written stay apart: a struct of them would have to name each in every contract.
 pub fn from_csr32(
-    nrows: usize,
-    ncols: usize,
-    row_ptr: &[u32],
-    col_idx: &[u32],
-    entries: &[f64],
+    csr: Csr32Matrix,
     config: AbtmConfig,
     row_tile_ptr: &mut [u32],
     masks: &mut [u64],
@@ -507,22 +482,14 @@ pub fn from_csr32(
     metas: &mut [u32],
     values: &mut [f64],
 ) -> Result<TilesSize, HybitError>
-    ensures answer { given result ≡ answers (tile_answer (as_csr nrows ncols row_ptr.now col_idx.now entries.now) config (as_tile_room (length row_tile_ptr.old) (length masks.old) (length value_offsets.old) (length metas.old) (length values.old))) (used_tiles (tiles_from (as_csr nrows ncols row_ptr.now col_idx.now entries.now) config)) }
-    ensures pointers { row_tile_ptr.new ≡ built 0 (length row_tile_ptr.old) (tile_answer (as_csr nrows ncols row_ptr.now col_idx.now entries.now) config (as_tile_room (length row_tile_ptr.old) (length masks.old) (length value_offsets.old) (length metas.old) (length values.old))) (tiles_from (as_csr nrows ncols row_ptr.now col_idx.now entries.now) config).ptr }
-    ensures bits { masks.new ≡ built 0 (length masks.old) (tile_answer (as_csr nrows ncols row_ptr.now col_idx.now entries.now) config (as_tile_room (length row_tile_ptr.old) (length masks.old) (length value_offsets.old) (length metas.old) (length values.old))) (tiles_from (as_csr nrows ncols row_ptr.now col_idx.now entries.now) config).mask }
-    ensures offsets { value_offsets.new ≡ built 0 (length value_offsets.old) (tile_answer (as_csr nrows ncols row_ptr.now col_idx.now entries.now) config (as_tile_room (length row_tile_ptr.old) (length masks.old) (length value_offsets.old) (length metas.old) (length values.old))) (tiles_from (as_csr nrows ncols row_ptr.now col_idx.now entries.now) config).offset }
-    ensures metas { metas.new ≡ built 0 (length metas.old) (tile_answer (as_csr nrows ncols row_ptr.now col_idx.now entries.now) config (as_tile_room (length row_tile_ptr.old) (length masks.old) (length value_offsets.old) (length metas.old) (length values.old))) (tiles_from (as_csr nrows ncols row_ptr.now col_idx.now entries.now) config).meta }
-    ensures values { values.new ≡ built zero64 (length values.old) (tile_answer (as_csr nrows ncols row_ptr.now col_idx.now entries.now) config (as_tile_room (length row_tile_ptr.old) (length masks.old) (length value_offsets.old) (length metas.old) (length values.old))) (tiles_from (as_csr nrows ncols row_ptr.now col_idx.now entries.now) config).vals }
+    ensures answer { given result ≡ answers (tile_answer (lent_csr csr.entry) config (as_tile_room (length row_tile_ptr.old) (length masks.old) (length value_offsets.old) (length metas.old) (length values.old))) (used_tiles (tiles_from (lent_csr csr.entry) config)) }
+    ensures pointers { row_tile_ptr.new ≡ built 0 (length row_tile_ptr.old) (tile_answer (lent_csr csr.entry) config (as_tile_room (length row_tile_ptr.old) (length masks.old) (length value_offsets.old) (length metas.old) (length values.old))) (tiles_from (lent_csr csr.entry) config).ptr }
+    ensures bits { masks.new ≡ built 0 (length masks.old) (tile_answer (lent_csr csr.entry) config (as_tile_room (length row_tile_ptr.old) (length masks.old) (length value_offsets.old) (length metas.old) (length values.old))) (tiles_from (lent_csr csr.entry) config).mask }
+    ensures offsets { value_offsets.new ≡ built 0 (length value_offsets.old) (tile_answer (lent_csr csr.entry) config (as_tile_room (length row_tile_ptr.old) (length masks.old) (length value_offsets.old) (length metas.old) (length values.old))) (tiles_from (lent_csr csr.entry) config).offset }
+    ensures metas { metas.new ≡ built 0 (length metas.old) (tile_answer (lent_csr csr.entry) config (as_tile_room (length row_tile_ptr.old) (length masks.old) (length value_offsets.old) (length metas.old) (length values.old))) (tiles_from (lent_csr csr.entry) config).meta }
+    ensures values { values.new ≡ built zero64 (length values.old) (tile_answer (lent_csr csr.entry) config (as_tile_room (length row_tile_ptr.old) (length masks.old) (length value_offsets.old) (length metas.old) (length values.old))) (tiles_from (lent_csr csr.entry) config).vals }
 {
-    let v = examine(
-        nrows,
-        ncols,
-        row_ptr,
-        col_idx,
-        entries,
-        config,
-        row_tile_ptr.len(),
-    );
+    let v = examine(csr, config, row_tile_ptr.len());
     if let Err(e) = v {
         clear_past(0, 0, 0, row_tile_ptr, masks, value_offsets, metas, values);
         return Err(e);
@@ -530,14 +497,11 @@ pub fn from_csr32(
     let room = masks
         .len()
         .min(value_offsets.len())
-        .min(metas.len().min(16777216));
-    let places = values.len().min(1073741824);
+        .min(metas.len().min(hybit_core::MAX_ENTRIES));
+    let places = values.len().min(MAX_SLOTS);
+    // `examine` has checked the list; `checked` would check it again.
     let at = build(
-        nrows,
-        ncols,
-        row_ptr,
-        col_idx,
-        entries,
+        CheckedCsr32 { matrix: csr },
         config,
         row_tile_ptr,
         &mut masks[..room],
@@ -549,24 +513,20 @@ pub fn from_csr32(
         clear_past(0, 0, 0, row_tile_ptr, masks, value_offsets, metas, values);
         return Err(HybitError::ShortList);
     }
-    if places < at.slots {
+    if places < at.value_slots {
         clear_past(0, 0, 0, row_tile_ptr, masks, value_offsets, metas, values);
         return Err(HybitError::ShortList);
     }
-    row_tile_ptr[nrows] = hybit_core::narrow(at.tiles);
+    row_tile_ptr[csr.nrows] = hybit_core::narrow(at.tiles);
     clear_past(
-        nrows + 1,
+        csr.nrows + 1,
         at.tiles,
-        at.slots,
+        at.value_slots,
         row_tile_ptr,
         masks,
         value_offsets,
         metas,
         values,
     );
-    Ok(TilesSize {
-        tiles: at.tiles,
-        value_slots: at.slots,
-        matrix_nnz: at.nnz,
-    })
+    Ok(at)
 }

@@ -40,13 +40,13 @@ pub record Scanning (p : ℕ → Bool) (ms os ks : List ℕ) (n : ℕ) (holds : 
   pub offsets : Following ms os ks n follows i
 
 -- one tile more
-regroup : (a b c s k e : Bool) → (((((a && b) && c) && s) && k) && e) ≡ (((a && s) && (b && k)) && (c && e))
+regroup : (a b c s k e : Bool) → (((a && b) && c) && ((s && k) && e)) ≡ (((a && s) && (b && k)) && (c && e))
 regroup false b c s k e = refl
 regroup true false c true k e = refl
 regroup true false c false k e = refl
-regroup true true false false k e = refl
-regroup true true false true false e = refl
 regroup true true false true true e = refl
+regroup true true false true false e = refl
+regroup true true false false k e = refl
 regroup true true true false k e = refl
 regroup true true true true false e = refl
 regroup true true true true true e = refl
@@ -62,17 +62,10 @@ by_size h true d e f = ap (λ (t : Bool). (h && true) && t) (f refl)
 by_size true false d e f = refl
 by_size false false d e f = refl
 
-pub next_is : (h s k r : Bool) (m x o p next : ℕ) → s ≡ (h && nonzero m) → k ≡ (s && compact_kind x) → p ≡ count (has m) 64 → r ≡ (k && eqb (o + p) next)
-    → r ≡ (((h && nonzero m) && compact_kind x) && eqb (o + length (places m x)) next)
-next_is h s k r m x o p next es ek ep er =
-    er
-    ∙ ap (λ (b : Bool). b && eqb (o + p) next) (ek ∙ ap (λ (b : Bool). b && compact_kind x) es)
-    ∙ by_size (h && nonzero m) (compact_kind x) (eqb (o + p) next) (eqb (o + length (places m x)) next)
+pub compact_is : (m x o p next : ℕ) → p ≡ count (has m) 64 → ((nonzero m && compact_kind x) && eqb (o + p) next) ≡ ((nonzero m && compact_kind x) && eqb (o + length (places m x)) next)
+compact_is m x o p next ep =
+    by_size (nonzero m) (compact_kind x) (eqb (o + p) next) (eqb (o + length (places m x)) next)
     (λ c. ap (λ (l : ℕ). eqb (o + l) next) (compact_count (kind_in x) m x p refl (not_dense x c) ep))
-
-pub tile_is : (h s k r : Bool) (m x o p next : ℕ) → s ≡ (h && nonzero m) → k ≡ (s && kind_holds x) → p ≡ length (places m x) → r ≡ (k && eqb (o + p) next)
-    → r ≡ (((h && nonzero m) && kind_holds x) && eqb (o + length (places m x)) next)
-tile_is h s k r m x o p next es ek ep er = er ∙ ap₂ (λ (b : Bool) (l : ℕ). b && eqb (o + l) next) (ek ∙ ap (λ (b : Bool). b && kind_holds x) es) ep
 
 module _ (p : ℕ → Bool) (ms os ks : List ℕ) (n : ℕ) where
   pub scanning_empty : length ks ≡ length ms → length ms ≡ 0 → eqb n 0 ≡ ((every nonzero ms && every p ks) && gapless 0 n (zip ms (zip os ks)))
@@ -85,29 +78,29 @@ module _ (p : ℕ → Bool) (ms os ks : List ℕ) (n : ℕ) where
   size j = length (places (get_or ms j 0) (get_or ks j 0))
 
   -- what the code tests at place j, and what the flag becomes
-  abbrev tile_test : Bool → ℕ → ℕ → Bool
-  tile_test holds j next = ((holds && nonzero (get_or ms j 0)) && p (get_or ks j 0)) && eqb (get_or os j 0 + size j) next
+  abbrev tile_test : ℕ → ℕ → Bool
+  tile_test j next = (nonzero (get_or ms j 0) && p (get_or ks j 0)) && eqb (get_or os j 0 + size j) next
 
-  tested_tile : (holds a b c : Bool) (j next : ℕ) → holds ≡ ((a && b) && c)
-      → tile_test holds j next ≡ (((a && nonzero (get_or ms j 0)) && (b && p (get_or ks j 0))) && (c && eqb (get_or os j 0 + size j) next))
-  tested_tile holds a b c j next e = ap (λ (h : Bool). tile_test h j next) e ∙ regroup a b c (nonzero (get_or ms j 0)) (p (get_or ks j 0)) (eqb (get_or os j 0 + size j) next)
+  tested_tile : (holds a b c : Bool) (j next : ℕ) (t r : Bool) → holds ≡ ((a && b) && c) → t ≡ tile_test j next → r ≡ (holds && t)
+      → r ≡ (((a && nonzero (get_or ms j 0)) && (b && p (get_or ks j 0))) && (c && eqb (get_or os j 0 + size j) next))
+  tested_tile holds a b c j next t r e f g = g ∙ ap₂ (λ (h t : Bool). h && t) e f ∙ regroup a b c (nonzero (get_or ms j 0)) (p (get_or ks j 0)) (eqb (get_or os j 0 + size j) next)
 
   module _ (holds : Bool) (i : ℕ) (inv : Scanning p ms os ks n holds i) where
-    pub scanning_more : i < length ms → (next : ℕ) (r : Bool) → next ≡ get_or os i 0 → r ≡ tile_test holds (i - 1) next → Scanning p ms os ks n r (i + 1)
-    scanning_more h next r en er =
+    pub scanning_more : i < length ms → (next : ℕ) (t r : Bool) → next ≡ get_or os i 0 → t ≡ tile_test (i - 1) next → r ≡ (holds && t) → Scanning p ms os ks n r (i + 1)
+    scanning_more h next t r en et er =
         let up : i + 1 - 1 ≡ i - 1 + 1 = omega (arith, inv.offsets.after) in
         record {
           full = inv.full && nonzero (get_or ms (i - 1) 0);
           kinds = inv.kinds && p (get_or ks (i - 1) 0);
           follows = inv.follows && eqb (get_or os (i - 1) 0 + size (i - 1)) next;
-          is = er ∙ tested_tile holds inv.full inv.kinds inv.follows (i - 1) next inv.is;
+          is = tested_tile holds inv.full inv.kinds inv.follows (i - 1) next t r inv.is et er;
           masks = rw up (passed_more nonzero ms (i - 1) inv.full inv.masks 0 (nonzero (get_or ms (i - 1) 0)) (inv.full && nonzero (get_or ms (i - 1) 0)) (omega (arith, h)) refl refl);
           metas = rw up (passed_more p ks (i - 1) inv.kinds inv.metas 0 (p (get_or ks (i - 1) 0)) (inv.kinds && p (get_or ks (i - 1) 0)) (omega (arith, h, inv.offsets.metas_long)) refl refl);
           offsets = follow_more ms os ks n inv.follows i inv.offsets h (size (i - 1)) next (inv.follows && eqb (get_or os (i - 1) 0 + size (i - 1)) next) refl en refl;
         }
 
-    pub scanning_done : length ms ≤ i → (r : Bool) → r ≡ tile_test holds (length ms - 1) n → r ≡ ((every nonzero ms && every p ks) && gapless 0 n (zip ms (zip os ks)))
-    scanning_done h r er =
+    pub scanning_done : length ms ≤ i → (t r : Bool) → t ≡ tile_test (length ms - 1) n → r ≡ (holds && t) → r ≡ ((every nonzero ms && every p ks) && gapless 0 n (zip ms (zip os ks)))
+    scanning_done h t r et er =
         let at : length ms ≡ i = omega (arith, h, inv.offsets.inside) in
         let a : Bool = inv.full && nonzero (get_or ms (length ms - 1) 0) in
         let b : Bool = inv.kinds && p (get_or ks (length ms - 1) 0) in
@@ -118,8 +111,7 @@ module _ (p : ℕ → Bool) (ms os ks : List ℕ) (n : ℕ) where
         passed_done nonzero ms (length ms - 1 + 1) a (passed_more nonzero ms (length ms - 1) inv.full pm 0 (nonzero (get_or ms (length ms - 1) 0)) a (omega (arith, at, inv.offsets.after)) refl refl) (omega arith) in
         let ek : b ≡ every p ks =
         passed_done p ks (length ms - 1 + 1) b (passed_more p ks (length ms - 1) inv.kinds pk 0 (p (get_or ks (length ms - 1) 0)) b (omega (arith, at, inv.offsets.after, inv.offsets.metas_long)) refl refl) (omega (arith, inv.offsets.metas_long)) in
-        er
-        ∙ tested_tile holds inv.full inv.kinds inv.follows (length ms - 1) n inv.is
+        tested_tile holds inv.full inv.kinds inv.follows (length ms - 1) n t r inv.is et er
         ∙ ap₂ (λ (s k : Bool). (s && k) && c) em ek
         ∙ ap (λ (g : Bool). (every nonzero ms && every p ks) && g) (follow_done ms os ks n inv.follows i inv.offsets h (size (length ms - 1)) c refl refl)
 
@@ -155,9 +147,6 @@ module _ (ms os ks : List ℕ) (n : ℕ) where
 
     pub total_is : t ≡ n
     total_is = eqb-true t n (and_left (eqb t n) three (sym e))
-
-    pub total_full : every nonzero ms ≡ true
-    total_full = pass_full compact_kind ms os ks n (sym (and_right (eqb t n) three (sym e)))
 
     pub total_compact : true ≡ every compact_kind ks
     total_compact = pass_kinds compact_kind ms os ks n (sym (and_right (eqb t n) three (sym e)))
@@ -229,10 +218,10 @@ module _ (ms os ks : List ℕ) (so : length os ≡ length ms) (sk : length ks �
 -- ---- the rules where a pass over tiles of any kinds fails
 
 module _ (n m : ℕ) (ps ks ms os : List ℕ) (vs : List Float) (t : ℕ) (f : true ≡ framed_lists n ps (length ks) (length ms)) (so : length os ≡ length ms) (sk : length ks ≡ length ms) where
-  counted_fails : false ≡ (eqb t (set_bits ms) && slot_rules vs (zip ms (zip os ks))) → false ≡ tiles_rules (as_tiles n m ps ms os ks vs t)
-  counted_fails e = go (row_rules (as_words n m ps (map word_in ks) ms 0)) refl
+  pub counted_fails : false ≡ (eqb t (set_bits ms) && slot_rules vs (zip ms (zip os ks))) → false ≡ tiles_rules (as_tiles n m ps ms os ks vs t)
+  counted_fails e = go (row_rules (as_words n m ps (map word_in ks) ms t)) refl
     where
-      go : (b : Bool) → row_rules (as_words n m ps (map word_in ks) ms 0) ≡ b → false ≡ tiles_rules (as_tiles n m ps ms os ks vs t)
+      go : (b : Bool) → row_rules (as_words n m ps (map word_in ks) ms t) ≡ b → false ≡ tiles_rules (as_tiles n m ps ms os ks vs t)
       go true q = rules_counted n m ps ks ms os vs t f (so ∙ sym sk) (sym q) false e
       go false q = rules_rows n m ps ks ms os vs t f (sym q)
 

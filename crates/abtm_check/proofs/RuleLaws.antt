@@ -1,5 +1,6 @@
 -- The rules of a record of tiles at each return of the code that tests them. Assumes nothing.
-use Rattle.std.proofs.Common.{◌≡◌, ℕ, ◌^◌, ◌<◌, ◌≤◌, Bool, true, false, not, ◌&&◌, eqb, List, map, length, sym, refl, ap, ◌∙◌, ap₂, leb-true}
+use Rattle.std.proofs.Common.{◌≡◌, ℕ, ◌^◌, ◌<◌, ◌≤◌, Bool, true, false, not, Some, None, ◌&&◌, eqb, List, map, length, sym, refl, ap, ◌∙◌, ap₂, leb-true}
+use Rattle.std.specs.Bool.{then_some}
 use mathlib.Core.Bool.{and-true}
 use mathlib.Core.List.{zip}
 use lib.ListN.{length-map}
@@ -34,11 +35,20 @@ module _ (a b c : Bool) (e : true ≡ ((a && b) && c)) where
   pub third_held : true ≡ c
   third_held = sym (and_right (a && b) c (sym e))
 
+-- the count of a pass, where its tests hold
+pub counted_held : (b : Bool) (n m : ℕ) → Some m ≡ then_some b n → (true ≡ b) × (m ≡ n)
+counted_held true n m e = (refl, cc)
+counted_held false n m e = cc
+
+pub none_counted : (b : Bool) (n : ℕ) → None ≡ then_some b n → false ≡ b
+none_counted true n e = cc
+none_counted false n e = refl
+
 -- ---- pointers, rows, lengths, count and values
 
 module _ (n m : ℕ) (ps ks ms os : List ℕ) (vs : List Float) (t : ℕ) where
   abbrev rows : Bool
-  rows = row_rules (as_words n m ps (map word_in ks) ms 0)
+  rows = row_rules (as_words n m ps (map word_in ks) ms t)
 
   abbrev ruled : Bool
   ruled = slot_rules vs (zip ms (zip os ks))
@@ -57,10 +67,10 @@ module _ (n m : ℕ) (ps ks ms os : List ℕ) (vs : List Float) (t : ℕ) where
       ∙ apart
 
   module _ (f : true ≡ framed_lists n ps (length ks) (length ms)) where
-    pub rules_rows : false ≡ row_rules (as_words n m ps (map word_in ks) ms 0) → false ≡ tiles_rules (as_tiles n m ps ms os ks vs t)
+    pub rules_rows : false ≡ row_rules (as_words n m ps (map word_in ks) ms t) → false ≡ tiles_rules (as_tiles n m ps ms os ks vs t)
     rules_rows e = ap₂ (λ (g r : Bool). (((g && r) && eqb t (set_bits ms)) && eqb (length os) (length ks)) && ruled) f e ∙ apart
 
-    pub rules_counted : length os ≡ length ks → true ≡ row_rules (as_words n m ps (map word_in ks) ms 0) → (r : Bool) → r ≡ (eqb t (set_bits ms) && slot_rules vs (zip ms (zip os ks))) → r ≡ tiles_rules (as_tiles n m ps ms os ks vs t)
+    pub rules_counted : length os ≡ length ks → true ≡ row_rules (as_words n m ps (map word_in ks) ms t) → (r : Bool) → r ≡ (eqb t (set_bits ms) && slot_rules vs (zip ms (zip os ks))) → r ≡ tiles_rules (as_tiles n m ps ms os ks vs t)
     rules_counted d e r q =
         q
         ∙ ap (λ (b : Bool). b && ruled) (sym (and-true (eqb t (set_bits ms))) ∙ ap (λ (l : Bool). eqb t (set_bits ms) && l) (is_equal (length os) (length ks) d))
@@ -71,7 +81,7 @@ module _ (n m : ℕ) (ps ks ms os : List ℕ) (vs : List Float) (t : ℕ) where
     sides : length ms ≡ length (map word_in ks)
     sides = sym (length-map ks word_in ∙ lists_sides n ps (length ks) (length ms) (sym f))
 
-    row_full : (r : ℕ) → r < n → row_rules (as_words n m ps (map word_in ks) ms 0) ≡ true → every nonzero (part ps ms r) ≡ true
+    row_full : (r : ℕ) → r < n → row_rules (as_words n m ps (map word_in ks) ms t) ≡ true → every nonzero (part ps ms r) ≡ true
     unfolding row_rules
     row_full r h e = go (every nonzero (part ps ms r)) refl
       where

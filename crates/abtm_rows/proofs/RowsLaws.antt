@@ -1,49 +1,28 @@
--- What the calls on a row of tiles know once their checks have accepted, and the tiles of a kind, counted one by one. Assumes nothing.
+-- What the figures of tiles know once the check has accepted, and the tiles of a kind, counted one by one. Assumes nothing.
 use Rattle.std.specs.Prelude.{Result, Ok}
 use Rattle.hybit_core.specs.declared.HybitError.{HybitError}
 use mathlib.Core.Bool.{Bool, true, false}
 use mathlib.Core.List.{List, [], ◌∷◌}
 use mathlib.Core.Path.{◌≡◌, refl, sym, ap, ◌∙◌}
-use Prim.Native.Nat.{ℕ, ◌+◌, ◌*◌, ◌≤◌, ◌<◌}
+use Prim.Native.Nat.{ℕ, ◌+◌, ◌*◌, ◌<◌}
 use native.Mathlib.Numerals.{add-one}
 use native.Mathlib.Omega.{arith}
-use lib.Dec.{eqb, ltb}
+use lib.Dec.{eqb}
 use lib.ListN.{length, get_or, take, length-append}
-use lib.Seq.{take-suc, take_all}
-use borrow.Author.Tests.{ltb-true, eq-eqb, ne_eqb}
-use Rattle.hybit_core.specs.Answer.{demand}
+use lib.Seq.{take-suc}
 use Rattle.hybit_core.specs.Table.{told}
-use Rattle.hybit_core.proofs.AnswerLaws.{demand_accepted, then_first, then_second, accepted_by}
+use Rattle.hybit_core.proofs.AnswerLaws.{accepted_by}
 use Rattle.lent.specs.Lists.{only, cons_if}
 use Rattle.lent.proofs.ListLaws.{only-append}
-use Rattle.csr32.proofs.FrameLaws.{RowIn}
 use Rattle.abtm.specs.Tiles.{Tiles, kind_in, tiles_answer}
-use Rattle.abtm_check.proofs.TilesLaws.{AcceptedTiles, tiles_facts, masks_row, offsets_row, metas_row}
+use Rattle.abtm_check.proofs.TilesLaws.{AcceptedTiles, tiles_facts}
 use Rattle.abtm_rows.specs.declared.AbtmStats.{AbtmStats}
-use Rattle.abtm_rows.specs.Rows.{tile_row_answer, of_kind, tile_stats}
+use Rattle.abtm_rows.specs.Rows.{of_kind, tile_stats}
 
--- ---- a record, or a row, that the checks accepted
+-- ---- a record that the check accepted
 
 pub tiles_checked : (t : Tiles) (v : Result Unit HybitError) → told v ≡ tiles_answer t → v ≡ Ok tt → AcceptedTiles t
 tiles_checked t v e a = tiles_facts t (accepted_by (tiles_answer t) v e a)
-
-module _ (t : Tiles) (r : ℕ) (v : Result Unit HybitError) (e : told v ≡ tile_row_answer t r) (a : v ≡ Ok tt) where
-  facts : AcceptedTiles t
-  unfolding tile_row_answer
-  facts = tiles_facts t (then_first (tiles_answer t) (demand (ltb r t.rows) 7) (accepted_by (tile_row_answer t r) v e a))
-
-  here : r < t.rows
-  unfolding tile_row_answer
-  here = ltb-true r t.rows (demand_accepted _ _ (then_second (tiles_answer t) (demand (ltb r t.rows) 7) (accepted_by (tile_row_answer t r) v e a)))
-
-  pub masks_checked : RowIn t.ptr (length t.mask) r
-  masks_checked = masks_row t facts r here
-
-  pub offsets_checked : RowIn t.ptr (length t.offset) r
-  offsets_checked = offsets_row t facts r here
-
-  pub metas_checked : RowIn t.ptr (length t.meta) r
-  metas_checked = metas_row t facts r here
 
 -- ---- the tiles of a kind among the first i
 
@@ -52,7 +31,7 @@ module _ (ks : List ℕ) (k : ℕ) where
   unfolding of_kind only
   kind_none = refl
 
-  module _ (n i : ℕ) (inv : n ≡ of_kind k (take i ks)) (h : i < length ks) (m : ℕ) (e : m ≡ kind_in (get_or ks i 0)) where
+  module _ (n i : ℕ) (inv : n ≡ of_kind k (take i ks)) (h : i < length ks) where
     one : (t : Bool) → eqb (kind_in (get_or ks i 0)) k ≡ t → of_kind k (take (i + 1) ks) ≡ n + length (cons_if t (get_or ks i 0) [])
     unfolding of_kind only
     one t q =
@@ -63,14 +42,11 @@ module _ (ks : List ℕ) (k : ℕ) where
         ∙ ap (λ (j : ℕ). j + length (only (λ m. eqb (kind_in m) k) (get_or ks i 0 ∷ []))) (sym inv)
         ∙ ap (λ (b : Bool). n + length (cons_if b (get_or ks i 0) [])) q
 
-    pub kind_more : m ≡ k → n + 1 ≡ of_kind k (take (i + 1) ks)
-    kind_more q = sym (one true (eq-eqb (kind_in (get_or ks i 0)) k (sym e ∙ q)))
+    pub kind_more : eqb (kind_in (get_or ks i 0)) k ≡ true → n + 1 ≡ of_kind k (take (i + 1) ks)
+    kind_more q = sym (one true q)
 
-    pub kind_same : (m ≡ k → ⊥) → n ≡ of_kind k (take (i + 1) ks)
-    kind_same q = omega (arith, one false (ne_eqb (kind_in (get_or ks i 0)) k (λ z. q (e ∙ z))))
-
-  pub kind_done : (n i : ℕ) → n ≡ of_kind k (take i ks) → length ks ≤ i → n ≡ of_kind k ks
-  kind_done n i inv h = inv ∙ ap (of_kind k) (take_all i ks h)
+    pub kind_same : eqb (kind_in (get_or ks i 0)) k ≡ false → n ≡ of_kind k (take (i + 1) ks)
+    kind_same q = omega (arith, one false q)
 
 -- ---- the figures, as they are counted
 

@@ -5,9 +5,12 @@ ghost use Rattle.std.specs.Prelude.{◌≡◌};
 ghost use Rattle.hybit_core.specs.Answer.{on_given, answers};
 ghost use Rattle.hybit_core.specs.Table.{told, given};
 ghost use Rattle.lent.specs.Lists.{part};
-ghost use Rattle.abtm.specs.Tiles.{as_tiles, tiles_answer};
+ghost use Rattle.abtm.specs.Tiles.{tiles_answer};
+ghost use Rattle.abtm.specs.Calls.{kind_number};
 ghost use Rattle.abtm_rows.specs.Rows.{tile_row_answer, of_kind, tile_stats, bytes_per_value, tile_bytes};
+ghost use Rattle.abtm.specs.Matrix.{lent_tiles};
 
+use abtm::{AbtmMatrix, TileKind};
 use hybit_core::HybitError;
 
 #[derive(Clone, Copy)]
@@ -35,175 +38,76 @@ impl AbtmStats {
     pub fn total_estimated_bytes(self) -> usize
         ensures { result ≡ tile_bytes self }
     {
-        if self.value_slots > 2305843009213693951 {
-            return 18446744073709551615;
-        }
-        let bytes = 8 * self.value_slots;
-        if self.metadata_bytes > 18446744073709551615 - bytes {
-            return 18446744073709551615;
-        }
-        self.metadata_bytes + bytes
+        self.value_slots
+            .saturating_mul(8)
+            .saturating_add(self.metadata_bytes)
     }
 }
 
-fn check_row(
-    nrows: usize,
-    ncols: usize,
-    row_tile_ptr: &[u32],
-    masks: &[u64],
-    value_offsets: &[u32],
-    metas: &[u32],
-    values: &[f64],
-    matrix_nnz: usize,
-    row: usize,
-) -> Result<(), HybitError>
-    ensures { told result ≡ tile_row_answer (as_tiles nrows ncols row_tile_ptr.now masks.now value_offsets.now metas.now values.now matrix_nnz) row }
+fn check_row(tiles: AbtmMatrix, row: usize) -> Result<(), HybitError>
+    ensures { told result ≡ tile_row_answer (lent_tiles tiles.entry) row }
 {
-    abtm_check::check(
-        nrows,
-        ncols,
-        row_tile_ptr,
-        masks,
-        value_offsets,
-        metas,
-        values,
-        matrix_nnz,
-    )?;
-    if row >= nrows {
+    abtm_check::check(tiles)?;
+    if row >= tiles.nrows {
         return Err(HybitError::NoSuchPlace);
     }
     Ok(())
 }
 
-// The masks of the row's tiles, as that part of the lent list.
-pub fn row_tile_masks<'a>(
-    nrows: usize,
-    ncols: usize,
-    row_tile_ptr: &[u32],
-    masks: &'a [u64],
-    value_offsets: &[u32],
-    metas: &[u32],
-    values: &[f64],
-    matrix_nnz: usize,
-    row: usize,
-) -> Result<&'a [u64], HybitError>
-    ensures { on_given (λ s. s.now) (given result) ≡ answers (tile_row_answer (as_tiles nrows ncols row_tile_ptr.now masks.now value_offsets.now metas.now values.now matrix_nnz) row) (part row_tile_ptr.now masks.now row) }
+// The masks of the row's tiles, as that part of the lent list. Three calls, as a caller asks for one list; C has one call.
+pub fn row_tile_masks<'a>(tiles: AbtmMatrix<'a>, row: usize) -> Result<&'a [u64], HybitError>
+    ensures { on_given (λ s. s.now) (given result) ≡ answers (tile_row_answer (lent_tiles tiles.entry) row) (part tiles.entry.row_tile_ptr.now tiles.entry.masks.now row) }
 {
-    check_row(
-        nrows,
-        ncols,
-        row_tile_ptr,
-        masks,
-        value_offsets,
-        metas,
-        values,
-        matrix_nnz,
-        row,
-    )?;
-    Ok(lent::part(row_tile_ptr, masks, row))
+    check_row(tiles, row)?;
+    Ok(lent::part(tiles.row_tile_ptr, tiles.masks, row))
 }
 
 // Their offsets into the values, in the same way.
 pub fn row_tile_value_offsets<'a>(
-    nrows: usize,
-    ncols: usize,
-    row_tile_ptr: &[u32],
-    masks: &[u64],
-    value_offsets: &'a [u32],
-    metas: &[u32],
-    values: &[f64],
-    matrix_nnz: usize,
+    tiles: AbtmMatrix<'a>,
     row: usize,
 ) -> Result<&'a [u32], HybitError>
-    ensures { on_given (λ s. s.now) (given result) ≡ answers (tile_row_answer (as_tiles nrows ncols row_tile_ptr.now masks.now value_offsets.now metas.now values.now matrix_nnz) row) (part row_tile_ptr.now value_offsets.now row) }
+    ensures { on_given (λ s. s.now) (given result) ≡ answers (tile_row_answer (lent_tiles tiles.entry) row) (part tiles.entry.row_tile_ptr.now tiles.entry.value_offsets.now row) }
 {
-    check_row(
-        nrows,
-        ncols,
-        row_tile_ptr,
-        masks,
-        value_offsets,
-        metas,
-        values,
-        matrix_nnz,
-        row,
-    )?;
-    Ok(lent::part(row_tile_ptr, value_offsets, row))
+    check_row(tiles, row)?;
+    Ok(lent::part(tiles.row_tile_ptr, tiles.value_offsets, row))
 }
 
 // Their word numbers and kinds, in the same way.
-pub fn row_tile_metas<'a>(
-    nrows: usize,
-    ncols: usize,
-    row_tile_ptr: &[u32],
-    masks: &[u64],
-    value_offsets: &[u32],
-    metas: &'a [u32],
-    values: &[f64],
-    matrix_nnz: usize,
-    row: usize,
-) -> Result<&'a [u32], HybitError>
-    ensures { on_given (λ s. s.now) (given result) ≡ answers (tile_row_answer (as_tiles nrows ncols row_tile_ptr.now masks.now value_offsets.now metas.now values.now matrix_nnz) row) (part row_tile_ptr.now metas.now row) }
+pub fn row_tile_metas<'a>(tiles: AbtmMatrix<'a>, row: usize) -> Result<&'a [u32], HybitError>
+    ensures { on_given (λ s. s.now) (given result) ≡ answers (tile_row_answer (lent_tiles tiles.entry) row) (part tiles.entry.row_tile_ptr.now tiles.entry.metas.now row) }
 {
-    check_row(
-        nrows,
-        ncols,
-        row_tile_ptr,
-        masks,
-        value_offsets,
-        metas,
-        values,
-        matrix_nnz,
-        row,
-    )?;
-    Ok(lent::part(row_tile_ptr, metas, row))
+    check_row(tiles, row)?;
+    Ok(lent::part(tiles.row_tile_ptr, tiles.metas, row))
 }
 
 // How many tiles are of the kind.
-fn count_kind(metas: &[u32], kind: u32) -> usize
-    ensures { result ≡ of_kind kind metas.now }
+// A loop: `filter(..).count()` tells of runs of an iterator, which the proof would have to turn into the `only` of the definition.
+fn count_kind(metas: &[u32], kind: TileKind) -> usize
+    ensures { result ≡ of_kind (kind_number kind) metas.now }
 {
     let mut count: usize = 0;
     for meta in metas {
-        if abtm::kind_in(*meta) != kind {
-            continue;
+        if abtm::kind_in(*meta) == Some(kind) {
+            count += 1;
         }
-        count += 1;
     }
     count
 }
 
-pub fn stats(
-    nrows: usize,
-    ncols: usize,
-    row_tile_ptr: &[u32],
-    masks: &[u64],
-    value_offsets: &[u32],
-    metas: &[u32],
-    values: &[f64],
-    matrix_nnz: usize,
-) -> Result<AbtmStats, HybitError>
-    ensures { given result ≡ answers (tiles_answer (as_tiles nrows ncols row_tile_ptr.now masks.now value_offsets.now metas.now values.now matrix_nnz)) (tile_stats (as_tiles nrows ncols row_tile_ptr.now masks.now value_offsets.now metas.now values.now matrix_nnz)) }
+pub fn stats(tiles: AbtmMatrix) -> Result<AbtmStats, HybitError>
+    ensures { given result ≡ answers (tiles_answer (lent_tiles tiles.entry)) (tile_stats (lent_tiles tiles.entry)) }
 {
-    abtm_check::check(
-        nrows,
-        ncols,
-        row_tile_ptr,
-        masks,
-        value_offsets,
-        metas,
-        values,
-        matrix_nnz,
-    )?;
+    abtm_check::check(tiles)?;
     Ok(AbtmStats {
-        nrows: nrows,
-        ncols: ncols,
-        matrix_nnz: matrix_nnz,
-        tiles: metas.len(),
-        sparse_tiles: count_kind(metas, 0),
-        bitmap_tiles: count_kind(metas, 1),
-        dense_tiles: count_kind(metas, 2),
-        value_slots: values.len(),
-        metadata_bytes: 4 * (nrows + 1) + 16 * metas.len(),
+        nrows: tiles.nrows,
+        ncols: tiles.ncols,
+        matrix_nnz: tiles.matrix_nnz,
+        tiles: tiles.metas.len(),
+        sparse_tiles: count_kind(tiles.metas, TileKind::Sparse),
+        bitmap_tiles: count_kind(tiles.metas, TileKind::Bitmap),
+        dense_tiles: count_kind(tiles.metas, TileKind::Dense),
+        value_slots: tiles.values.len(),
+        metadata_bytes: 4 * (tiles.nrows + 1) + 16 * tiles.metas.len(),
     })
 }

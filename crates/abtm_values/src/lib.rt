@@ -35,6 +35,7 @@ fn one_if_solid(v: f64) -> usize
     0
 }
 
+// A loop as in `count_four`, whose four counts go on side by side, so that no `sum` says them.
 fn count_each(values: &[f64]) -> usize
     ensures { result ≡ length (only solid values.now) }
 {
@@ -63,6 +64,7 @@ fn count_four(first: &[f64], second: &[f64], third: &[f64], fourth: &[f64]) -> u
     a + b + c + d
 }
 
+// csr32's `all_finite` is cut likewise. It joins bools and this adds ones, so one function for both would take two closures.
 // How many values are neither NaN nor zero. Four parts are read side by side: memory serves four streams better than one.
 pub fn count_solid(values: &[f64]) -> usize
     ensures { result ≡ length (only solid values.now) }

@@ -2,21 +2,23 @@
 #![tactic(auto)]
 
 ghost use Rattle.std.specs.Prelude.{◌≡◌, true, ◌&&◌, ltb, length};
-ghost use Rattle.hybit_core.specs.Answer.{answers};
+ghost use Rattle.hybit_core.specs.Answer.{answers, on_given};
 ghost use Rattle.hybit_core.specs.Domain.{few};
 ghost use Rattle.hybit_core.specs.Floats.{finite};
 ghost use Rattle.hybit_core.specs.Table.{told, given};
-ghost use Rattle.lent.specs.Lists.{every, rises};
-ghost use Rattle.csr32.specs.Csr.{as_csr, framed, framed_lists, csr_answer, csr_metadata_bytes, csr_storage_bytes};
+ghost use Rattle.lent.specs.Lists.{every, rises, part};
+ghost use Rattle.csr32.specs.Matrix.{lent_csr};
+ghost use Rattle.csr32.specs.Csr.{framed, framed_lists, csr_answer, csr_metadata_bytes, csr_storage_bytes};
 
 use hybit_core::HybitError;
 
+mod checked;
+mod matrix;
+
+pub use checked::{CheckedCsr32, CsrRow};
+pub use matrix::Csr32Matrix;
+
 // The scans below keep a flag and never leave early: so they compile to vector code, and a good list is read whole anyway.
-fn both(a: bool, b: bool) -> bool
-    ensures { result ≡ (a && b) }
-{
-    if a { b } else { false }
-}
 
 // Whether no pointer is below the one before it.
 fn no_fall(row_ptr: &[u32]) -> bool
@@ -25,7 +27,7 @@ fn no_fall(row_ptr: &[u32]) -> bool
     let mut good = true;
     let mut last: u32 = 0;
     for next in row_ptr {
-        good = both(good, last <= *next);
+        good &= last <= *next;
         last = *next;
     }
     good
@@ -66,7 +68,7 @@ fn columns_below(col_idx: &[u32], limit: u32) -> bool
 {
     let mut good = true;
     for col in col_idx {
-        good = both(good, *col < limit);
+        good &= *col < limit;
     }
     good
 }
@@ -83,7 +85,7 @@ fn each_finite(values: &[f64]) -> bool
 {
     let mut good = true;
     for each_value in values {
-        good = both(good, hybit_core::is_finite(*each_value));
+        good &= hybit_core::is_finite(*each_value);
     }
     good
 }
@@ -98,16 +100,17 @@ fn four_finite(first: &[f64], second: &[f64], third: &[f64], fourth: &[f64]) -> 
     let mut c = true;
     let mut d = true;
     for i in 0..first.len() {
-        a = both(a, hybit_core::is_finite(first[i]));
-        b = both(b, hybit_core::is_finite(second[i]));
-        c = both(c, hybit_core::is_finite(third[i]));
-        d = both(d, hybit_core::is_finite(fourth[i]));
+        a &= hybit_core::is_finite(first[i]);
+        b &= hybit_core::is_finite(second[i]);
+        c &= hybit_core::is_finite(third[i]);
+        d &= hybit_core::is_finite(fourth[i]);
     }
-    both(both(both(a, b), c), d)
+    a & b & c & d
 }
 
 // Whether every value is finite, for any list: stores ask it of theirs. Four parts are read side by side: memory serves four streams
 // better than one.
+// `abtm_values::count_solid` has the same quarters: one function for both would take the scan of a part as a closure, no plainer.
 pub fn all_finite(values: &[f64]) -> bool
     ensures { result ≡ every finite values.now }
 {
@@ -118,56 +121,72 @@ pub fn all_finite(values: &[f64]) -> bool
         &values[2 * q..3 * q],
         &values[3 * q..4 * q],
     );
-    both(most, each_finite(&values[4 * q..]))
+    most & each_finite(&values[4 * q..])
 }
 
-// The Rust's `new` and `validate`.
-pub fn check(
-    nrows: usize,
-    ncols: usize,
-    row_ptr: &[u32],
-    col_idx: &[u32],
-    values: &[f64],
-) -> Result<(), HybitError>
-    ensures { told result ≡ csr_answer (as_csr nrows ncols row_ptr.now col_idx.now values.now) }
-{
-    if !hybit_core::sizes_fit(nrows, ncols, col_idx.len(), values.len()) {
-        return Err(HybitError::SizeOverflow);
+impl<'a> Csr32Matrix<'a> {
+    // The Rust's `new` and `validate`.
+    pub fn check(self) -> Result<(), HybitError>
+        ensures { told result ≡ csr_answer (lent_csr self.entry) }
+    {
+        if !hybit_core::sizes_fit(
+            self.nrows,
+            self.ncols,
+            self.col_idx.len(),
+            self.values.len(),
+        ) {
+            return Err(HybitError::SizeOverflow);
+        }
+        if !lists_hold(
+            self.nrows,
+            self.row_ptr,
+            self.col_idx.len(),
+            self.values.len(),
+        ) {
+            return Err(HybitError::BadFrame);
+        }
+        if !columns_inside(self.col_idx, self.ncols) {
+            return Err(HybitError::OutsideColumn);
+        }
+        if !all_finite(self.values) {
+            return Err(HybitError::NotFinite);
+        }
+        Ok(())
     }
-    if !lists_hold(nrows, row_ptr, col_idx.len(), values.len()) {
-        return Err(HybitError::BadFrame);
+
+    // `check`, which hands back the list that it accepts: for callers above the library.
+    // The crates above make the struct themselves: their own check, which comes first, says that the list is accepted.
+    pub fn checked(self) -> Result<CheckedCsr32<'a>, HybitError>
+        ensures { on_given (λ c. lent_csr c.matrix) (given result) ≡ answers (csr_answer (lent_csr self.entry)) (lent_csr self.entry) }
+    {
+        self.check()?;
+        Ok(CheckedCsr32 { matrix: self })
     }
-    if !columns_inside(col_idx, ncols) {
-        return Err(HybitError::OutsideColumn);
+
+    pub fn metadata_bytes(self) -> Result<usize, HybitError>
+        ensures { given result ≡ answers (csr_answer (lent_csr self.entry)) (csr_metadata_bytes (lent_csr self.entry)) }
+    {
+        self.check()?;
+        Ok(4 * self.row_ptr.len() + 4 * self.col_idx.len())
     }
-    if !all_finite(values) {
-        return Err(HybitError::NotFinite);
+
+    pub fn storage_bytes(self) -> Result<usize, HybitError>
+        ensures { given result ≡ answers (csr_answer (lent_csr self.entry)) (csr_storage_bytes (lent_csr self.entry)) }
+    {
+        self.check()?;
+        Ok(4 * self.row_ptr.len() + 4 * self.col_idx.len() + 8 * self.values.len())
     }
-    Ok(())
 }
 
-pub fn metadata_bytes(
-    nrows: usize,
-    ncols: usize,
-    row_ptr: &[u32],
-    col_idx: &[u32],
-    values: &[f64],
-) -> Result<usize, HybitError>
-    ensures { given result ≡ answers (csr_answer (as_csr nrows ncols row_ptr.now col_idx.now values.now)) (csr_metadata_bytes (as_csr nrows ncols row_ptr.now col_idx.now values.now)) }
-{
-    check(nrows, ncols, row_ptr, col_idx, values)?;
-    Ok(4 * row_ptr.len() + 4 * col_idx.len())
-}
-
-pub fn storage_bytes(
-    nrows: usize,
-    ncols: usize,
-    row_ptr: &[u32],
-    col_idx: &[u32],
-    values: &[f64],
-) -> Result<usize, HybitError>
-    ensures { given result ≡ answers (csr_answer (as_csr nrows ncols row_ptr.now col_idx.now values.now)) (csr_storage_bytes (as_csr nrows ncols row_ptr.now col_idx.now values.now)) }
-{
-    check(nrows, ncols, row_ptr, col_idx, values)?;
-    Ok(4 * row_ptr.len() + 4 * col_idx.len() + 8 * values.len())
+impl<'a> CheckedCsr32<'a> {
+    // The entries of a row.
+    pub fn row(self, row: usize) -> CsrRow<'a>
+        ensures cols { result.cols.now ≡ part self.entry.matrix.row_ptr.now self.entry.matrix.col_idx.now row }
+        ensures vals { result.vals.now ≡ part self.entry.matrix.row_ptr.now self.entry.matrix.values.now row }
+    {
+        CsrRow {
+            cols: lent::part(self.matrix.row_ptr, self.matrix.col_idx, row),
+            vals: lent::part(self.matrix.row_ptr, self.matrix.values, row),
+        }
+    }
 }

@@ -1,104 +1,77 @@
 // What the three routes of demand 3 ask first, of any input: the records, the thresholds in the route by tiles, and the question to a
 // row. The crates demand_routes and demand_tiled run the routes.
+// csr, mask, x and row stay parameters: each route replaces list or mask on its way, so a struct would be taken apart again.
 #![tactic(auto)]
 
 ghost use Rattle.std.specs.Prelude.{◌≡◌};
 ghost use Rattle.hybit_core.specs.Answer.{accepted, ◌and_then◌};
 ghost use Rattle.hybit_core.specs.Table.{told};
-ghost use Rattle.mask.specs.Mask.{as_mask};
-ghost use Rattle.csr32.specs.Csr.{as_csr};
 ghost use Rattle.abtm.specs.Calls.{threshold_answer};
 ghost use Rattle.demand_examine.specs.Calls.{records_answer, question_answer};
+ghost use Rattle.csr32.specs.Matrix.{lent_csr};
+ghost use Rattle.mask.specs.Dof.{lent_mask};
 
 use abtm::AbtmConfig;
+use csr32::Csr32Matrix;
 use hybit_core::HybitError;
+use mask::DofMask;
 
-fn examine_records(
-    nrows: usize,
-    ncols: usize,
-    row_ptr: &[u32],
-    col_idx: &[u32],
-    values: &[f64],
-    mask_len: usize,
-    mask: &[u64],
-) -> Result<(), HybitError>
-    ensures { told result ≡ records_answer (as_csr nrows ncols row_ptr.now col_idx.now values.now) (as_mask mask_len mask.now) }
+// restricted_csr32 begins with these checks too, and goes on with others: a call for three lines would be no plainer.
+fn examine_records(csr: Csr32Matrix, mask: DofMask) -> Result<(), HybitError>
+    ensures { told result ≡ records_answer (lent_csr csr.entry) (lent_mask mask.entry) }
 {
-    if !hybit_core::dimension_fits(mask_len) {
+    if !hybit_core::dimension_fits(mask.len) {
         return Err(HybitError::SizeOverflow);
     }
-    csr32::check(nrows, ncols, row_ptr, col_idx, values)?;
-    mask::check(mask_len, mask)
+    csr.check()?;
+    mask.check()
 }
 
+// The two mismatches stand beside their tests: a function that takes both numbers and answers them would be no plainer.
 fn examine_question(
-    nrows: usize,
-    ncols: usize,
-    row_ptr: &[u32],
-    col_idx: &[u32],
-    values: &[f64],
-    mask_len: usize,
-    mask: &[u64],
+    csr: Csr32Matrix,
+    mask: DofMask,
     x: &[f64],
     row: usize,
 ) -> Result<(), HybitError>
-    requires { records_answer (as_csr nrows ncols row_ptr.now col_idx.now values.now) (as_mask mask_len mask.now) ≡ accepted }
-    ensures { told result ≡ question_answer (as_csr nrows ncols row_ptr.now col_idx.now values.now) (as_mask mask_len mask.now) x.now row }
+    requires { records_answer (lent_csr csr) (lent_mask mask) ≡ accepted }
+    ensures { told result ≡ question_answer (lent_csr csr.entry) (lent_mask mask.entry) x.now row }
 {
-    if mask_len != ncols {
+    if mask.len != csr.ncols {
         return Err(HybitError::DimensionMismatch {
-            expected: ncols,
-            actual: mask_len,
+            expected: csr.ncols,
+            actual: mask.len,
         });
     }
-    if x.len() != ncols {
+    if x.len() != csr.ncols {
         return Err(HybitError::DimensionMismatch {
-            expected: ncols,
+            expected: csr.ncols,
             actual: x.len(),
         });
     }
-    if row >= nrows {
+    if row >= csr.nrows {
         return Err(HybitError::NoSuchPlace);
     }
-    metadata_first_merge::check(nrows, ncols, row_ptr, col_idx, values)
+    metadata_first_merge::check(csr)
 }
 
-pub fn examine(
-    nrows: usize,
-    ncols: usize,
-    row_ptr: &[u32],
-    col_idx: &[u32],
-    values: &[f64],
-    mask_len: usize,
-    mask: &[u64],
-    x: &[f64],
-    row: usize,
-) -> Result<(), HybitError>
-    ensures { told result ≡ (records_answer (as_csr nrows ncols row_ptr.now col_idx.now values.now) (as_mask mask_len mask.now) and_then question_answer (as_csr nrows ncols row_ptr.now col_idx.now values.now) (as_mask mask_len mask.now) x.now row) }
+pub fn examine(csr: Csr32Matrix, mask: DofMask, x: &[f64], row: usize) -> Result<(), HybitError>
+    ensures { told result ≡ (records_answer (lent_csr csr.entry) (lent_mask mask.entry) and_then question_answer (lent_csr csr.entry) (lent_mask mask.entry) x.now row) }
 {
-    examine_records(nrows, ncols, row_ptr, col_idx, values, mask_len, mask)?;
-    examine_question(
-        nrows, ncols, row_ptr, col_idx, values, mask_len, mask, x, row,
-    )
+    examine_records(csr, mask)?;
+    examine_question(csr, mask, x, row)
 }
 
 pub fn examine_tiled(
-    nrows: usize,
-    ncols: usize,
-    row_ptr: &[u32],
-    col_idx: &[u32],
-    values: &[f64],
-    mask_len: usize,
-    mask: &[u64],
+    csr: Csr32Matrix,
+    mask: DofMask,
     config: AbtmConfig,
     x: &[f64],
     row: usize,
 ) -> Result<(), HybitError>
-    ensures { told result ≡ (records_answer (as_csr nrows ncols row_ptr.now col_idx.now values.now) (as_mask mask_len mask.now) and_then threshold_answer config and_then question_answer (as_csr nrows ncols row_ptr.now col_idx.now values.now) (as_mask mask_len mask.now) x.now row) }
+    ensures { told result ≡ (records_answer (lent_csr csr.entry) (lent_mask mask.entry) and_then threshold_answer config and_then question_answer (lent_csr csr.entry) (lent_mask mask.entry) x.now row) }
 {
-    examine_records(nrows, ncols, row_ptr, col_idx, values, mask_len, mask)?;
+    examine_records(csr, mask)?;
     config.validate()?;
-    examine_question(
-        nrows, ncols, row_ptr, col_idx, values, mask_len, mask, x, row,
-    )
+    examine_question(csr, mask, x, row)
 }

@@ -1,77 +1,61 @@
 // Demand 3's route by tiles on lent lists: the row product of the list restricted from the plot list's tiles. It runs its calls one
 // after the other and answers the first refusal.
+// Lists that are written stay apart in all functions: a struct would have to name each in every contract.
+// csr, mask, x and row stay apart too: the list becomes tiles, and these another list, on the way.
 #![tactic(auto)]
 
 ghost use Rattle.std.specs.Prelude.{◌≡◌, [], length};
 ghost use Rattle.hybit_core.specs.Answer.{answers, ◌and_then◌};
 ghost use Rattle.hybit_core.specs.Floats.{zero64};
 ghost use Rattle.lent.specs.Lent.{padded, built};
-ghost use Rattle.mask.specs.Mask.{as_mask};
-ghost use Rattle.csr32.specs.Csr.{as_csr};
 ghost use Rattle.csr32.specs.Made.{as_csr_room};
-ghost use Rattle.abtm.specs.Tiles.{as_tiles};
 ghost use Rattle.abtm_build.specs.Build.{as_tile_room, tiles_from, tile_answer, tiled};
 ghost use Rattle.restricted.specs.Restricted.{restricted_tiles, restrict_tiles_answer, restricted_tiles_left};
 ghost use Rattle.demand_tiled.specs.Tiled.{product_answer, product_of, list_number, tile_list_number, tiles_number, TileLists};
 ghost use Rattle.hybit_core.specs.Table.{given};
 ghost use Rattle.demand_examine.specs.Steps.{PlotLists};
 ghost use Rattle.demand_examine.specs.Calls.{tiled_answer, tiled_row_product};
+ghost use Rattle.abtm.specs.Matrix.{lent_tiles};
+ghost use Rattle.csr32.specs.Matrix.{lent_csr};
+ghost use Rattle.mask.specs.Dof.{lent_mask};
 
-use abtm::AbtmConfig;
+use abtm::{AbtmConfig, AbtmMatrix};
 use abtm_build::TilesSize;
+use csr32::Csr32Matrix;
 use hybit_core::HybitError;
+use mask::DofMask;
 
 // A row of a plot list's product, which goes to `product`.
 fn list_number(
-    nrows: usize,
-    ncols: usize,
-    row_ptr: &[u32],
-    col_idx: &[u32],
-    values: &[f64],
+    csr: Csr32Matrix,
     x: &[f64],
     row: usize,
     product: &mut [f64],
 ) -> Result<f64, HybitError>
-    ensures answer { given result ≡ list_number (as_csr nrows ncols row_ptr.now col_idx.now values.now) x.now row (length product.old) }
-    ensures list { product.new ≡ built zero64 (length product.old) (product_answer (as_csr nrows ncols row_ptr.now col_idx.now values.now) x.now row (length product.old)) (product_of (as_csr nrows ncols row_ptr.now col_idx.now values.now) x.now) }
+    ensures answer { given result ≡ list_number (lent_csr csr.entry) x.now row (length product.old) }
+    ensures list { product.new ≡ built zero64 (length product.old) (product_answer (lent_csr csr.entry) x.now row (length product.old)) (product_of (lent_csr csr.entry) x.now) }
 {
-    if row >= nrows {
+    if row >= csr.nrows {
         lent::clear_from(product, 0);
         return Err(HybitError::NoSuchPlace);
     }
-    if product.len() < nrows {
+    if product.len() < csr.nrows {
         lent::clear_from(product, 0);
         return Err(HybitError::ShortList);
     }
-    let v = csr32_apply::apply(
-        nrows,
-        ncols,
-        row_ptr,
-        col_idx,
-        values,
-        x,
-        &mut product[..nrows],
-    );
+    let v = csr32_apply::apply(csr, x, &mut product[..csr.nrows]);
     if let Err(e) = v {
         lent::clear_from(product, 0);
         return Err(e);
     }
-    lent::clear_from(product, nrows);
+    lent::clear_from(product, csr.nrows);
     Ok(product[row])
 }
 
 // The row product of the list restricted from tiles.
 fn tile_list_number(
-    nrows: usize,
-    ncols: usize,
-    row_tile_ptr: &[u32],
-    tile_masks: &[u64],
-    value_offsets: &[u32],
-    metas: &[u32],
-    tile_values: &[f64],
-    matrix_nnz: usize,
-    mask_len: usize,
-    mask: &[u64],
+    tiles: AbtmMatrix,
+    mask: DofMask,
     x: &[f64],
     row: usize,
     out_row_ptr: &mut [u32],
@@ -79,25 +63,11 @@ fn tile_list_number(
     out_values: &mut [f64],
     product: &mut [f64],
 ) -> Result<f64, HybitError>
-    ensures answer { given result ≡ tile_list_number (as_tiles nrows ncols row_tile_ptr.now tile_masks.now value_offsets.now metas.now tile_values.now matrix_nnz) (as_mask mask_len mask.now) x.now row (as_csr_room (length out_row_ptr.old) (length out_col_idx.old) (length out_values.old)) (length product.old) }
-    ensures list { PlotLists (restrict_tiles_answer (as_tiles nrows ncols row_tile_ptr.now tile_masks.now value_offsets.now metas.now tile_values.now matrix_nnz) (as_mask mask_len mask.now) (as_csr_room (length out_row_ptr.old) (length out_col_idx.old) (length out_values.old))) (restricted_tiles (as_tiles nrows ncols row_tile_ptr.now tile_masks.now value_offsets.now metas.now tile_values.now matrix_nnz) (as_mask mask_len mask.now)) (as_csr_room (length out_row_ptr.old) (length out_col_idx.old) (length out_values.old)) out_row_ptr.new out_col_idx.new out_values.new }
-    ensures product { product.new ≡ built zero64 (length product.old) (restrict_tiles_answer (as_tiles nrows ncols row_tile_ptr.now tile_masks.now value_offsets.now metas.now tile_values.now matrix_nnz) (as_mask mask_len mask.now) (as_csr_room (length out_row_ptr.old) (length out_col_idx.old) (length out_values.old)) and_then product_answer (restricted_tiles_left (as_tiles nrows ncols row_tile_ptr.now tile_masks.now value_offsets.now metas.now tile_values.now matrix_nnz) (as_mask mask_len mask.now) (as_csr_room (length out_row_ptr.old) (length out_col_idx.old) (length out_values.old))) x.now row (length product.old)) (product_of (restricted_tiles_left (as_tiles nrows ncols row_tile_ptr.now tile_masks.now value_offsets.now metas.now tile_values.now matrix_nnz) (as_mask mask_len mask.now) (as_csr_room (length out_row_ptr.old) (length out_col_idx.old) (length out_values.old))) x.now) }
+    ensures answer { given result ≡ tile_list_number (lent_tiles tiles.entry) (lent_mask mask.entry) x.now row (as_csr_room (length out_row_ptr.old) (length out_col_idx.old) (length out_values.old)) (length product.old) }
+    ensures list { PlotLists (restrict_tiles_answer (lent_tiles tiles.entry) (lent_mask mask.entry) (as_csr_room (length out_row_ptr.old) (length out_col_idx.old) (length out_values.old))) (restricted_tiles (lent_tiles tiles.entry) (lent_mask mask.entry)) (as_csr_room (length out_row_ptr.old) (length out_col_idx.old) (length out_values.old)) out_row_ptr.new out_col_idx.new out_values.new }
+    ensures product { product.new ≡ built zero64 (length product.old) (restrict_tiles_answer (lent_tiles tiles.entry) (lent_mask mask.entry) (as_csr_room (length out_row_ptr.old) (length out_col_idx.old) (length out_values.old)) and_then product_answer (restricted_tiles_left (lent_tiles tiles.entry) (lent_mask mask.entry) (as_csr_room (length out_row_ptr.old) (length out_col_idx.old) (length out_values.old))) x.now row (length product.old)) (product_of (restricted_tiles_left (lent_tiles tiles.entry) (lent_mask mask.entry) (as_csr_room (length out_row_ptr.old) (length out_col_idx.old) (length out_values.old))) x.now) }
 {
-    let t = restricted_abtm::from_abtm(
-        nrows,
-        ncols,
-        row_tile_ptr,
-        tile_masks,
-        value_offsets,
-        metas,
-        tile_values,
-        matrix_nnz,
-        mask_len,
-        mask,
-        out_row_ptr,
-        out_col_idx,
-        out_values,
-    );
+    let t = restricted_abtm::from_abtm(tiles, mask, out_row_ptr, out_col_idx, out_values);
     match t {
         Err(e) => {
             lent::clear_from(product, 0);
@@ -106,11 +76,13 @@ fn tile_list_number(
         Ok(s) => {
             let kept = s.retained_nnz;
             list_number(
-                nrows,
-                ncols,
-                &out_row_ptr[..nrows + 1],
-                &out_col_idx[..kept],
-                &out_values[..kept],
+                Csr32Matrix {
+                    nrows: tiles.nrows,
+                    ncols: tiles.ncols,
+                    row_ptr: &out_row_ptr[..tiles.nrows + 1],
+                    col_idx: &out_col_idx[..kept],
+                    values: &out_values[..kept],
+                },
                 x,
                 row,
                 product,
@@ -119,7 +91,7 @@ fn tile_list_number(
     }
 }
 
-// Zeros in the lists of a plot list and of a product.
+// Zeros in the lists of a plot list and of a product, four calls for four lists: restricted_abtm's three have no product.
 fn clear_list(
     out_row_ptr: &mut [u32],
     out_col_idx: &mut [u32],
@@ -139,13 +111,8 @@ fn clear_list(
 
 // The row product of the list restricted from the plot list's tiles. Each list is what the call that writes it leaves.
 fn tile_number(
-    nrows: usize,
-    ncols: usize,
-    row_ptr: &[u32],
-    col_idx: &[u32],
-    values: &[f64],
-    mask_len: usize,
-    mask: &[u64],
+    csr: Csr32Matrix,
+    mask: DofMask,
     config: AbtmConfig,
     x: &[f64],
     row: usize,
@@ -159,17 +126,13 @@ fn tile_number(
     out_values: &mut [f64],
     product: &mut [f64],
 ) -> Result<f64, HybitError>
-    ensures answer { given result ≡ tiles_number (as_csr nrows ncols row_ptr.now col_idx.now values.now) (as_mask mask_len mask.now) x.now config row (as_tile_room (length row_tile_ptr.old) (length tile_masks.old) (length value_offsets.old) (length metas.old) (length tile_values.old)) (as_csr_room (length out_row_ptr.old) (length out_col_idx.old) (length out_values.old)) (length product.old) }
-    ensures tiles { TileLists (tile_answer (as_csr nrows ncols row_ptr.now col_idx.now values.now) config (as_tile_room (length row_tile_ptr.old) (length tile_masks.old) (length value_offsets.old) (length metas.old) (length tile_values.old))) (tiles_from (as_csr nrows ncols row_ptr.now col_idx.now values.now) config) (as_tile_room (length row_tile_ptr.old) (length tile_masks.old) (length value_offsets.old) (length metas.old) (length tile_values.old)) row_tile_ptr.new tile_masks.new value_offsets.new metas.new tile_values.new }
-    ensures list { PlotLists (tile_answer (as_csr nrows ncols row_ptr.now col_idx.now values.now) config (as_tile_room (length row_tile_ptr.old) (length tile_masks.old) (length value_offsets.old) (length metas.old) (length tile_values.old)) and_then restrict_tiles_answer (tiled (as_csr nrows ncols row_ptr.now col_idx.now values.now) config (as_tile_room (length row_tile_ptr.old) (length tile_masks.old) (length value_offsets.old) (length metas.old) (length tile_values.old))) (as_mask mask_len mask.now) (as_csr_room (length out_row_ptr.old) (length out_col_idx.old) (length out_values.old))) (restricted_tiles (tiled (as_csr nrows ncols row_ptr.now col_idx.now values.now) config (as_tile_room (length row_tile_ptr.old) (length tile_masks.old) (length value_offsets.old) (length metas.old) (length tile_values.old))) (as_mask mask_len mask.now)) (as_csr_room (length out_row_ptr.old) (length out_col_idx.old) (length out_values.old)) out_row_ptr.new out_col_idx.new out_values.new }
-    ensures product { product.new ≡ built zero64 (length product.old) (tile_answer (as_csr nrows ncols row_ptr.now col_idx.now values.now) config (as_tile_room (length row_tile_ptr.old) (length tile_masks.old) (length value_offsets.old) (length metas.old) (length tile_values.old)) and_then restrict_tiles_answer (tiled (as_csr nrows ncols row_ptr.now col_idx.now values.now) config (as_tile_room (length row_tile_ptr.old) (length tile_masks.old) (length value_offsets.old) (length metas.old) (length tile_values.old))) (as_mask mask_len mask.now) (as_csr_room (length out_row_ptr.old) (length out_col_idx.old) (length out_values.old)) and_then product_answer (restricted_tiles_left (tiled (as_csr nrows ncols row_ptr.now col_idx.now values.now) config (as_tile_room (length row_tile_ptr.old) (length tile_masks.old) (length value_offsets.old) (length metas.old) (length tile_values.old))) (as_mask mask_len mask.now) (as_csr_room (length out_row_ptr.old) (length out_col_idx.old) (length out_values.old))) x.now row (length product.old)) (product_of (restricted_tiles_left (tiled (as_csr nrows ncols row_ptr.now col_idx.now values.now) config (as_tile_room (length row_tile_ptr.old) (length tile_masks.old) (length value_offsets.old) (length metas.old) (length tile_values.old))) (as_mask mask_len mask.now) (as_csr_room (length out_row_ptr.old) (length out_col_idx.old) (length out_values.old))) x.now) }
+    ensures answer { given result ≡ tiles_number (lent_csr csr.entry) (lent_mask mask.entry) x.now config row (as_tile_room (length row_tile_ptr.old) (length tile_masks.old) (length value_offsets.old) (length metas.old) (length tile_values.old)) (as_csr_room (length out_row_ptr.old) (length out_col_idx.old) (length out_values.old)) (length product.old) }
+    ensures tiles { TileLists (tile_answer (lent_csr csr.entry) config (as_tile_room (length row_tile_ptr.old) (length tile_masks.old) (length value_offsets.old) (length metas.old) (length tile_values.old))) (tiles_from (lent_csr csr.entry) config) (as_tile_room (length row_tile_ptr.old) (length tile_masks.old) (length value_offsets.old) (length metas.old) (length tile_values.old)) row_tile_ptr.new tile_masks.new value_offsets.new metas.new tile_values.new }
+    ensures list { PlotLists (tile_answer (lent_csr csr.entry) config (as_tile_room (length row_tile_ptr.old) (length tile_masks.old) (length value_offsets.old) (length metas.old) (length tile_values.old)) and_then restrict_tiles_answer (tiled (lent_csr csr.entry) config (as_tile_room (length row_tile_ptr.old) (length tile_masks.old) (length value_offsets.old) (length metas.old) (length tile_values.old))) (lent_mask mask.entry) (as_csr_room (length out_row_ptr.old) (length out_col_idx.old) (length out_values.old))) (restricted_tiles (tiled (lent_csr csr.entry) config (as_tile_room (length row_tile_ptr.old) (length tile_masks.old) (length value_offsets.old) (length metas.old) (length tile_values.old))) (lent_mask mask.entry)) (as_csr_room (length out_row_ptr.old) (length out_col_idx.old) (length out_values.old)) out_row_ptr.new out_col_idx.new out_values.new }
+    ensures product { product.new ≡ built zero64 (length product.old) (tile_answer (lent_csr csr.entry) config (as_tile_room (length row_tile_ptr.old) (length tile_masks.old) (length value_offsets.old) (length metas.old) (length tile_values.old)) and_then restrict_tiles_answer (tiled (lent_csr csr.entry) config (as_tile_room (length row_tile_ptr.old) (length tile_masks.old) (length value_offsets.old) (length metas.old) (length tile_values.old))) (lent_mask mask.entry) (as_csr_room (length out_row_ptr.old) (length out_col_idx.old) (length out_values.old)) and_then product_answer (restricted_tiles_left (tiled (lent_csr csr.entry) config (as_tile_room (length row_tile_ptr.old) (length tile_masks.old) (length value_offsets.old) (length metas.old) (length tile_values.old))) (lent_mask mask.entry) (as_csr_room (length out_row_ptr.old) (length out_col_idx.old) (length out_values.old))) x.now row (length product.old)) (product_of (restricted_tiles_left (tiled (lent_csr csr.entry) config (as_tile_room (length row_tile_ptr.old) (length tile_masks.old) (length value_offsets.old) (length metas.old) (length tile_values.old))) (lent_mask mask.entry) (as_csr_room (length out_row_ptr.old) (length out_col_idx.old) (length out_values.old))) x.now) }
 {
     let t = abtm_build::from_csr32(
-        nrows,
-        ncols,
-        row_ptr,
-        col_idx,
-        values,
+        csr,
         config,
         row_tile_ptr,
         tile_masks,
@@ -189,15 +152,16 @@ fn tile_number(
                 matrix_nnz,
             },
         ) => tile_list_number(
-            nrows,
-            ncols,
-            &row_tile_ptr[..nrows + 1],
-            &tile_masks[..tiles],
-            &value_offsets[..tiles],
-            &metas[..tiles],
-            &tile_values[..value_slots],
-            matrix_nnz,
-            mask_len,
+            AbtmMatrix {
+                nrows: csr.nrows,
+                ncols: csr.ncols,
+                row_tile_ptr: &row_tile_ptr[..csr.nrows + 1],
+                masks: &tile_masks[..tiles],
+                value_offsets: &value_offsets[..tiles],
+                metas: &metas[..tiles],
+                values: &tile_values[..value_slots],
+                matrix_nnz,
+            },
             mask,
             x,
             row,
@@ -239,13 +203,8 @@ fn clear_tiled(
 // The row product of the list restricted from the plot list's tiles: the tiles are built and restricted, and the product of all rows
 // made, each in lists that then hold it.
 pub fn tiled_number(
-    nrows: usize,
-    ncols: usize,
-    row_ptr: &[u32],
-    col_idx: &[u32],
-    values: &[f64],
-    mask_len: usize,
-    mask: &[u64],
+    csr: Csr32Matrix,
+    mask: DofMask,
     config: AbtmConfig,
     x: &[f64],
     row: usize,
@@ -259,14 +218,12 @@ pub fn tiled_number(
     out_values: &mut [f64],
     product: &mut [f64],
 ) -> Result<f64, HybitError>
-    ensures answer { given result ≡ answers (tiled_answer (as_csr nrows ncols row_ptr.now col_idx.now values.now) (as_mask mask_len mask.now) config x.now row (as_tile_room (length row_tile_ptr.old) (length tile_masks.old) (length value_offsets.old) (length metas.old) (length tile_values.old)) (as_csr_room (length out_row_ptr.old) (length out_col_idx.old) (length out_values.old)) (length product.old)) (tiled_row_product (as_csr nrows ncols row_ptr.now col_idx.now values.now) (as_mask mask_len mask.now) config x.now row) }
-    ensures tiles { TileLists (tiled_answer (as_csr nrows ncols row_ptr.now col_idx.now values.now) (as_mask mask_len mask.now) config x.now row (as_tile_room (length row_tile_ptr.old) (length tile_masks.old) (length value_offsets.old) (length metas.old) (length tile_values.old)) (as_csr_room (length out_row_ptr.old) (length out_col_idx.old) (length out_values.old)) (length product.old)) (tiles_from (as_csr nrows ncols row_ptr.now col_idx.now values.now) config) (as_tile_room (length row_tile_ptr.old) (length tile_masks.old) (length value_offsets.old) (length metas.old) (length tile_values.old)) row_tile_ptr.new tile_masks.new value_offsets.new metas.new tile_values.new }
-    ensures list { PlotLists (tiled_answer (as_csr nrows ncols row_ptr.now col_idx.now values.now) (as_mask mask_len mask.now) config x.now row (as_tile_room (length row_tile_ptr.old) (length tile_masks.old) (length value_offsets.old) (length metas.old) (length tile_values.old)) (as_csr_room (length out_row_ptr.old) (length out_col_idx.old) (length out_values.old)) (length product.old)) (restricted_tiles (tiles_from (as_csr nrows ncols row_ptr.now col_idx.now values.now) config) (as_mask mask_len mask.now)) (as_csr_room (length out_row_ptr.old) (length out_col_idx.old) (length out_values.old)) out_row_ptr.new out_col_idx.new out_values.new }
-    ensures product { product.new ≡ built zero64 (length product.old) (tiled_answer (as_csr nrows ncols row_ptr.now col_idx.now values.now) (as_mask mask_len mask.now) config x.now row (as_tile_room (length row_tile_ptr.old) (length tile_masks.old) (length value_offsets.old) (length metas.old) (length tile_values.old)) (as_csr_room (length out_row_ptr.old) (length out_col_idx.old) (length out_values.old)) (length product.old)) (product_of (restricted_tiles (tiles_from (as_csr nrows ncols row_ptr.now col_idx.now values.now) config) (as_mask mask_len mask.now)) x.now) }
+    ensures answer { given result ≡ answers (tiled_answer (lent_csr csr.entry) (lent_mask mask.entry) config x.now row (as_tile_room (length row_tile_ptr.old) (length tile_masks.old) (length value_offsets.old) (length metas.old) (length tile_values.old)) (as_csr_room (length out_row_ptr.old) (length out_col_idx.old) (length out_values.old)) (length product.old)) (tiled_row_product (lent_csr csr.entry) (lent_mask mask.entry) config x.now row) }
+    ensures tiles { TileLists (tiled_answer (lent_csr csr.entry) (lent_mask mask.entry) config x.now row (as_tile_room (length row_tile_ptr.old) (length tile_masks.old) (length value_offsets.old) (length metas.old) (length tile_values.old)) (as_csr_room (length out_row_ptr.old) (length out_col_idx.old) (length out_values.old)) (length product.old)) (tiles_from (lent_csr csr.entry) config) (as_tile_room (length row_tile_ptr.old) (length tile_masks.old) (length value_offsets.old) (length metas.old) (length tile_values.old)) row_tile_ptr.new tile_masks.new value_offsets.new metas.new tile_values.new }
+    ensures list { PlotLists (tiled_answer (lent_csr csr.entry) (lent_mask mask.entry) config x.now row (as_tile_room (length row_tile_ptr.old) (length tile_masks.old) (length value_offsets.old) (length metas.old) (length tile_values.old)) (as_csr_room (length out_row_ptr.old) (length out_col_idx.old) (length out_values.old)) (length product.old)) (restricted_tiles (tiles_from (lent_csr csr.entry) config) (lent_mask mask.entry)) (as_csr_room (length out_row_ptr.old) (length out_col_idx.old) (length out_values.old)) out_row_ptr.new out_col_idx.new out_values.new }
+    ensures product { product.new ≡ built zero64 (length product.old) (tiled_answer (lent_csr csr.entry) (lent_mask mask.entry) config x.now row (as_tile_room (length row_tile_ptr.old) (length tile_masks.old) (length value_offsets.old) (length metas.old) (length tile_values.old)) (as_csr_room (length out_row_ptr.old) (length out_col_idx.old) (length out_values.old)) (length product.old)) (product_of (restricted_tiles (tiles_from (lent_csr csr.entry) config) (lent_mask mask.entry)) x.now) }
 {
-    let v = demand_examine::examine_tiled(
-        nrows, ncols, row_ptr, col_idx, values, mask_len, mask, config, x, row,
-    );
+    let v = demand_examine::examine_tiled(csr, mask, config, x, row);
     if let Err(e) = v {
         clear_tiled(
             row_tile_ptr,
@@ -282,12 +239,7 @@ pub fn tiled_number(
         return Err(e);
     }
     let d = tile_number(
-        nrows,
-        ncols,
-        row_ptr,
-        col_idx,
-        values,
-        mask_len,
+        csr,
         mask,
         config,
         x,
@@ -302,21 +254,19 @@ pub fn tiled_number(
         out_values,
         product,
     );
-    match d {
-        Ok(n) => Ok(n),
-        Err(e) => {
-            clear_tiled(
-                row_tile_ptr,
-                tile_masks,
-                value_offsets,
-                metas,
-                tile_values,
-                out_row_ptr,
-                out_col_idx,
-                out_values,
-                product,
-            );
-            Err(e)
-        }
+    if let Err(e) = d {
+        clear_tiled(
+            row_tile_ptr,
+            tile_masks,
+            value_offsets,
+            metas,
+            tile_values,
+            out_row_ptr,
+            out_col_idx,
+            out_values,
+            product,
+        );
+        return Err(e);
     }
+    d
 }

@@ -1,6 +1,8 @@
 // The C interface: every public call of mask, csr32, topology, metadata_first, abtm, restricted and dense_block under a name of
 // its own, which denimrasp_c exports for programs in C and Rust to link (denimrasp.h). A list crosses as a pointer and a length, an
 // answer as one struct of denimrasp_answers.
+// denimrasp_c repeats each promise word for word, so the functions have C's parameters: a record's numbers and lists side by side.
+// Three set operations on masks and four on words: an enum has no fixed form in C, so each is a function of its own.
 #![tactic(auto)]
 
 ghost use Rattle.std.specs.Prelude.{◌≡◌, false, not, ◌&&◌, ◌||◌, min, ◌+◌, ◌-◌, ◌*◌, ◌^◌, eqb, length};
@@ -39,47 +41,54 @@ ghost use Rattle.dense_block.specs.Calls.{figures_of, build_blocks_answer, block
 ghost use Rattle.dense_block_apply.specs.Product.{blocks_product, apply_blocks_answer};
 ghost use Rattle.denimrasp_answers.specs.Answers.{verdict_of, count_of, bool_of, select_of, part_of, topology_answer_of, topology_stats_of, store_stats_of, dot_answer_of, totals_of, places_of, counts_from, tiles_answer_of, tile_stats_of, thresholds_from, restriction_answer_of, region_answer_of, restriction_from, region_from, blocks_answer_of, ratio_answer_of, size_from, blocks_from};
 
-use abtm::{AbtmConfig, TileDesc};
+use abtm::{AbtmConfig, AbtmMatrix, TileDesc};
 use abtm_rows::AbtmStats;
+use csr32::Csr32Matrix;
 use denimrasp_answers::{
     DenimraspBlocks, DenimraspBool, DenimraspCount, DenimraspDot, DenimraspPart, DenimraspRatio,
     DenimraspRegion, DenimraspRestriction, DenimraspSelect, DenimraspStoreStats,
     DenimraspTileStats, DenimraspTiles, DenimraspTopology, DenimraspTopologyStats, DenimraspTotals,
     DenimraspVerdict,
 };
-use dense_block::DenseBlocks;
+use dense_block::{DenseBlockCsrOperator, DenseBlocks};
 use hybit_core::HybitError;
-use metadata_first::{AbtmMetadataFirstStats, AbtmProductPruningStats};
+use mask::DofMask;
+use metadata_first::{AbtmMetadataFirstMatrix, AbtmMetadataFirstStats, AbtmProductPruningStats};
 use restricted::{ColumnRestriction, LocalRegion};
-use topology::{AbtmTopologyStats, AbtmTopologyWord};
+use restricted_gather::RegionMembers;
+use topology::{AbtmTopology, AbtmTopologyStats, AbtmTopologyWord};
 use word::Operation;
 
 // 5 where the words are not those of a mask of that length.
 pub fn denimrasp_mask_check(len: usize, words: &[u64]) -> DenimraspVerdict
     ensures { result ≡ verdict_of (mask_answer (as_mask len words.now)) }
 {
-    mask::check(len, words).into()
+    let mask = DofMask { len, words };
+    mask.check().into()
 }
 
 // Whether index is a member; false from the length on.
 pub fn denimrasp_mask_contains(len: usize, words: &[u64], index: usize) -> DenimraspBool
     ensures { result ≡ bool_of (answers (mask_answer (as_mask len words.now)) (active (as_mask len words.now) index)) }
 {
-    mask::contains(len, words, index).into()
+    let mask = DofMask { len, words };
+    mask.contains(index).into()
 }
 
 // How many members the mask has.
 pub fn denimrasp_mask_count_ones(len: usize, words: &[u64]) -> DenimraspCount
     ensures { result ≡ count_of (answers (mask_answer (as_mask len words.now)) (count (active (as_mask len words.now)) len)) }
 {
-    mask::count_ones(len, words).into()
+    let mask = DofMask { len, words };
+    mask.count_ones().into()
 }
 
 // Whether the mask has no member.
 pub fn denimrasp_mask_is_empty(len: usize, words: &[u64]) -> DenimraspBool
     ensures { result ≡ bool_of (answers (mask_answer (as_mask len words.now)) (eqb (count (active (as_mask len words.now)) len) 0)) }
 {
-    mask::is_empty(len, words).into()
+    let mask = DofMask { len, words };
+    mask.is_empty().into()
 }
 
 // The empty mask of that length.
@@ -133,7 +142,8 @@ pub fn denimrasp_mask_indices(len: usize, words: &[u64], out: &mut [usize]) -> D
     ensures answer { result ≡ count_of (answers (indices_answer (as_mask len words.now) (length out.old)) (count (active (as_mask len words.now)) len)) }
     ensures list { out.new ≡ built 0 (length out.old) (indices_answer (as_mask len words.now) (length out.old)) (below (active (as_mask len words.now)) len) }
 {
-    mask::indices(len, words, out).into()
+    let mask = DofMask { len, words };
+    mask.indices(out).into()
 }
 
 // Joins the other mask's members to this one's.
@@ -146,7 +156,11 @@ pub fn denimrasp_mask_union_assign(
     ensures answer { result ≡ verdict_of (mask_pair_answer (as_mask len words.old) (as_mask other_len other.now)) }
     ensures list { words.new ≡ kept (mask_pair_answer (as_mask len words.old) (as_mask other_len other.now)) (mask_words (λ c. active (as_mask len words.old) c || active (as_mask other_len other.now) c) len) words.old }
 {
-    mask_sets::union_assign(len, words, other_len, other).into()
+    let other = DofMask {
+        len: other_len,
+        words: other,
+    };
+    mask_sets::union_assign(len, words, other).into()
 }
 
 // Keeps the members that the other mask has too.
@@ -159,7 +173,11 @@ pub fn denimrasp_mask_intersect_assign(
     ensures answer { result ≡ verdict_of (mask_pair_answer (as_mask len words.old) (as_mask other_len other.now)) }
     ensures list { words.new ≡ kept (mask_pair_answer (as_mask len words.old) (as_mask other_len other.now)) (mask_words (λ c. active (as_mask len words.old) c && active (as_mask other_len other.now) c) len) words.old }
 {
-    mask_sets::intersect_assign(len, words, other_len, other).into()
+    let other = DofMask {
+        len: other_len,
+        words: other,
+    };
+    mask_sets::intersect_assign(len, words, other).into()
 }
 
 // Keeps the members that the other mask does not have.
@@ -172,7 +190,11 @@ pub fn denimrasp_mask_and_not_assign(
     ensures answer { result ≡ verdict_of (mask_pair_answer (as_mask len words.old) (as_mask other_len other.now)) }
     ensures list { words.new ≡ kept (mask_pair_answer (as_mask len words.old) (as_mask other_len other.now)) (mask_words (λ c. active (as_mask len words.old) c && not (active (as_mask other_len other.now) c)) len) words.old }
 {
-    mask_sets::and_not_assign(len, words, other_len, other).into()
+    let other = DofMask {
+        len: other_len,
+        words: other,
+    };
+    mask_sets::and_not_assign(len, words, other).into()
 }
 
 // Whether the two masks have a member in common.
@@ -184,7 +206,12 @@ pub fn denimrasp_mask_intersects(
 ) -> DenimraspBool
     ensures { result ≡ bool_of (answers (mask_pair_answer (as_mask len words.now) (as_mask other_len other.now)) (not (eqb (count (both (active (as_mask len words.now)) (active (as_mask other_len other.now))) len) 0))) }
 {
-    mask_sets::intersects(len, words, other_len, other).into()
+    let mask = DofMask { len, words };
+    let other = DofMask {
+        len: other_len,
+        words: other,
+    };
+    mask_sets::intersects(mask, other).into()
 }
 
 // The Rust's `new` and `validate`.
@@ -197,7 +224,14 @@ pub fn denimrasp_csr32_check(
 ) -> DenimraspVerdict
     ensures { result ≡ verdict_of (csr_answer (as_csr nrows ncols row_ptr.now col_idx.now values.now)) }
 {
-    csr32::check(nrows, ncols, row_ptr, col_idx, values).into()
+    let csr = Csr32Matrix {
+        nrows,
+        ncols,
+        row_ptr,
+        col_idx,
+        values,
+    };
+    csr.check().into()
 }
 
 // The row products; a refused call leaves y as it was.
@@ -213,7 +247,14 @@ pub fn denimrasp_csr32_apply(
     ensures answer { result ≡ verdict_of (apply_answer (as_csr nrows ncols row_ptr.now col_idx.now values.now) x.now (length y.old)) }
     ensures target { y.new ≡ kept (apply_answer (as_csr nrows ncols row_ptr.now col_idx.now values.now) x.now (length y.old)) (product (as_csr nrows ncols row_ptr.now col_idx.now values.now) x.now) y.old }
 {
-    csr32_apply::apply(nrows, ncols, row_ptr, col_idx, values, x, y).into()
+    let csr = Csr32Matrix {
+        nrows,
+        ncols,
+        row_ptr,
+        col_idx,
+        values,
+    };
+    csr32_apply::apply(csr, x, y).into()
 }
 
 // The bytes of the pointers and columns.
@@ -226,7 +267,14 @@ pub fn denimrasp_csr32_metadata_bytes(
 ) -> DenimraspCount
     ensures { result ≡ count_of (answers (csr_answer (as_csr nrows ncols row_ptr.now col_idx.now values.now)) (csr_metadata_bytes (as_csr nrows ncols row_ptr.now col_idx.now values.now))) }
 {
-    csr32::metadata_bytes(nrows, ncols, row_ptr, col_idx, values).into()
+    let csr = Csr32Matrix {
+        nrows,
+        ncols,
+        row_ptr,
+        col_idx,
+        values,
+    };
+    csr.metadata_bytes().into()
 }
 
 // The same and those of the values.
@@ -239,7 +287,14 @@ pub fn denimrasp_csr32_storage_bytes(
 ) -> DenimraspCount
     ensures { result ≡ count_of (answers (csr_answer (as_csr nrows ncols row_ptr.now col_idx.now values.now)) (csr_storage_bytes (as_csr nrows ncols row_ptr.now col_idx.now values.now))) }
 {
-    csr32::storage_bytes(nrows, ncols, row_ptr, col_idx, values).into()
+    let csr = Csr32Matrix {
+        nrows,
+        ncols,
+        row_ptr,
+        col_idx,
+        values,
+    };
+    csr.storage_bytes().into()
 }
 
 // The Rust's `validate`.
@@ -253,15 +308,15 @@ pub fn denimrasp_topology_check(
 ) -> DenimraspVerdict
     ensures { result ≡ verdict_of (word_answer (as_words nrows ncols row_word_ptr.now word_indices.now masks.now structural_nnz)) }
 {
-    let answer = topology::check(
+    let topology = AbtmTopology {
         nrows,
         ncols,
         row_word_ptr,
         word_indices,
         masks,
         structural_nnz,
-    );
-    answer.into()
+    };
+    topology.check().into()
 }
 
 // The words of a plot list.
@@ -280,16 +335,14 @@ pub fn denimrasp_topology_from_csr32(
     ensures numbers { word_indices.new ≡ built 0 (length word_indices.old) (build_answer (as_csr nrows ncols row_ptr.now col_idx.now values.now) (as_room (length row_word_ptr.old) (length word_indices.old) (length masks.old))) (topology_from (as_csr nrows ncols row_ptr.now col_idx.now values.now)).word }
     ensures bits { masks.new ≡ built 0 (length masks.old) (build_answer (as_csr nrows ncols row_ptr.now col_idx.now values.now) (as_room (length row_word_ptr.old) (length word_indices.old) (length masks.old))) (topology_from (as_csr nrows ncols row_ptr.now col_idx.now values.now)).mask }
 {
-    let answer = topology_build::from_csr32(
+    let csr = Csr32Matrix {
         nrows,
         ncols,
         row_ptr,
         col_idx,
         values,
-        row_word_ptr,
-        word_indices,
-        masks,
-    );
+    };
+    let answer = topology_build::from_csr32(csr, row_word_ptr, word_indices, masks);
     answer.into()
 }
 
@@ -305,14 +358,15 @@ pub fn denimrasp_topology_row_words(
 ) -> DenimraspPart
     ensures { result ≡ part_of (answers (row_answer (as_words nrows ncols row_word_ptr.now word_indices.now masks.now structural_nnz) row) (places_of row_word_ptr.now row)) }
 {
-    let v = topology::check(
+    let topology = AbtmTopology {
         nrows,
         ncols,
         row_word_ptr,
         word_indices,
         masks,
         structural_nnz,
-    );
+    };
+    let v = topology.check();
     if let Err(e) = v {
         return e.into();
     }
@@ -334,15 +388,15 @@ pub fn denimrasp_topology_row_nonempty_words(
 ) -> DenimraspCount
     ensures { result ≡ count_of (answers (row_answer (as_words nrows ncols row_word_ptr.now word_indices.now masks.now structural_nnz) row) (length (words_of (member (as_words nrows ncols row_word_ptr.now word_indices.now masks.now structural_nnz) row) ncols))) }
 {
-    let answer = topology_rows::row_nonempty_words(
+    let topology = AbtmTopology {
         nrows,
         ncols,
         row_word_ptr,
         word_indices,
         masks,
         structural_nnz,
-        row,
-    );
+    };
+    let answer = topology_rows::row_nonempty_words(topology, row);
     answer.into()
 }
 
@@ -358,15 +412,15 @@ pub fn denimrasp_topology_row_popcount(
 ) -> DenimraspCount
     ensures { result ≡ count_of (answers (row_answer (as_words nrows ncols row_word_ptr.now word_indices.now masks.now structural_nnz) row) (count (member (as_words nrows ncols row_word_ptr.now word_indices.now masks.now structural_nnz) row) ncols)) }
 {
-    let answer = topology_rows::row_popcount(
+    let topology = AbtmTopology {
         nrows,
         ncols,
         row_word_ptr,
         word_indices,
         masks,
         structural_nnz,
-        row,
-    );
+    };
+    let answer = topology_rows::row_popcount(topology, row);
     answer.into()
 }
 
@@ -383,16 +437,15 @@ pub fn denimrasp_topology_row_contains(
 ) -> DenimraspBool
     ensures { result ≡ bool_of (answers (row_answer (as_words nrows ncols row_word_ptr.now word_indices.now masks.now structural_nnz) row) (within ncols (member (as_words nrows ncols row_word_ptr.now word_indices.now masks.now structural_nnz) row) col)) }
 {
-    let answer = topology_rows::row_contains(
+    let topology = AbtmTopology {
         nrows,
         ncols,
         row_word_ptr,
         word_indices,
         masks,
         structural_nnz,
-        row,
-        col,
-    );
+    };
+    let answer = topology_rows::row_contains(topology, row, col);
     answer.into()
 }
 
@@ -409,16 +462,15 @@ pub fn denimrasp_topology_row_rank(
 ) -> DenimraspCount
     ensures { result ≡ count_of (rank_answer (as_words nrows ncols row_word_ptr.now word_indices.now masks.now structural_nnz) row col) }
 {
-    let answer = topology_rows::row_rank(
+    let topology = AbtmTopology {
         nrows,
         ncols,
         row_word_ptr,
         word_indices,
         masks,
         structural_nnz,
-        row,
-        col,
-    );
+    };
+    let answer = topology_rows::row_rank(topology, row, col);
     answer.into()
 }
 
@@ -435,16 +487,15 @@ pub fn denimrasp_topology_row_select(
 ) -> DenimraspSelect
     ensures { result ≡ select_of (answers (row_answer (as_words nrows ncols row_word_ptr.now word_indices.now masks.now structural_nnz) row) (select (as_words nrows ncols row_word_ptr.now word_indices.now masks.now structural_nnz) row ordinal)) }
 {
-    let answer = topology_rows::row_select(
+    let topology = AbtmTopology {
         nrows,
         ncols,
         row_word_ptr,
         word_indices,
         masks,
         structural_nnz,
-        row,
-        ordinal,
-    );
+    };
+    let answer = topology_rows::row_select(topology, row, ordinal);
     answer.into()
 }
 
@@ -459,15 +510,15 @@ pub fn denimrasp_topology_stats(
 ) -> DenimraspTopologyStats
     ensures { result ≡ topology_stats_of (answers (word_answer (as_words nrows ncols row_word_ptr.now word_indices.now masks.now structural_nnz)) (stats_of (as_words nrows ncols row_word_ptr.now word_indices.now masks.now structural_nnz))) }
 {
-    let answer = topology::stats(
+    let topology = AbtmTopology {
         nrows,
         ncols,
         row_word_ptr,
         word_indices,
         masks,
         structural_nnz,
-    );
-    answer.into()
+    };
+    topology.stats().into()
 }
 
 // The columns that either record holds, row by row.
@@ -493,20 +544,26 @@ pub fn denimrasp_topology_union(
     ensures numbers { out_words.new ≡ built 0 (length out_words.old) (combine_answer Operation.Union (as_words nrows ncols row_word_ptr.now word_indices.now masks.now structural_nnz) (as_words other_nrows other_ncols other_row_word_ptr.now other_word_indices.now other_masks.now other_structural_nnz) (as_room (length out_ptr.old) (length out_words.old) (length out_masks.old))) (combined_words Operation.Union (as_words nrows ncols row_word_ptr.now word_indices.now masks.now structural_nnz) (as_words other_nrows other_ncols other_row_word_ptr.now other_word_indices.now other_masks.now other_structural_nnz)).word }
     ensures bits { out_masks.new ≡ built 0 (length out_masks.old) (combine_answer Operation.Union (as_words nrows ncols row_word_ptr.now word_indices.now masks.now structural_nnz) (as_words other_nrows other_ncols other_row_word_ptr.now other_word_indices.now other_masks.now other_structural_nnz) (as_room (length out_ptr.old) (length out_words.old) (length out_masks.old))) (combined_words Operation.Union (as_words nrows ncols row_word_ptr.now word_indices.now masks.now structural_nnz) (as_words other_nrows other_ncols other_row_word_ptr.now other_word_indices.now other_masks.now other_structural_nnz)).mask }
 {
-    let answer = topology_combine::combine(
-        Operation::Union,
+    let topology = AbtmTopology {
         nrows,
         ncols,
         row_word_ptr,
         word_indices,
         masks,
         structural_nnz,
-        other_nrows,
-        other_ncols,
-        other_row_word_ptr,
-        other_word_indices,
-        other_masks,
-        other_structural_nnz,
+    };
+    let other = AbtmTopology {
+        nrows: other_nrows,
+        ncols: other_ncols,
+        row_word_ptr: other_row_word_ptr,
+        word_indices: other_word_indices,
+        masks: other_masks,
+        structural_nnz: other_structural_nnz,
+    };
+    let answer = topology_combine::combine(
+        Operation::Union,
+        topology,
+        other,
         out_ptr,
         out_words,
         out_masks,
@@ -537,20 +594,26 @@ pub fn denimrasp_topology_intersection(
     ensures numbers { out_words.new ≡ built 0 (length out_words.old) (combine_answer Operation.Intersection (as_words nrows ncols row_word_ptr.now word_indices.now masks.now structural_nnz) (as_words other_nrows other_ncols other_row_word_ptr.now other_word_indices.now other_masks.now other_structural_nnz) (as_room (length out_ptr.old) (length out_words.old) (length out_masks.old))) (combined_words Operation.Intersection (as_words nrows ncols row_word_ptr.now word_indices.now masks.now structural_nnz) (as_words other_nrows other_ncols other_row_word_ptr.now other_word_indices.now other_masks.now other_structural_nnz)).word }
     ensures bits { out_masks.new ≡ built 0 (length out_masks.old) (combine_answer Operation.Intersection (as_words nrows ncols row_word_ptr.now word_indices.now masks.now structural_nnz) (as_words other_nrows other_ncols other_row_word_ptr.now other_word_indices.now other_masks.now other_structural_nnz) (as_room (length out_ptr.old) (length out_words.old) (length out_masks.old))) (combined_words Operation.Intersection (as_words nrows ncols row_word_ptr.now word_indices.now masks.now structural_nnz) (as_words other_nrows other_ncols other_row_word_ptr.now other_word_indices.now other_masks.now other_structural_nnz)).mask }
 {
-    let answer = topology_combine::combine(
-        Operation::Intersection,
+    let topology = AbtmTopology {
         nrows,
         ncols,
         row_word_ptr,
         word_indices,
         masks,
         structural_nnz,
-        other_nrows,
-        other_ncols,
-        other_row_word_ptr,
-        other_word_indices,
-        other_masks,
-        other_structural_nnz,
+    };
+    let other = AbtmTopology {
+        nrows: other_nrows,
+        ncols: other_ncols,
+        row_word_ptr: other_row_word_ptr,
+        word_indices: other_word_indices,
+        masks: other_masks,
+        structural_nnz: other_structural_nnz,
+    };
+    let answer = topology_combine::combine(
+        Operation::Intersection,
+        topology,
+        other,
         out_ptr,
         out_words,
         out_masks,
@@ -581,20 +644,26 @@ pub fn denimrasp_topology_and_not(
     ensures numbers { out_words.new ≡ built 0 (length out_words.old) (combine_answer Operation.AndNot (as_words nrows ncols row_word_ptr.now word_indices.now masks.now structural_nnz) (as_words other_nrows other_ncols other_row_word_ptr.now other_word_indices.now other_masks.now other_structural_nnz) (as_room (length out_ptr.old) (length out_words.old) (length out_masks.old))) (combined_words Operation.AndNot (as_words nrows ncols row_word_ptr.now word_indices.now masks.now structural_nnz) (as_words other_nrows other_ncols other_row_word_ptr.now other_word_indices.now other_masks.now other_structural_nnz)).word }
     ensures bits { out_masks.new ≡ built 0 (length out_masks.old) (combine_answer Operation.AndNot (as_words nrows ncols row_word_ptr.now word_indices.now masks.now structural_nnz) (as_words other_nrows other_ncols other_row_word_ptr.now other_word_indices.now other_masks.now other_structural_nnz) (as_room (length out_ptr.old) (length out_words.old) (length out_masks.old))) (combined_words Operation.AndNot (as_words nrows ncols row_word_ptr.now word_indices.now masks.now structural_nnz) (as_words other_nrows other_ncols other_row_word_ptr.now other_word_indices.now other_masks.now other_structural_nnz)).mask }
 {
-    let answer = topology_combine::combine(
-        Operation::AndNot,
+    let topology = AbtmTopology {
         nrows,
         ncols,
         row_word_ptr,
         word_indices,
         masks,
         structural_nnz,
-        other_nrows,
-        other_ncols,
-        other_row_word_ptr,
-        other_word_indices,
-        other_masks,
-        other_structural_nnz,
+    };
+    let other = AbtmTopology {
+        nrows: other_nrows,
+        ncols: other_ncols,
+        row_word_ptr: other_row_word_ptr,
+        word_indices: other_word_indices,
+        masks: other_masks,
+        structural_nnz: other_structural_nnz,
+    };
+    let answer = topology_combine::combine(
+        Operation::AndNot,
+        topology,
+        other,
         out_ptr,
         out_words,
         out_masks,
@@ -625,20 +694,26 @@ pub fn denimrasp_topology_xor(
     ensures numbers { out_words.new ≡ built 0 (length out_words.old) (combine_answer Operation.Xor (as_words nrows ncols row_word_ptr.now word_indices.now masks.now structural_nnz) (as_words other_nrows other_ncols other_row_word_ptr.now other_word_indices.now other_masks.now other_structural_nnz) (as_room (length out_ptr.old) (length out_words.old) (length out_masks.old))) (combined_words Operation.Xor (as_words nrows ncols row_word_ptr.now word_indices.now masks.now structural_nnz) (as_words other_nrows other_ncols other_row_word_ptr.now other_word_indices.now other_masks.now other_structural_nnz)).word }
     ensures bits { out_masks.new ≡ built 0 (length out_masks.old) (combine_answer Operation.Xor (as_words nrows ncols row_word_ptr.now word_indices.now masks.now structural_nnz) (as_words other_nrows other_ncols other_row_word_ptr.now other_word_indices.now other_masks.now other_structural_nnz) (as_room (length out_ptr.old) (length out_words.old) (length out_masks.old))) (combined_words Operation.Xor (as_words nrows ncols row_word_ptr.now word_indices.now masks.now structural_nnz) (as_words other_nrows other_ncols other_row_word_ptr.now other_word_indices.now other_masks.now other_structural_nnz)).mask }
 {
-    let answer = topology_combine::combine(
-        Operation::Xor,
+    let topology = AbtmTopology {
         nrows,
         ncols,
         row_word_ptr,
         word_indices,
         masks,
         structural_nnz,
-        other_nrows,
-        other_ncols,
-        other_row_word_ptr,
-        other_word_indices,
-        other_masks,
-        other_structural_nnz,
+    };
+    let other = AbtmTopology {
+        nrows: other_nrows,
+        ncols: other_ncols,
+        row_word_ptr: other_row_word_ptr,
+        word_indices: other_word_indices,
+        masks: other_masks,
+        structural_nnz: other_structural_nnz,
+    };
+    let answer = topology_combine::combine(
+        Operation::Xor,
+        topology,
+        other,
         out_ptr,
         out_words,
         out_masks,
@@ -659,17 +734,19 @@ pub fn denimrasp_metadata_first_check(
 ) -> DenimraspVerdict
     ensures { result ≡ verdict_of (store_answer (as_store nrows ncols row_word_ptr.now word_indices.now masks.now structural_nnz row_value_ptr.now values.now)) }
 {
-    let answer = metadata_first::check(
-        nrows,
-        ncols,
-        row_word_ptr,
-        word_indices,
-        masks,
-        structural_nnz,
+    let packed = AbtmMetadataFirstMatrix {
+        topology: AbtmTopology {
+            nrows,
+            ncols,
+            row_word_ptr,
+            word_indices,
+            masks,
+            structural_nnz,
+        },
         row_value_ptr,
         values,
-    );
-    answer.into()
+    };
+    packed.check().into()
 }
 
 // Whether the plot list can be packed: 4 too where a merged value is not finite. Writes nothing.
@@ -682,7 +759,14 @@ pub fn denimrasp_metadata_first_check_merge(
 ) -> DenimraspVerdict
     ensures { result ≡ verdict_of (merge_answer (as_csr nrows ncols row_ptr.now col_idx.now values.now)) }
 {
-    let answer = metadata_first_merge::check(nrows, ncols, row_ptr, col_idx, values);
+    let csr = Csr32Matrix {
+        nrows,
+        ncols,
+        row_ptr,
+        col_idx,
+        values,
+    };
+    let answer = metadata_first_merge::check(csr);
     answer.into()
 }
 
@@ -706,12 +790,15 @@ pub fn denimrasp_metadata_first_from_csr32(
     ensures starts { row_value_ptr.new ≡ built 0 (length row_value_ptr.old) (pack_answer (as_csr nrows ncols row_ptr.now col_idx.now values.now) (as_store_room (length row_word_ptr.old) (length word_indices.old) (length masks.old) (length row_value_ptr.old) (length packed.old))) (store_of (as_csr nrows ncols row_ptr.now col_idx.now values.now)).vptr }
     ensures values { packed.new ≡ built zero64 (length packed.old) (pack_answer (as_csr nrows ncols row_ptr.now col_idx.now values.now) (as_store_room (length row_word_ptr.old) (length word_indices.old) (length masks.old) (length row_value_ptr.old) (length packed.old))) (store_of (as_csr nrows ncols row_ptr.now col_idx.now values.now)).vals }
 {
-    let answer = metadata_first_build::from_csr32(
+    let csr = Csr32Matrix {
         nrows,
         ncols,
         row_ptr,
         col_idx,
         values,
+    };
+    let answer = metadata_first_build::from_csr32(
+        csr,
         row_word_ptr,
         word_indices,
         masks,
@@ -735,16 +822,19 @@ pub fn denimrasp_metadata_first_row_values(
 ) -> DenimraspPart
     ensures { result ≡ part_of (answers (store_row_answer (as_store nrows ncols row_word_ptr.now word_indices.now masks.now structural_nnz row_value_ptr.now values.now) row) (places_of row_value_ptr.now row)) }
 {
-    let v = metadata_first::check(
-        nrows,
-        ncols,
-        row_word_ptr,
-        word_indices,
-        masks,
-        structural_nnz,
+    let packed = AbtmMetadataFirstMatrix {
+        topology: AbtmTopology {
+            nrows,
+            ncols,
+            row_word_ptr,
+            word_indices,
+            masks,
+            structural_nnz,
+        },
         row_value_ptr,
         values,
-    );
+    };
+    let v = packed.check();
     if let Err(e) = v {
         return e.into();
     }
@@ -767,17 +857,19 @@ pub fn denimrasp_metadata_first_stats(
 ) -> DenimraspStoreStats
     ensures { result ≡ store_stats_of (answers (store_answer (as_store nrows ncols row_word_ptr.now word_indices.now masks.now structural_nnz row_value_ptr.now values.now)) (store_stats (as_store nrows ncols row_word_ptr.now word_indices.now masks.now structural_nnz row_value_ptr.now values.now))) }
 {
-    let answer = metadata_first::stats(
-        nrows,
-        ncols,
-        row_word_ptr,
-        word_indices,
-        masks,
-        structural_nnz,
+    let packed = AbtmMetadataFirstMatrix {
+        topology: AbtmTopology {
+            nrows,
+            ncols,
+            row_word_ptr,
+            word_indices,
+            masks,
+            structural_nnz,
+        },
         row_value_ptr,
         values,
-    );
-    answer.into()
+    };
+    packed.stats().into()
 }
 
 // One row's pruned dot, with its counts.
@@ -797,20 +889,23 @@ pub fn denimrasp_metadata_first_sparse_dot_row(
 ) -> DenimraspDot
     ensures { result ≡ dot_answer_of (sparse_dot_row (as_store nrows ncols row_word_ptr.now word_indices.now masks.now structural_nnz row_value_ptr.now values.now) (as_mask mask_len mask.now) x.now row) }
 {
-    let answer = metadata_first_dot::sparse_dot_row(
-        nrows,
-        ncols,
-        row_word_ptr,
-        word_indices,
-        masks,
-        structural_nnz,
+    let packed = AbtmMetadataFirstMatrix {
+        topology: AbtmTopology {
+            nrows,
+            ncols,
+            row_word_ptr,
+            word_indices,
+            masks,
+            structural_nnz,
+        },
         row_value_ptr,
         values,
-        row,
-        mask_len,
-        mask,
-        x,
-    );
+    };
+    let mask = DofMask {
+        len: mask_len,
+        words: mask,
+    };
+    let answer = metadata_first_dot::sparse_dot_row(packed, row, mask, x);
     answer.into()
 }
 
@@ -834,21 +929,23 @@ pub fn denimrasp_metadata_first_sparse_dot_rows(
     ensures sums { sums.new ≡ built zero64 (length sums.old) (rows_answer (as_store nrows ncols row_word_ptr.now word_indices.now masks.now structural_nnz row_value_ptr.now values.now) (as_mask mask_len mask.now) x.now (length sums.old) (length executed.old)) (row_sums (as_store nrows ncols row_word_ptr.now word_indices.now masks.now structural_nnz row_value_ptr.now values.now) (as_mask mask_len mask.now) x.now) }
     ensures counts { executed.new ≡ built 0 (length executed.old) (rows_answer (as_store nrows ncols row_word_ptr.now word_indices.now masks.now structural_nnz row_value_ptr.now values.now) (as_mask mask_len mask.now) x.now (length sums.old) (length executed.old)) (row_counts (as_store nrows ncols row_word_ptr.now word_indices.now masks.now structural_nnz row_value_ptr.now values.now) (as_mask mask_len mask.now) x.now) }
 {
-    let answer = metadata_first_dot::sparse_dot_rows(
-        nrows,
-        ncols,
-        row_word_ptr,
-        word_indices,
-        masks,
-        structural_nnz,
+    let packed = AbtmMetadataFirstMatrix {
+        topology: AbtmTopology {
+            nrows,
+            ncols,
+            row_word_ptr,
+            word_indices,
+            masks,
+            structural_nnz,
+        },
         row_value_ptr,
         values,
-        mask_len,
-        mask,
-        x,
-        sums,
-        executed,
-    );
+    };
+    let mask = DofMask {
+        len: mask_len,
+        words: mask,
+    };
+    let answer = metadata_first_dot::sparse_dot_rows(packed, mask, x, sums, executed);
     answer.into()
 }
 
@@ -1042,7 +1139,7 @@ pub fn denimrasp_abtm_check(
 ) -> DenimraspVerdict
     ensures { result ≡ verdict_of (tiles_answer (as_tiles nrows ncols row_tile_ptr.now masks.now value_offsets.now metas.now values.now matrix_nnz)) }
 {
-    let answer = abtm_check::check(
+    let tiles = AbtmMatrix {
         nrows,
         ncols,
         row_tile_ptr,
@@ -1051,7 +1148,8 @@ pub fn denimrasp_abtm_check(
         metas,
         values,
         matrix_nnz,
-    );
+    };
+    let answer = abtm_check::check(tiles);
     answer.into()
 }
 
@@ -1077,16 +1175,19 @@ pub fn denimrasp_abtm_from_csr32(
     ensures metas { metas.new ≡ built 0 (length metas.old) (tile_answer (as_csr nrows ncols row_ptr.now col_idx.now values.now) (thresholds_from sparse_max_nnz dense_min_nnz) (as_tile_room (length row_tile_ptr.old) (length masks.old) (length value_offsets.old) (length metas.old) (length tile_values.old))) (tiles_from (as_csr nrows ncols row_ptr.now col_idx.now values.now) (thresholds_from sparse_max_nnz dense_min_nnz)).meta }
     ensures values { tile_values.new ≡ built zero64 (length tile_values.old) (tile_answer (as_csr nrows ncols row_ptr.now col_idx.now values.now) (thresholds_from sparse_max_nnz dense_min_nnz) (as_tile_room (length row_tile_ptr.old) (length masks.old) (length value_offsets.old) (length metas.old) (length tile_values.old))) (tiles_from (as_csr nrows ncols row_ptr.now col_idx.now values.now) (thresholds_from sparse_max_nnz dense_min_nnz)).vals }
 {
-    let config = AbtmConfig {
-        sparse_max_nnz,
-        dense_min_nnz,
-    };
-    let answer = abtm_build::from_csr32(
+    let csr = Csr32Matrix {
         nrows,
         ncols,
         row_ptr,
         col_idx,
         values,
+    };
+    let config = AbtmConfig {
+        sparse_max_nnz,
+        dense_min_nnz,
+    };
+    let answer = abtm_build::from_csr32(
+        csr,
         config,
         row_tile_ptr,
         masks,
@@ -1135,7 +1236,7 @@ pub fn denimrasp_abtm_row_tiles(
 ) -> DenimraspPart
     ensures { result ≡ part_of (answers (tile_row_answer (as_tiles nrows ncols row_tile_ptr.now masks.now value_offsets.now metas.now values.now matrix_nnz) row) (places_of row_tile_ptr.now row)) }
 {
-    let v = abtm_check::check(
+    let tiles = AbtmMatrix {
         nrows,
         ncols,
         row_tile_ptr,
@@ -1144,7 +1245,8 @@ pub fn denimrasp_abtm_row_tiles(
         metas,
         values,
         matrix_nnz,
-    );
+    };
+    let v = abtm_check::check(tiles);
     if let Err(e) = v {
         return e.into();
     }
@@ -1167,7 +1269,7 @@ pub fn denimrasp_abtm_stats(
 ) -> DenimraspTileStats
     ensures { result ≡ tile_stats_of (answers (tiles_answer (as_tiles nrows ncols row_tile_ptr.now masks.now value_offsets.now metas.now values.now matrix_nnz)) (tile_stats (as_tiles nrows ncols row_tile_ptr.now masks.now value_offsets.now metas.now values.now matrix_nnz))) }
 {
-    let answer = abtm_rows::stats(
+    let tiles = AbtmMatrix {
         nrows,
         ncols,
         row_tile_ptr,
@@ -1176,7 +1278,8 @@ pub fn denimrasp_abtm_stats(
         metas,
         values,
         matrix_nnz,
-    );
+    };
+    let answer = abtm_rows::stats(tiles);
     answer.into()
 }
 
@@ -1232,7 +1335,7 @@ pub fn denimrasp_abtm_apply(
     ensures answer { result ≡ verdict_of (apply_tiles_answer (as_tiles nrows ncols row_tile_ptr.now masks.now value_offsets.now metas.now values.now matrix_nnz) x.now (length y.old)) }
     ensures product { y.new ≡ kept (apply_tiles_answer (as_tiles nrows ncols row_tile_ptr.now masks.now value_offsets.now metas.now values.now matrix_nnz) x.now (length y.old)) (tiles_product (as_tiles nrows ncols row_tile_ptr.now masks.now value_offsets.now metas.now values.now matrix_nnz) x.now) y.old }
 {
-    let answer = abtm_apply::apply(
+    let tiles = AbtmMatrix {
         nrows,
         ncols,
         row_tile_ptr,
@@ -1241,9 +1344,8 @@ pub fn denimrasp_abtm_apply(
         metas,
         values,
         matrix_nnz,
-        x,
-        y,
-    );
+    };
+    let answer = abtm_apply::apply(tiles, x, y);
     answer.into()
 }
 
@@ -1264,7 +1366,7 @@ pub fn denimrasp_abtm_expand_mask_one_hop(
     ensures answer { result ≡ verdict_of (expand_answer (as_tiles nrows ncols row_tile_ptr.now masks.now value_offsets.now metas.now values.now matrix_nnz) (as_mask mask_len mask.now) (length out.old)) }
     ensures list { out.new ≡ built 0 (length out.old) (expand_answer (as_tiles nrows ncols row_tile_ptr.now masks.now value_offsets.now metas.now values.now matrix_nnz) (as_mask mask_len mask.now) (length out.old)) (mask_words (expanded (as_tiles nrows ncols row_tile_ptr.now masks.now value_offsets.now metas.now values.now matrix_nnz) (as_mask mask_len mask.now)) mask_len) }
 {
-    let answer = abtm_expand::expand_mask_one_hop(
+    let tiles = AbtmMatrix {
         nrows,
         ncols,
         row_tile_ptr,
@@ -1273,10 +1375,12 @@ pub fn denimrasp_abtm_expand_mask_one_hop(
         metas,
         values,
         matrix_nnz,
-        mask_len,
-        mask,
-        out,
-    );
+    };
+    let mask = DofMask {
+        len: mask_len,
+        words: mask,
+    };
+    let answer = abtm_expand::expand_mask_one_hop(tiles, mask, out);
     answer.into()
 }
 
@@ -1298,18 +1402,18 @@ pub fn denimrasp_restricted_from_csr32(
     ensures columns { out_col_idx.new ≡ built 0 (length out_col_idx.old) (restrict_answer (as_csr nrows ncols row_ptr.now col_idx.now values.now) (as_mask mask_len mask.now) (as_csr_room (length out_row_ptr.old) (length out_col_idx.old) (length out_values.old))) (restricted (as_csr nrows ncols row_ptr.now col_idx.now values.now) (as_mask mask_len mask.now)).col }
     ensures values { out_values.new ≡ built zero64 (length out_values.old) (restrict_answer (as_csr nrows ncols row_ptr.now col_idx.now values.now) (as_mask mask_len mask.now) (as_csr_room (length out_row_ptr.old) (length out_col_idx.old) (length out_values.old))) (restricted (as_csr nrows ncols row_ptr.now col_idx.now values.now) (as_mask mask_len mask.now)).val }
 {
-    let answer = restricted_csr32::from_csr32(
+    let csr = Csr32Matrix {
         nrows,
         ncols,
         row_ptr,
         col_idx,
         values,
-        mask_len,
-        mask,
-        out_row_ptr,
-        out_col_idx,
-        out_values,
-    );
+    };
+    let mask = DofMask {
+        len: mask_len,
+        words: mask,
+    };
+    let answer = restricted_csr32::from_csr32(csr, mask, out_row_ptr, out_col_idx, out_values);
     answer.into()
 }
 
@@ -1334,7 +1438,7 @@ pub fn denimrasp_restricted_from_abtm(
     ensures columns { out_col_idx.new ≡ built 0 (length out_col_idx.old) (restrict_tiles_answer (as_tiles nrows ncols row_tile_ptr.now masks.now value_offsets.now metas.now values.now matrix_nnz) (as_mask mask_len mask.now) (as_csr_room (length out_row_ptr.old) (length out_col_idx.old) (length out_values.old))) (restricted_tiles (as_tiles nrows ncols row_tile_ptr.now masks.now value_offsets.now metas.now values.now matrix_nnz) (as_mask mask_len mask.now)).col }
     ensures values { out_values.new ≡ built zero64 (length out_values.old) (restrict_tiles_answer (as_tiles nrows ncols row_tile_ptr.now masks.now value_offsets.now metas.now values.now matrix_nnz) (as_mask mask_len mask.now) (as_csr_room (length out_row_ptr.old) (length out_col_idx.old) (length out_values.old))) (restricted_tiles (as_tiles nrows ncols row_tile_ptr.now masks.now value_offsets.now metas.now values.now matrix_nnz) (as_mask mask_len mask.now)).val }
 {
-    let answer = restricted_abtm::from_abtm(
+    let tiles = AbtmMatrix {
         nrows,
         ncols,
         row_tile_ptr,
@@ -1343,12 +1447,12 @@ pub fn denimrasp_restricted_from_abtm(
         metas,
         values,
         matrix_nnz,
-        mask_len,
-        mask,
-        out_row_ptr,
-        out_col_idx,
-        out_values,
-    );
+    };
+    let mask = DofMask {
+        len: mask_len,
+        words: mask,
+    };
+    let answer = restricted_abtm::from_abtm(tiles, mask, out_row_ptr, out_col_idx, out_values);
     answer.into()
 }
 
@@ -1398,13 +1502,19 @@ pub fn denimrasp_local_from_csr32(
     ensures columns { out_col_idx.new ≡ built 0 (length out_col_idx.old) (local_answer (as_csr nrows ncols row_ptr.now col_idx.now values.now) (as_mask region_len region.now) (length members.old) (as_csr_room (length out_row_ptr.old) (length out_col_idx.old) (length out_values.old))) (local_list (as_csr nrows ncols row_ptr.now col_idx.now values.now) (as_mask region_len region.now)).col }
     ensures values { out_values.new ≡ built zero64 (length out_values.old) (local_answer (as_csr nrows ncols row_ptr.now col_idx.now values.now) (as_mask region_len region.now) (length members.old) (as_csr_room (length out_row_ptr.old) (length out_col_idx.old) (length out_values.old))) (local_list (as_csr nrows ncols row_ptr.now col_idx.now values.now) (as_mask region_len region.now)).val }
 {
-    let answer = restricted_local::from_csr32(
+    let csr = Csr32Matrix {
         nrows,
         ncols,
         row_ptr,
         col_idx,
         values,
-        region_len,
+    };
+    let region = DofMask {
+        len: region_len,
+        words: region,
+    };
+    let answer = restricted_local::from_csr32(
+        csr,
         region,
         members,
         out_row_ptr,
@@ -1418,7 +1528,11 @@ pub fn denimrasp_local_from_csr32(
 pub fn denimrasp_local_check(global_size: usize, members: &[u32]) -> DenimraspVerdict
     ensures { result ≡ verdict_of (members_answer global_size members.now) }
 {
-    restricted_gather::check(global_size, members).into()
+    let region = RegionMembers {
+        global_size,
+        members,
+    };
+    region.check().into()
 }
 
 // A region's numbers of a vector, in local; a refused call leaves local as it was.
@@ -1431,8 +1545,11 @@ pub fn denimrasp_local_gather_input(
     ensures answer { result ≡ verdict_of (gather_answer global_size members.now global.now (length local.old)) }
     ensures list { local.new ≡ kept (gather_answer global_size members.now global.now (length local.old)) (gathered members.now global.now) local.old }
 {
-    let answer = restricted_gather::gather_input(global_size, members, global, local);
-    answer.into()
+    let region = RegionMembers {
+        global_size,
+        members,
+    };
+    region.gather_input(global, local).into()
 }
 
 // 1.0 less the entries kept among the source entries of the region's rows; 0.0 where they have none.
@@ -1478,18 +1595,15 @@ pub fn denimrasp_dense_block_from_csr32(
     ensures columns { out_col_idx.new ≡ built 0 (length out_col_idx.old) (build_blocks_answer (as_csr nrows ncols row_ptr.now col_idx.now values.now) (width_of (size_from six)) (as_csr_room (length out_row_ptr.old) (length out_col_idx.old) (length out_values.old))) (blocks_of (as_csr nrows ncols row_ptr.now col_idx.now values.now) (width_of (size_from six))).col }
     ensures values { out_values.new ≡ built zero64 (length out_values.old) (build_blocks_answer (as_csr nrows ncols row_ptr.now col_idx.now values.now) (width_of (size_from six)) (as_csr_room (length out_row_ptr.old) (length out_col_idx.old) (length out_values.old))) (blocks_of (as_csr nrows ncols row_ptr.now col_idx.now values.now) (width_of (size_from six))).vals }
 {
-    let size = denimrasp_answers::block_size(six);
-    let answer = dense_block_build::from_csr32(
+    let csr = Csr32Matrix {
         nrows,
         ncols,
         row_ptr,
         col_idx,
         values,
-        size,
-        out_row_ptr,
-        out_col_idx,
-        out_values,
-    );
+    };
+    let size = denimrasp_answers::block_size(six);
+    let answer = dense_block_build::from_csr32(csr, size, out_row_ptr, out_col_idx, out_values);
     answer.into()
 }
 
@@ -1505,7 +1619,14 @@ pub fn denimrasp_dense_block_check(
     ensures { result ≡ verdict_of (blocks_answer (as_blocks nrows ncols (width_of (size_from six)) row_ptr.now col_idx.now values.now)) }
 {
     let size = denimrasp_answers::block_size(six);
-    let answer = dense_block_check::check(nrows, ncols, size, row_ptr, col_idx, values);
+    let answer = dense_block_check::check(DenseBlockCsrOperator {
+        nrows,
+        ncols,
+        size,
+        row_ptr,
+        col_idx,
+        values,
+    });
     answer.into()
 }
 
@@ -1524,7 +1645,18 @@ pub fn denimrasp_dense_block_apply(
     ensures product { y.new ≡ kept (apply_blocks_answer (as_blocks nrows ncols (width_of (size_from six)) row_ptr.now col_idx.now values.now) x.now (length y.old)) (blocks_product (as_blocks nrows ncols (width_of (size_from six)) row_ptr.now col_idx.now values.now) x.now) y.old }
 {
     let size = denimrasp_answers::block_size(six);
-    let answer = dense_block_apply::apply(nrows, ncols, size, row_ptr, col_idx, values, x, y);
+    let answer = dense_block_apply::apply(
+        DenseBlockCsrOperator {
+            nrows,
+            ncols,
+            size,
+            row_ptr,
+            col_idx,
+            values,
+        },
+        x,
+        y,
+    );
     answer.into()
 }
 
@@ -1540,9 +1672,14 @@ pub fn denimrasp_dense_block_fast_block_fraction(
     ensures { result ≡ ratio_answer_of (fast_answer (as_blocks nrows ncols (width_of (size_from six)) row_ptr.now col_idx.now values.now)) }
 {
     let size = denimrasp_answers::block_size(six);
-    let answer = dense_block_check::fast_block_fraction(
-        nrows, ncols, size, row_ptr, col_idx, values,
-    );
+    let answer = dense_block_check::fast_block_fraction(DenseBlockCsrOperator {
+        nrows,
+        ncols,
+        size,
+        row_ptr,
+        col_idx,
+        values,
+    });
     answer.into()
 }
 

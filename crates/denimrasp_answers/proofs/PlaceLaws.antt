@@ -1,13 +1,10 @@
 -- Laws of the places of a row's part. Assumes nothing.
-use mathlib.Core.Path.{◌≡◌, sym}
+use mathlib.Core.Path.{◌≡◌}
 use mathlib.Core.List.{List}
 use Prim.Native.Nat.{ℕ, ◌+◌, ◌≤◌}
 use native.Mathlib.Omega.{arith}
 use lib.ListN.{length, get_or, get_or-eq_default}
 use Rattle.denimrasp_answers.specs.Answers.{places_of}
-
-pub pointer_past : (ptr : List ℕ) (k : ℕ) → length ptr ≤ k → 0 ≡ get_or ptr k 0
-pointer_past ptr k h = sym (get_or-eq_default ptr 0 h)
 
 -- past the last pointer there is no part
 pub places-past : (ptr : List ℕ) (r : ℕ) → length ptr ≤ r → (0, 0) ≡ places_of ptr r

@@ -1,11 +1,12 @@
 // The answers of the C interface: each is one struct, the refusal's number, expected and actual first (0 when accepted), then
 // the result, which is 0 where the call is refused. The calls are the crate denimrasp.
+// C has no type parameter: each answer is a struct of its own, with a From of its own.
 #![tactic(auto)]
 
-ghost use Rattle.std.specs.Prelude.{◌≡◌, get_or};
+ghost use Rattle.std.specs.Prelude.{◌≡◌};
 ghost use Rattle.hybit_core.specs.Answer.{gives, refuses};
 ghost use Rattle.hybit_core.specs.Table.{paper, told, given};
-ghost use Rattle.abtm.specs.Calls.{kind_number, told_kind};
+ghost use Rattle.abtm.specs.Calls.{told_kind};
 ghost use Rattle.denimrasp_answers.specs.Answers.{verdict_of, count_of, bool_of, select_of, part_of, places_of, topology_answer_of, topology_stats_of, store_stats_of, dot_answer_of, totals_of, tiles_answer_of, tile_stats_of, restriction_answer_of, region_answer_of, blocks_answer_of, ratio_answer_of, size_from};
 
 use abtm::TileKind;
@@ -339,17 +340,7 @@ impl From<HybitError> for DenimraspPart {
     }
 }
 
-// A pointer, 0 past the last.
-fn pointer(row_ptr: &[u32], at: usize) -> usize
-    ensures { result ≡ get_or row_ptr.now at 0 }
-{
-    if at < row_ptr.len() {
-        return row_ptr[at] as usize;
-    }
-    0
-}
-
-// Where a row's part of a list starts and ends, by any pointers.
+// Where a row's part of a list starts and ends, by any pointers. Two places and no type of ours, so it is no From.
 pub fn part(row_ptr: &[u32], row: usize) -> DenimraspPart
     ensures { result ≡ part_of (gives (places_of row_ptr.now row)) }
 {
@@ -366,8 +357,8 @@ pub fn part(row_ptr: &[u32], row: usize) -> DenimraspPart
         number: 0,
         expected: 0,
         actual: 0,
-        start: pointer(row_ptr, row),
-        end: pointer(row_ptr, row + 1),
+        start: lent::pointer(row_ptr, row),
+        end: lent::pointer(row_ptr, row + 1),
     }
 }
 
@@ -519,16 +510,6 @@ impl From<Result<AbtmProductPruningStats, HybitError>> for DenimraspTotals {
     }
 }
 
-fn kind_number(k: TileKind) -> usize
-    ensures { result ≡ kind_number k }
-{
-    match k {
-        TileKind::Sparse => 0,
-        TileKind::Bitmap => 1,
-        TileKind::Dense => 2,
-    }
-}
-
 // A tile's kind as a number.
 impl From<Result<TileKind, HybitError>> for DenimraspCount {
     ghost from_gives = { λ a r. r ≡ count_of (told_kind a) };
@@ -539,7 +520,7 @@ impl From<Result<TileKind, HybitError>> for DenimraspCount {
                 number: 0,
                 expected: 0,
                 actual: 0,
-                count: kind_number(k),
+                count: u32::from(k) as usize,
             },
             Err(e) => DenimraspCount {
                 number: e.number(),
@@ -727,7 +708,7 @@ impl From<Result<f64, HybitError>> for DenimraspRatio {
     }
 }
 
-// The width, which crosses as whether it is six.
+// The width, which crosses as whether it is six. A From<bool> would be dense_block's, where a bool says nothing of a width.
 pub fn block_size(six: bool) -> DenseBlockSize
     ensures { result ≡ size_from six }
 {

@@ -1,5 +1,6 @@
 // The exports of the C interface (crates/denimrasp/denimrasp.h): each function calls the function of its name in denimrasp, whose
 // promise it repeats. A crate is a library or a static library, so the symbols stand here and the functions there.
+// C callers lend lists one by one: each function takes a record's numbers and lists side by side.
 #![tactic(auto)]
 
 ghost use Rattle.std.specs.Prelude.{◌≡◌, false, not, ◌&&◌, ◌||◌, min, ◌+◌, ◌-◌, ◌*◌, ◌^◌, eqb, length};

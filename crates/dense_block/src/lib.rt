@@ -8,6 +8,10 @@ ghost use Rattle.dense_block.specs.Calls.{block_fill, value_padding, block_metad
 
 use hybit_core::HybitError;
 
+mod operator;
+
+pub use operator::DenseBlockCsrOperator;
+
 #[derive(Clone, Copy)]
 pub enum DenseBlockSize {
     B3,
@@ -26,6 +30,7 @@ pub struct DenseBlocks {
     pub valid_dense_slots: usize,
 }
 
+// Each arm of the matches divides by a constant: key_of and place_of are asked of every entry of a build.
 impl DenseBlockSize {
     pub fn width(self) -> usize
         ensures { result ≡ width_of self }
@@ -41,8 +46,8 @@ impl DenseBlockSize {
         ensures { result ≡ blocks_for (width_of self) n }
     {
         match self {
-            DenseBlockSize::B3 => thirds(n),
-            DenseBlockSize::B6 => sixths(n),
+            DenseBlockSize::B3 => n.div_ceil(3),
+            DenseBlockSize::B6 => n.div_ceil(6),
         }
     }
 
@@ -71,24 +76,6 @@ impl DenseBlockSize {
             DenseBlockSize::B6 => col as usize % 6,
         }
     }
-}
-
-fn thirds(n: usize) -> usize
-    ensures { result ≡ blocks_for 3 n }
-{
-    if n % 3 == 0 {
-        return n / 3;
-    }
-    n / 3 + 1
-}
-
-fn sixths(n: usize) -> usize
-    ensures { result ≡ blocks_for 6 n }
-{
-    if n % 6 == 0 {
-        return n / 6;
-    }
-    n / 6 + 1
 }
 
 // The figures are of the numbers, whatever they are.

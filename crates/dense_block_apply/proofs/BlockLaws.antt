@@ -114,6 +114,10 @@ module _ (b : Blocks) (x : List Float) (ny : ℕ) (e : apply_blocks_answer b x n
   pub y_long : ny ≡ b.rows
   y_long = length_accepted b.rows ny (then_second (length_is b.cols (length x)) (length_is b.rows ny) lengths)
 
+  -- the same, said of the rows' number
+  pub at_rows : apply_blocks_answer b x b.rows ≡ accepted
+  at_rows = ap (apply_blocks_answer b x) (sym y_long) ∙ e
+
   sizes : (few b.rows && few b.cols && many (length b.col)) ≡ true
   unfolding blocks_answer sizes_fit
   sizes =
@@ -123,10 +127,7 @@ module _ (b : Blocks) (x : List Float) (ny : ℕ) (e : apply_blocks_answer b x n
   frame : (few b.rows && few b.cols) ≡ true
   frame = and_left (few b.rows && few b.cols) (many (length b.col)) sizes
 
-  pub rows_few : b.rows ≤ 2 ^ 20
-  rows_few = leb-true b.rows (2 ^ 20) (and_left (few b.rows) (few b.cols) frame)
-
-  pub facts : Width b.width → Ready b x
+  facts : Width b.width → Ready b x
   unfolding blocks_answer blocks_rules
   facts k =
       let n : ℕ = length b.col in
@@ -137,7 +138,7 @@ module _ (b : Blocks) (x : List Float) (ny : ℕ) (e : apply_blocks_answer b x n
       let lists : (f && v && c) ≡ true = and_left (f && v && c) (rows_climb b) rule in
       record {
         width = k;
-        rows_in = rows_few;
+        rows_in = leb-true b.rows (2 ^ 20) (and_left (few b.rows) (few b.cols) frame);
         cols_in = leb-true b.cols (2 ^ 20) (and_right (few b.rows) (few b.cols) frame);
         blocks_in = leb-true n (2 ^ 24) (and_right (few b.rows && few b.cols) (many n) sizes);
         frame = framed_facts (blocks_for b.width b.rows) b.ptr n (accepted_frame b rules);
@@ -148,8 +149,8 @@ module _ (b : Blocks) (x : List Float) (ny : ℕ) (e : apply_blocks_answer b x n
       }
 
 -- blocks of the size s; w is its width as the code has it
-pub ready : (s : DenseBlockSize) (w n m : ℕ) (ps cs : List ℕ) (vs x : List Float) (ny : ℕ) → w ≡ width_of s → apply_blocks_answer (as_blocks n m (width_of s) ps cs vs) x ny ≡ accepted → Ready (as_blocks n m w ps cs vs) x
-ready s w n m ps cs vs x ny e a = subst (λ (k : ℕ). Ready (as_blocks n m k ps cs vs) x) (sym e) (facts (as_blocks n m (width_of s) ps cs vs) x ny a (width_of_lem s))
+pub ready : (s : DenseBlockSize) {w n m : ℕ} {ps cs : List ℕ} {vs x : List Float} → w ≡ width_of s → apply_blocks_answer (as_blocks n m (width_of s) ps cs vs) x n ≡ accepted → Ready (as_blocks n m w ps cs vs) x
+ready s {w} {n} {m} {ps} {cs} {vs} {x} e a = subst (λ (k : ℕ). Ready (as_blocks n m k ps cs vs) x) (sym e) (facts (as_blocks n m (width_of s) ps cs vs) x n a (width_of_lem s))
 
 -- ---- the places of a block row, from one of them up to the next row's pointer
 
@@ -196,20 +197,14 @@ pub record LastRow (b : Blocks) (x : List Float) (r last : ℕ) : Type 0 where
   pub inside : r < b.rows
   pub pointers : RowIn b.ptr (length b.col) last
 
--- w and last as the code has them
-pub last_row : (s : DenseBlockSize) (w n m : ℕ) (ps cs : List ℕ) (vs x : List Float) (ny r last : ℕ) → w ≡ width_of s → last ≡ n / width_of s
-    → apply_blocks_answer (as_blocks n m (width_of s) ps cs vs) x ny ≡ accepted → width_of s * (n / width_of s) ≤ r → r < n → LastRow (as_blocks n m w ps cs vs) x r last
-last_row s w n m ps cs vs x ny r last ew el a h l =
-    let k : Ready (as_blocks n m w ps cs vs) x = ready s w n m ps cs vs x ny ew a in
-    let is : last ≡ n / w = el ∙ ap (λ (v : ℕ). n / v) (sym ew) in
-    let below : w * last ≤ r = rw (is, ew) h in
-    record {
-      ready = k;
-      is = is;
-      below = below;
-      inside = l;
-      pointers = row_in (blocks_for w n) ps (length cs) last k.frame (rw is (row_last k.width n r (rw is at below) l));
-    }
+pub last_row : {b : Blocks} {x : List Float} → Ready b x → (r last : ℕ) → last ≡ b.rows / b.width → b.width * (b.rows / b.width) ≤ r → r < b.rows → LastRow b x r last
+last_row {b} k r last is h l = record {
+  ready = k;
+  is = is;
+  below = rw is h;
+  inside = l;
+  pointers = row_in (blocks_for b.width b.rows) b.ptr (length b.col) last k.frame (rw is (row_last k.width b.rows r h l));
+}
 
 -- the block at place p, whose block column is C, and the row's part of it
 pub record LastPlace (b : Blocks) (x : List Float) (r last p C : ℕ) : Type 0 where

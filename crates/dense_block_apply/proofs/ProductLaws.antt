@@ -11,16 +11,12 @@ use lib.ListN.{length, get_or, take, drop, set, get_or-append, length-append, le
 use lib.Seq.{take_all, take-suc-set, get_or-take, get_or-drop, get_or-append-add, length-take-le}
 use lib.Ieee.{Float, nan}
 use borrow.Author.Tests.{ltb-true, ltb-false}
-use Rattle.hybit_core.specs.Answer.{accepted}
+use Rattle.std.specs.Int.{div_ceil}
 use Rattle.lent.specs.Lists.{joined, each}
 use Rattle.lent.proofs.ListLaws.{get_or-each, length-each, each_is}
 use Rattle.csr32.proofs.SumLaws.{Known}
 use Rattle.dense_block.specs.Blocks.{Blocks}
-use Rattle.dense_block_apply.specs.Product.{Width, three, six, block_sum, blocks_product, apply_blocks_answer}
-use Rattle.dense_block_apply.proofs.BlockLaws.{y_long}
-
-pub answer_rows : (b : Blocks) (x : List Float) (ny : ℕ) → apply_blocks_answer b x ny ≡ accepted → apply_blocks_answer b x b.rows ≡ accepted
-answer_rows b x ny a = ap (apply_blocks_answer b x) (sym (y_long b x ny a)) ∙ a
+use Rattle.dense_block_apply.specs.Product.{Width, three, six, block_sum, blocks_product}
 
 module _ (b : Blocks) (x : List Float) where
   -- the first r rows are written
@@ -29,16 +25,8 @@ module _ (b : Blocks) (x : List Float) where
     pub inside : r ≤ b.rows
     pub is : take r y ≡ each (block_sum b x) r
 
-  -- the full block rows are written: w is the width and l their number, as the code has them
-  full_rows : (w l : ℕ) → w ≡ b.width → l ≡ b.rows / b.width → w * l ≡ b.width * (b.rows / b.width)
-  full_rows w l p q = ap₂ (λ (i j : ℕ). i * j) p q
-
-  pub full_inside : (w l : ℕ) → w ≡ b.width → l ≡ b.rows / b.width → w * l ≤ b.rows
-  full_inside w l p q = rw (full_rows w l p q) (mul-div-le b.rows b.width)
-
-  pub done_full : (w l : ℕ) (y : List Float) → w ≡ b.width → l ≡ b.rows / b.width → length y ≡ b.rows
-      → take (b.width * (b.rows / b.width)) y ≡ each (block_sum b x) (b.width * (b.rows / b.width)) → Done (w * l) y
-  done_full w l y p q e h = record { long = e; inside = full_inside w l p q; is = rw (full_rows w l p q) h }
+  pub done_full : (y : List Float) → length y ≡ b.rows → take (b.width * (b.rows / b.width)) y ≡ each (block_sum b x) (b.width * (b.rows / b.width)) → Done (b.width * (b.rows / b.width)) y
+  done_full y e h = record { long = e; inside = mul-div-le b.rows b.width; is = h }
 
   each_more : (r : ℕ) → each (block_sum b x) (r + 1) ≡ each (block_sum b x) r ++ (block_sum b x r ∷ [])
   unfolding each joined
@@ -157,9 +145,10 @@ pub record Apart (w n half row other : ℕ) : Type 0 where
   pub second : w * other + w ≤ n
   pub there : w * row + w * half < w * (n / w) → w * other ≡ w * row + w * half
 
-pub apart : {w : ℕ} → Width w → (n row other : ℕ) → row < (n / w + 1) / 2 → other ≡ min (row + (n / w + 1) / 2) (n / w - 1) → Apart w n ((n / w + 1) / 2) row other
-apart three n row other h e = record { early = omega arith; late = omega arith; first = omega arith; second = omega arith; there = λ l. omega arith }
-apart six n row other h e = record { early = omega arith; late = omega arith; first = omega arith; second = omega arith; there = λ l. omega arith }
+-- half as the code has it
+pub apart : {w : ℕ} → Width w → (n half row other : ℕ) → half ≡ div_ceil (n / w) 2 → row < half → other ≡ min (row + half) (n / w - 1) → Apart w n ((n / w + 1) / 2) row other
+apart three n half row other q h e = record { early = omega arith; late = omega arith; first = omega arith; second = omega arith; there = λ l. omega arith }
+apart six n half row other q h e = record { early = omega arith; late = omega arith; first = omega arith; second = omega arith; there = λ l. omega arith }
 
 half_reaches : {w : ℕ} → Width w → (n : ℕ) → w * (n / w) ≤ 2 * (w * ((n / w + 1) / 2))
 half_reaches three n = omega arith
@@ -198,7 +187,7 @@ module _ (b : Blocks) (x : List Float) where
     pub room_still : (at n : ℕ) (z : List Float) → Wrote (block_sum b x) at n y z → (m : ℕ) → m ≤ b.rows → m ≤ length z
     room_still at n z one m h = rw one.long (room m h)
 
-    pub written_front : (b.rows / b.width + 1) / 2 ≤ row → take (b.width * (b.rows / b.width)) y ≡ each (block_sum b x) (b.width * (b.rows / b.width))
-    written_front h =
+    pub written_front : (half : ℕ) → half ≡ div_ceil (b.rows / b.width) 2 → half ≤ row → take (b.width * (b.rows / b.width)) y ≡ each (block_sum b x) (b.width * (b.rows / b.width))
+    written_front half q h =
         halves_done (block_sum b x) (b.width * (b.rows / b.width)) (b.width * ((b.rows / b.width + 1) / 2)) (b.width * row) y inv.halves
-        (half_order w ((b.rows / b.width + 1) / 2) row h) (half_reaches w b.rows) (rw inv.long (mul-div-le b.rows b.width))
+        (half_order w ((b.rows / b.width + 1) / 2) row (omega arith)) (half_reaches w b.rows) (rw inv.long (mul-div-le b.rows b.width))

@@ -249,12 +249,12 @@ module _ (m : Csr) (s : DenseBlockSize) (R : ℕ) (ok : csr_answer m ≡ accepte
 
         -- what `add_row` requires
         pub band_asks : (starts : List ℕ) (x : ℕ) (out : List Float) → x ≡ n → Ranks (listed (row_blocks m (width_of s) R)) n bits starts → length out ≡ length (row_blocks m (width_of s) R) * (width_of s * width_of s)
-            → ((x ≤ 349526) × ((k < width_of s) × (length vs ≡ length cs))) × ((every (λ c. ltb (c / width_of s) x) cs ≡ true) × ((every (λ c. bit_at bits (c / width_of s)) cs ≡ true) × (Ranks (bit_at bits) x bits starts × (length out ≡ count (bit_at bits) x * (width_of s * width_of s)))))
+            → ((x ≤ 349526) × (k < width_of s)) × ((every (λ c. ltb (c / width_of s) x) cs ≡ true) × ((every (λ c. bit_at bits (c / width_of s)) cs ≡ true) × (Ranks (bit_at bits) x bits starts × (length out ≡ count (bit_at bits) x * (width_of s * width_of s)))))
         band_asks starts x out ex ranks long =
             subst
-            (λ (x : ℕ). ((x ≤ 349526) × ((k < width_of s) × (length vs ≡ length cs))) × ((every (λ c. ltb (c / width_of s) x) cs ≡ true) × ((every (λ c. bit_at bits (c / width_of s)) cs ≡ true) × (Ranks (bit_at bits) x bits starts × (length out ≡ count (bit_at bits) x * (width_of s * width_of s))))))
+            (λ (x : ℕ). ((x ≤ 349526) × (k < width_of s)) × ((every (λ c. ltb (c / width_of s) x) cs ≡ true) × ((every (λ c. bit_at bits (c / width_of s)) cs ≡ true) × (Ranks (bit_at bits) x bits starts × (length out ≡ count (bit_at bits) x * (width_of s * width_of s))))))
             (sym ex)
-            ((blocks_few s m.cols (valid m ok).cols_in, (omega arith, lent.0)), (low, (noted, (ranks_same (listed (row_blocks m (width_of s) R)) (bit_at bits) n bits starts (λ c l. sym (bit_is c l)) ranks, long ∙ ap (λ (l : List ℕ). length l * (width_of s * width_of s)) (sym band_columns)))))
+            ((blocks_few s m.cols (valid m ok).cols_in, omega arith), (low, (noted, (ranks_same (listed (row_blocks m (width_of s) R)) (bit_at bits) n bits starts (λ c l. sym (bit_is c l)) ranks, long ∙ ap (λ (l : List ℕ). length l * (width_of s * width_of s)) (sym band_columns)))))
 
         -- the row is added
         pub band-added : (x : ℕ) (out new : List Float) → x ≡ n → new ≡ in_row (width_of s) k (below (bit_at bits) x) (zip cs vs) out → new ≡ in_row (width_of s) k (row_blocks m (width_of s) R) (zip cs vs) out

@@ -29,8 +29,6 @@ use Rattle.dense_block_build.specs.Making.{Padded}
 use Rattle.dense_block_build.proofs.SizeLaws.{square_is, square_pos}
 use Rattle.dense_block_build.proofs.FillLaws.{pointers_long, vals-count}
 
--- ---- what a count answers
-
 -- ---- a result in a lent list, and its used part
 
 pub used_part : {A : Type 0} (z : A) (l out : List A) (k : ℕ) → Padded z l out → k ≡ length l → take k out ≡ l
@@ -115,7 +113,7 @@ module _ (m : Csr) (s : DenseBlockSize) (np nc nv : ℕ) (r : Result ℕ HybitEr
         go accepted q z = (q, cc)
         go (refused u) q z = let y : ◌≡◌ {A = ℕ} 0 1 = cc in absurd (omega arith)
 
-    checked : csr_answer m ≡ accepted
+    pub checked : csr_answer m ≡ accepted
     unfolding columns_answer
     checked = then_first (csr_answer m) (demand (leb (length (blocks_of m (width_of s)).ptr) np && leb (length (blocks_of m (width_of s)).col) nc) 13) made.0
 
@@ -152,17 +150,14 @@ module _ (m : Csr) (s : DenseBlockSize) (np nc nv : ℕ) (r : Result ℕ HybitEr
 
         -- what `fill` requires
         pub fill_asks : (op oc : List ℕ) → length op ≡ np → length oc ≡ nc → op ≡ built 0 np (columns_answer m (width_of s) np nc) (blocks_of m (width_of s)).ptr → oc ≡ built 0 nc (columns_answer m (width_of s) np nc) (blocks_of m (width_of s)).col
-            → (csr_answer m ≡ accepted) × ((blocks ≡ length (blocks_of m (width_of s)).col) × (Padded 0 (blocks_of m (width_of s)).ptr op × (Padded 0 (blocks_of m (width_of s)).col oc × (blocks * (width_of s * width_of s) ≤ nv))))
+            → (blocks ≡ length (blocks_of m (width_of s)).col) × (Padded 0 (blocks_of m (width_of s)).ptr op × (Padded 0 (blocks_of m (width_of s)).col oc × (blocks * (width_of s * width_of s) ≤ nv)))
         fill_asks op oc lp lc x y =
             let p : leb (length (blocks_of m (width_of s)).ptr) np ≡ true = and_left (leb (length (blocks_of m (width_of s)).ptr) np) (leb (length (blocks_of m (width_of s)).col) nc) fitting in
             let q : leb (length (blocks_of m (width_of s)).col) nc ≡ true = and_right (leb (length (blocks_of m (width_of s)).ptr) np) (leb (length (blocks_of m (width_of s)).col) nc) fitting in (
-              checked,
+              made.1,
               (
-                made.1,
-                (
-                  record { room = omega (arith, leb-true (length (blocks_of m (width_of s)).ptr) np p); is = x ∙ ap₂ (λ (a : Answer) (n : ℕ). built 0 n a (blocks_of m (width_of s)).ptr) made.0 (sym lp) },
-                  (record { room = omega (arith, leb-true (length (blocks_of m (width_of s)).col) nc q); is = y ∙ ap₂ (λ (a : Answer) (n : ℕ). built 0 n a (blocks_of m (width_of s)).col) made.0 (sym lc) }, subst (λ (w : ℕ). blocks * w ≤ nv) (square_is s v ev) room),
-                ),
+                record { room = omega (arith, leb-true (length (blocks_of m (width_of s)).ptr) np p); is = x ∙ ap₂ (λ (a : Answer) (n : ℕ). built 0 n a (blocks_of m (width_of s)).ptr) made.0 (sym lp) },
+                (record { room = omega (arith, leb-true (length (blocks_of m (width_of s)).col) nc q); is = y ∙ ap₂ (λ (a : Answer) (n : ℕ). built 0 n a (blocks_of m (width_of s)).col) made.0 (sym lc) }, subst (λ (w : ℕ). blocks * w ≤ nv) (square_is s v ev) room),
               ),
             )
 

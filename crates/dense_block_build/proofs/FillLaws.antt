@@ -9,6 +9,7 @@ use native.Mathlib.Omega.{arith}
 use lib.ListN.{length, get_or, take, drop, replicate, length-append, length-replicate, replicate-append-replicate}
 use lib.Seq.{take_at, drop_at}
 use lib.Ieee.{Float}
+use Rattle.std.specs.Int.{div_ceil}
 use Rattle.hybit_core.specs.Answer.{accepted}
 use Rattle.hybit_core.specs.Floats.{zero64}
 use Rattle.lent.specs.Lists.{joined, starts, part, spread}
@@ -19,7 +20,6 @@ use Rattle.mask.specs.Calls.{listed}
 use Rattle.mask.proofs.CallLaws.{empty-words}
 use Rattle.levels.specs.Levels.{zeroed}
 use Rattle.levels.specs.Ranks.{Ranks}
-use Rattle.levels.proofs.LevelLaws.{zeros_long}
 use Rattle.levels.proofs.ClearLaws.{forgotten}
 use Rattle.csr32.specs.Csr.{Csr, csr_answer}
 use Rattle.csr32.proofs.CsrLaws.{valid}
@@ -184,11 +184,11 @@ module _ (m : Csr) (s : DenseBlockSize) where
           filling_end = omega (arith, values_end R h a b ea eb k ek, filling_long, length-joined-le vals_at (R + 1) bands (omega arith))
 
           -- what `add_band` requires, once the columns are noted
-          pub filling_asks : csr_answer m ≡ accepted → (x : ℕ) (bits' starts' : List ℕ) → x ≡ blocks_for (width_of s) m.cols → bits' ≡ mask_words (listed (take (b - a) (drop a col))) x → Ranks (listed (take (b - a) (drop a col))) x bits' starts'
-              → (csr_answer m ≡ accepted) × ((width_of s * R < m.rows) × ((bits' ≡ mask_words (listed (row_blocks m (width_of s) R)) (blocks_for (width_of s) m.cols)) × (Ranks (listed (row_blocks m (width_of s) R)) (blocks_for (width_of s) m.cols) bits' starts' × (take (b * k - a * k) (drop (a * k) out) ≡ replicate (length (row_blocks m (width_of s) R) * (width_of s * width_of s)) zero64))))
-          filling_asks ok x bits' starts' ex e ranks =
+          pub filling_asks : (x : ℕ) (bits' starts' : List ℕ) → x ≡ blocks_for (width_of s) m.cols → bits' ≡ mask_words (listed (take (b - a) (drop a col))) x → Ranks (listed (take (b - a) (drop a col))) x bits' starts'
+              → (width_of s * R < m.rows) × ((bits' ≡ mask_words (listed (row_blocks m (width_of s) R)) (blocks_for (width_of s) m.cols)) × (Ranks (listed (row_blocks m (width_of s) R)) (blocks_for (width_of s) m.cols) bits' starts' × (take (b * k - a * k) (drop (a * k) out) ≡ replicate (length (row_blocks m (width_of s) R) * (width_of s * width_of s)) zero64)))
+          filling_asks x bits' starts' ex e ranks =
               let p : take (b - a) (drop a col) ≡ row_blocks m (width_of s) R = part_is R h a b ea eb in
-              (ok, (band_in s m.rows R h, (e ∙ ap₂ (λ (l : List ℕ) (y : ℕ). mask_words (listed l) y) p ex, (subst (λ (l : List ℕ). Ranks (listed l) (blocks_for (width_of s) m.cols) bits' starts') p (subst (λ (y : ℕ). Ranks (listed (take (b - a) (drop a col))) y bits' starts') ex ranks), next_zeros zero64 vals_at bands R out h inv.is (a * k) (b * k) (values_start R h a b ea eb k ek) (values_end R h a b ea eb k ek) ∙ ap (λ (y : ℕ). replicate y zero64) (vals_long R)))))
+              (band_in s m.rows R h, (e ∙ ap₂ (λ (l : List ℕ) (y : ℕ). mask_words (listed l) y) p ex, (subst (λ (l : List ℕ). Ranks (listed l) (blocks_for (width_of s) m.cols) bits' starts') p (subst (λ (y : ℕ). Ranks (listed (take (b - a) (drop a col))) y bits' starts') ex ranks), next_zeros zero64 vals_at bands R out h inv.is (a * k) (b * k) (values_start R h a b ea eb k ek) (values_end R h a b ea eb k ek) ∙ ap (λ (y : ℕ). replicate y zero64) (vals_long R))))
 
           -- the block row is written, and its columns are forgotten
           pub filling_more : (x : ℕ) (bits' bits'' starts' : List ℕ) (new : List Float) → x ≡ blocks_for (width_of s) m.cols → bits' ≡ mask_words (listed (take (b - a) (drop a col))) x → bits'' ≡ zeroed (λ c. c / 64) (take (b - a) (drop a col)) bits' → length starts' ≡ length starts → new ≡ vals_at R
@@ -206,13 +206,15 @@ module _ (s : DenseBlockSize) (n x : ℕ) (few : n ≤ 2 ^ 20) (e : x ≡ blocks
   pub local_few : x ≤ 349526
   local_few = subst (λ (k : ℕ). k ≤ 349526) (sym e) (blocks_few s n few)
 
-  pub local_words : (x + 63) / 64 ≤ 5462
-  local_words = omega (arith, local_few)
+  -- so many words, as the code has it
+  module _ (words : ℕ) (ew : words ≡ div_ceil x 64) where
+    pub local_words : words ≤ 5462
+    local_words = omega (arith, local_few)
 
-  pub local_bits : take ((x + 63) / 64) (replicate 5462 0) ≡ mask_words (λ c. false) (blocks_for (width_of s) n)
-  local_bits = zeros_front 0 ((x + 63) / 64) 5462 local_words ∙ ap (λ (k : ℕ). replicate ((k + 63) / 64) 0) e ∙ sym (empty-words (blocks_for (width_of s) n))
+    pub local_bits : take words (replicate 5462 0) ≡ mask_words (λ c. false) (blocks_for (width_of s) n)
+    local_bits =
+        let up : words ≡ (x + 63) / 64 = omega arith in
+        zeros_front 0 words 5462 local_words ∙ ap (λ (k : ℕ). replicate k 0) up ∙ ap (λ (k : ℕ). replicate ((k + 63) / 64) 0) e ∙ sym (empty-words (blocks_for (width_of s) n))
 
-  pub local_starts : ceil64 (blocks_for (width_of s) n) ≤ length {A = ℕ} (take 5462 (replicate 5462 0))
-  local_starts =
-      let long : 5462 ≡ length {A = ℕ} (take 5462 (replicate 5462 0)) = zeros_long 5462 5462 (omega arith) in
-      omega (arith, long, local_words, ap (λ (k : ℕ). (k + 63) / 64) e)
+  pub local_starts : ceil64 (blocks_for (width_of s) n) ≤ length {A = ℕ} (replicate 5462 0)
+  local_starts = rw (← e) (simp length-replicate (omega (arith, local_few)))

@@ -1,2 +1,3 @@
 pub mod DistinctLaws
+pub mod HandedLaws
 pub mod SlotLaws

@@ -3,22 +3,25 @@
 #![tactic(auto)]
 
 ghost use Rattle.std.specs.Prelude.{◌≡◌, true, false, ◌≤◌, ◌^◌, ltb};
-ghost use Rattle.hybit_core.specs.Answer.{accepted, answers};
+ghost use Rattle.hybit_core.specs.Answer.{answers};
 ghost use Rattle.hybit_core.specs.Table.{given};
 ghost use Rattle.lent.specs.Lists.{every};
 ghost use Rattle.word.specs.Bits.{count};
 ghost use Rattle.mask.specs.Mask.{mask_words};
 ghost use Rattle.mask.specs.Calls.{listed};
-ghost use Rattle.csr32.specs.Csr.{as_csr, csr_answer};
+ghost use Rattle.csr32.specs.Csr.{csr_answer};
 ghost use Rattle.dense_block.specs.Blocks.{structural_slots};
+ghost use Rattle.csr32.specs.Matrix.{lent_csr};
 
+use csr32::{CheckedCsr32, Csr32Matrix};
 use hybit_core::HybitError;
 
 // How many distinct columns a row has, by a bitmap that is empty before and after.
+// One bitmap, without the two above it: what it shares with the builds of words and blocks are levels::mark and forget.
 fn distinct(ncols: usize, cols: &[u32], bits: &mut [u64]) -> usize
-    requires fact_1 { ncols ≤ 2 ^ 20 }
-    requires fact_2 { every (λ c. ltb c ncols) cols.now ≡ true }
-    requires fact_3 { bits.old ≡ mask_words (λ c. false) ncols }
+    requires few { ncols ≤ 2 ^ 20 }
+    requires inside { every (λ c. ltb c ncols) cols.now ≡ true }
+    requires empty { bits.old ≡ mask_words (λ c. false) ncols }
     ensures count { result ≡ count (listed cols.now) ncols }
     ensures bits { bits.new ≡ mask_words (λ c. false) ncols }
 {
@@ -32,38 +35,30 @@ fn distinct(ncols: usize, cols: &[u32], bits: &mut [u64]) -> usize
     found
 }
 
-// The rows of an accepted plot list, through 128 KiB of local bits.
-fn count_structural(
-    nrows: usize,
-    ncols: usize,
-    row_ptr: &[u32],
-    col_idx: &[u32],
-    values: &[f64],
-) -> usize
-    requires { csr_answer (as_csr nrows ncols row_ptr.now col_idx.now values.now) ≡ accepted }
-    ensures { result ≡ structural_slots (as_csr nrows ncols row_ptr.now col_idx.now values.now) }
+// The distinct places with an entry, through 128 KiB of local bits.
+pub fn count_structural(csr: CheckedCsr32) -> usize
+    ensures { result ≡ structural_slots (lent_csr csr.entry.matrix) }
 {
+    // The library has no heap: the room is that of the largest input.
     let mut bits = [0u64; 16384];
-    let nwords = (ncols + 63) / 64;
+    let nwords = csr.matrix.ncols.div_ceil(64);
     let mut slots: usize = 0;
-    for row in 0..nrows {
-        let start = row_ptr[row] as usize;
-        let end = row_ptr[row + 1] as usize;
-        slots += distinct(ncols, &col_idx[start..end], &mut bits[..nwords]);
+    for row in 0..csr.matrix.nrows {
+        // Two reads: row() would compare the places first, and cut the values too.
+        let start = csr.matrix.row_ptr[row] as usize;
+        let end = csr.matrix.row_ptr[row + 1] as usize;
+        slots += distinct(
+            csr.matrix.ncols,
+            &csr.matrix.col_idx[start..end],
+            &mut bits[..nwords],
+        );
     }
     slots
 }
 
-// The distinct places with an entry.
-pub fn structural_slots(
-    nrows: usize,
-    ncols: usize,
-    row_ptr: &[u32],
-    col_idx: &[u32],
-    values: &[f64],
-) -> Result<usize, HybitError>
-    ensures { given result ≡ answers (csr_answer (as_csr nrows ncols row_ptr.now col_idx.now values.now)) (structural_slots (as_csr nrows ncols row_ptr.now col_idx.now values.now)) }
+// `count_structural` of a list that it checks.
+pub fn structural_slots(csr: Csr32Matrix) -> Result<usize, HybitError>
+    ensures { given result ≡ answers (csr_answer (lent_csr csr.entry)) (structural_slots (lent_csr csr.entry)) }
 {
-    csr32::check(nrows, ncols, row_ptr, col_idx, values)?;
-    Ok(count_structural(nrows, ncols, row_ptr, col_idx, values))
+    Ok(count_structural(csr.checked()?))
 }

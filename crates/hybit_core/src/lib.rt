@@ -32,6 +32,7 @@ pub enum HybitError {
 
 impl HybitError {
     // The refusal's number in document 01's table.
+    // A method and no `From` for u32: its name says whose number it is.
     pub fn number(self) -> u32
         ensures { result ≡ (paper self).number }
     {
@@ -53,6 +54,7 @@ impl HybitError {
     }
 
     // The expected length under 6, and 0 under any other number.
+    // No Option: an answer of C holds this number, and 0 where there is none.
     pub fn expected(self) -> usize
         ensures { result ≡ (paper self).expected }
     {
@@ -63,6 +65,7 @@ impl HybitError {
     }
 
     // The actual length under 6, and 0 under any other number.
+    // Two fields under the two names that C's answers have: one function for both is no plainer where they are made.
     pub fn actual(self) -> usize
         ensures { result ≡ (paper self).actual }
     {
@@ -103,7 +106,7 @@ pub fn sizes_fit(nrows: usize, ncols: usize, left: usize, right: usize) -> bool
     entries_fit(right)
 }
 
-// An index as a stored number, as the Rust's `as u32`: its low 32 bits.
+// An index as a stored number, as the Rust's `as u32`: its low 32 bits. The language's own `as` asks that the number fits.
 pub fn narrow(n: usize) -> u32
     ensures { result ≡ n % 2 ^ 32 }
 {
@@ -128,6 +131,7 @@ pub fn ratio(part: u64, whole: u64) -> f64
 }
 
 // Neither NaN nor infinite.
+// Two comparisons, with which the scans were timed; std's `is_finite` subtracts, and its answer is another definition.
 pub fn is_finite(x: f64) -> bool
     ensures { result ≡ finite x }
 {

@@ -8,6 +8,7 @@ ghost use Rattle.lent.specs.Lists.{part};
 ghost use Rattle.lent.specs.Lent.{padded};
 
 // What a cleared place holds.
+// No `Default`: of a T in general its contract names no value, and contracts here name `zero`.
 pub trait Zero: Copy + Drop {
     ghost zero: { Self };
 
@@ -47,6 +48,7 @@ impl Zero for f64 {
     }
 }
 
+// A loop and no `fill`: `fill` clones, and of a T in general nothing says that a clone is the value itself.
 pub fn clear_from<T: Zero>(s: &mut [T], from: usize)
     ensures { s.new ≡ padded T.zero (length s.old) (take from s.old) }
 {

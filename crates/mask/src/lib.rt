@@ -9,60 +9,102 @@ ghost use Rattle.lent.specs.Lent.{built, kept, Appended};
 ghost use Rattle.word.specs.Bits.{below, count, members};
 ghost use Rattle.mask.specs.Mask.{as_mask, bit_at, active, mask_words, mask_rules, mask_answer};
 ghost use Rattle.mask.specs.Calls.{indices_answer, joined_word};
+ghost use Rattle.mask.specs.Dof.{lent_mask};
 
 use hybit_core::HybitError;
 
+mod dof;
+
+pub use dof::DofMask;
+
 // Whether the word count is right and no bit stands at or past the length. Only the last word can have such a bit.
-fn rules_hold(len: usize, words: &[u64]) -> bool
-    requires { len ≤ 2 ^ 20 }
-    ensures { result ≡ mask_rules (as_mask len words.now) }
+fn rules_hold(mask: DofMask) -> bool
+    ensures { result ≡ mask_rules (lent_mask mask.entry) }
 {
-    if words.len() != (len + 63) / 64 {
+    if mask.words.len() != mask.len.div_ceil(64) {
         return false;
     }
-    let valid = len % 64;
+    let valid = mask.len % 64;
     if valid == 0 {
         return true;
     }
-    let last = len / 64;
+    let last = mask.len / 64;
+    let words = mask.words;
     words[last] >> valid == 0
 }
 
-// The Rust's private fields make this check needless there.
-pub fn check(len: usize, words: &[u64]) -> Result<(), HybitError>
-    ensures { told result ≡ mask_answer (as_mask len words.now) }
-{
-    if !hybit_core::dimension_fits(len) {
-        return Err(HybitError::SizeOverflow);
+impl<'a> DofMask<'a> {
+    // The Rust's private fields make this check needless there.
+    pub fn check(self) -> Result<(), HybitError>
+        ensures { told result ≡ mask_answer (lent_mask self.entry) }
+    {
+        if !hybit_core::dimension_fits(self.len) {
+            return Err(HybitError::SizeOverflow);
+        }
+        if !rules_hold(self) {
+            return Err(HybitError::BadMask);
+        }
+        Ok(())
     }
-    if !rules_hold(len, words) {
-        return Err(HybitError::BadMask);
-    }
-    Ok(())
-}
 
-// Whether `index` is a member, for any words: the test that loops make once the mask is checked. False past the length.
-pub fn is_member(len: usize, words: &[u64], index: usize) -> bool
-    ensures { result ≡ active (as_mask len words.now) index }
-{
-    if index >= len {
-        return false;
+    // Whether `index` is a member, for any words: the test that loops make once the mask is checked. False past the length.
+    pub fn is_member(self, index: usize) -> bool
+        ensures { result ≡ active (lent_mask self.entry) index }
+    {
+        if index >= self.len {
+            return false;
+        }
+        let at = index / 64;
+        if at >= self.words.len() {
+            return false;
+        }
+        word::contains_offset(self.words[at], index % 64)
     }
-    let at = index / 64;
-    if at >= words.len() {
-        return false;
-    }
-    word::contains_offset(words[at], index % 64)
-}
 
-pub fn contains(len: usize, words: &[u64], index: usize) -> Result<bool, HybitError>
-    ensures { given result ≡ answers (mask_answer (as_mask len words.now)) (active (as_mask len words.now) index) }
-{
-    check(len, words)?;
-    Ok(is_member(len, words, index))
+    pub fn contains(self, index: usize) -> Result<bool, HybitError>
+        ensures { given result ≡ answers (mask_answer (lent_mask self.entry)) (active (lent_mask self.entry) index) }
+    {
+        self.check()?;
+        Ok(self.is_member(index))
+    }
+
+    pub fn count_ones(self) -> Result<usize, HybitError>
+        ensures { given result ≡ answers (mask_answer (lent_mask self.entry)) (count (active (lent_mask self.entry)) self.entry.len) }
+    {
+        self.check()?;
+        Ok(ones(self.words))
+    }
+
+    // Whether no bit is set.
+    pub fn is_empty(self) -> Result<bool, HybitError>
+        ensures { given result ≡ answers (mask_answer (lent_mask self.entry)) (eqb (count (active (lent_mask self.entry)) self.entry.len) 0) }
+    {
+        self.check()?;
+        Ok(ones(self.words) == 0)
+    }
+
+    // The members, ascending; answers how many, which is the used part.
+    pub fn indices(self, out: &mut [usize]) -> Result<usize, HybitError>
+        ensures answer { given result ≡ answers
+            (indices_answer (lent_mask self.entry) (length out.old))
+            (count (active (lent_mask self.entry)) self.entry.len) }
+        ensures list { out.new ≡ built 0 (length out.old)
+            (indices_answer (lent_mask self.entry) (length out.old))
+            (below (active (lent_mask self.entry)) self.entry.len) }
+    {
+        let v = examine_room(self, out.len());
+        if let Err(e) = v {
+            lent::clear_from(out, 0);
+            return Err(e);
+        }
+        let n = put_all(self.words, out);
+        lent::clear_from(out, n);
+        Ok(n)
+    }
 }
 
 // The ones of all words.
+// A loop and no `sum`: that each sum on the way fits is the loop's invariant, and `sum` would ask for it beside.
 fn ones(words: &[u64]) -> usize
     requires { length words.now ≤ 2 ^ 14 }
     ensures { result ≡ count (bit_at words.now) (64 * length words.now) }
@@ -74,22 +116,8 @@ fn ones(words: &[u64]) -> usize
     n
 }
 
-pub fn count_ones(len: usize, words: &[u64]) -> Result<usize, HybitError>
-    ensures { given result ≡ answers (mask_answer (as_mask len words.now)) (count (active (as_mask len words.now)) len) }
-{
-    check(len, words)?;
-    Ok(ones(words))
-}
-
-// Whether no bit is set.
-pub fn is_empty(len: usize, words: &[u64]) -> Result<bool, HybitError>
-    ensures { given result ≡ answers (mask_answer (as_mask len words.now)) (eqb (count (active (as_mask len words.now)) len) 0) }
-{
-    check(len, words)?;
-    Ok(ones(words) == 0)
-}
-
 // Joins `bits` into word `word_index`, the last word trimmed to the length; a word number past the end does nothing.
+// The length and the words that are written stay apart: a struct of both saves nothing, contracts name `words.new` either way.
 pub fn or_word(
     len: usize,
     words: &mut [u64],
@@ -100,7 +128,7 @@ pub fn or_word(
     ensures list { words.new ≡ kept (mask_answer (as_mask len words.old))
         (mask_words (joined_word (active (as_mask len words.old)) word_index bits) len) words.old }
 {
-    check(len, words)?;
+    (DofMask { len, words }).check()?;
     if word_index >= words.len() {
         return Ok(());
     }
@@ -110,13 +138,14 @@ pub fn or_word(
 }
 
 // Writes base + i for each bit i of the word, ascending, from place `from` of out on; answers the next place.
+// `dense_block_columns::expand_word` does so in u32: one function for both would take the conversion as a trait, no plainer.
 fn put_members(word: u64, base: usize, from: usize, out: &mut [usize]) -> usize
     requires { (base ≤ 2 ^ 20) × (from + length (members word) ≤ length out.old) }
     ensures { Appended (map (λ i. base + i) (members word)) from result out.old out.new }
 {
     let mut bits = word;
     let mut at = from;
-    // A walk over the set bits of a word: no index is counted.
+    // A walk over the set bits: as an iterator of our own it would have to say which members are left, and be no plainer.
     while bits != 0 {
         out[at] = base + word::lowest(bits);
         at += 1;
@@ -130,39 +159,19 @@ fn put_all(words: &[u64], out: &mut [usize]) -> usize
     requires { (length words.now ≤ 2 ^ 14) × (count (bit_at words.now) (64 * length words.now) ≤ length out.old) }
     ensures { Appended (below (bit_at words.now) (64 * length words.now)) 0 result out.old out.new }
 {
-    let n = words.len();
     let mut at: usize = 0;
-    for k in 0..n {
-        at = put_members(words[k], k * 64, at, out);
+    for (k, bits) in words.iter().enumerate() {
+        at = put_members(*bits, k * 64, at, out);
     }
     at
 }
 
-fn examine_room(len: usize, words: &[u64], room: usize) -> Result<(), HybitError>
-    ensures { told result ≡ indices_answer (as_mask len words.now) room }
+fn examine_room(mask: DofMask, room: usize) -> Result<(), HybitError>
+    ensures { told result ≡ indices_answer (lent_mask mask.entry) room }
 {
-    check(len, words)?;
-    if room < ones(words) {
+    mask.check()?;
+    if room < ones(mask.words) {
         return Err(HybitError::ShortList);
     }
     Ok(())
-}
-
-// The members, ascending; answers how many, which is the used part.
-pub fn indices(len: usize, words: &[u64], out: &mut [usize]) -> Result<usize, HybitError>
-    ensures answer { given result ≡ answers
-        (indices_answer (as_mask len words.now) (length out.old))
-        (count (active (as_mask len words.now)) len) }
-    ensures list { out.new ≡ built 0 (length out.old)
-        (indices_answer (as_mask len words.now) (length out.old))
-        (below (active (as_mask len words.now)) len) }
-{
-    let v = examine_room(len, words, out.len());
-    if let Err(e) = v {
-        lent::clear_from(out, 0);
-        return Err(e);
-    }
-    let n = put_all(words, out);
-    lent::clear_from(out, n);
-    Ok(n)
 }

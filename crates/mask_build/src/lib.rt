@@ -1,22 +1,25 @@
 // mask.rs: the calls of `DofMask` that make a mask or set a bit of one: `new`, `from_indices`, `set`.
+// The length and the words that are written stay apart: a struct of both saves nothing, contracts name `words.new` either way.
 #![tactic(auto)]
 
-ghost use Rattle.std.specs.Prelude.{◌≡◌, true, false, cond, [], ◌≤◌, ◌^◌, eqb, ltb, leb, length};
+ghost use Rattle.std.specs.Prelude.{◌≡◌, true, false, cond, [], ◌≤◌, eqb, ltb, leb, length};
+ghost use Rattle.std.specs.List.{list_all};
 ghost use Rattle.hybit_core.specs.Table.{told};
 ghost use Rattle.lent.specs.Lists.{every};
 ghost use Rattle.lent.specs.Lent.{padded, built, kept};
 ghost use Rattle.word.specs.Bits.{has, word_of, ceil64};
 ghost use Rattle.mask.specs.Mask.{as_mask, active, mask_words};
 ghost use Rattle.mask.specs.Calls.{new_answer, from_indices_answer, listed, set_answer, changed};
+ghost use Rattle.mask.specs.Dof.{lent_mask};
 
 use hybit_core::HybitError;
+use mask::DofMask;
 
 // Whether a list of `room` words holds a mask of this length.
 fn words_fit(len: usize, room: usize) -> bool
-    requires { len ≤ 2 ^ 20 }
     ensures { result ≡ leb (ceil64 len) room }
 {
-    (len + 63) / 64 <= room
+    len.div_ceil(64) <= room
 }
 
 fn examine_new(len: usize, room: usize) -> Result<(), HybitError>
@@ -42,14 +45,9 @@ pub fn new(len: usize, words: &mut [u64]) -> Result<(), HybitError>
 }
 
 fn all_below(indices: &[usize], len: usize) -> bool
-    ensures { result ≡ every (λ i. ltb i len) indices.now }
+    ensures { result ≡ list_all (λ i. ltb i len) indices.now }
 {
-    for index in indices {
-        if *index >= len {
-            return false;
-        }
-    }
-    true
+    indices.iter().all(|index| *index < len)
 }
 
 fn examine_indices(len: usize, indices: &[usize], room: usize) -> Result<(), HybitError>
@@ -67,6 +65,7 @@ fn examine_indices(len: usize, indices: &[usize], room: usize) -> Result<(), Hyb
     Ok(())
 }
 
+// A bool chooses, as in the Rust's `set(index, value)`.
 fn with_value(bits: u64, offset: usize, value: bool) -> u64
     ensures { result ≡ word_of (λ i. cond (eqb i offset) value (has bits i)) }
 {
@@ -79,9 +78,9 @@ fn with_value(bits: u64, offset: usize, value: bool) -> u64
 
 // Sets the bit of each index in words that are all 0.
 fn set_all(len: usize, indices: &[usize], words: &mut [u64])
-    requires indices_value { every (λ i. ltb i len) indices.now ≡ true }
-    requires len_in_bounds { ceil64 len ≤ length words.old }
-    requires words_value { words.old ≡ padded 0 (length words.old) [] }
+    requires below { every (λ i. ltb i len) indices.now ≡ true }
+    requires room { ceil64 len ≤ length words.old }
+    requires empty { words.old ≡ padded 0 (length words.old) [] }
     ensures { words.new ≡ padded 0 (length words.old) (mask_words (listed indices.now) len) }
 {
     for index in indices {
@@ -106,11 +105,11 @@ pub fn from_indices(len: usize, indices: &[usize], words: &mut [u64]) -> Result<
     Ok(())
 }
 
-fn examine_set(len: usize, words: &[u64], index: usize) -> Result<(), HybitError>
-    ensures { told result ≡ set_answer (as_mask len words.now) index }
+fn examine_set(mask: DofMask, index: usize) -> Result<(), HybitError>
+    ensures { told result ≡ set_answer (lent_mask mask.entry) index }
 {
-    mask::check(len, words)?;
-    if len <= index {
+    mask.check()?;
+    if mask.len <= index {
         return Err(HybitError::NoSuchPlace);
     }
     Ok(())
@@ -121,7 +120,7 @@ pub fn set(len: usize, words: &mut [u64], index: usize, value: bool) -> Result<(
     ensures list { words.new ≡ kept (set_answer (as_mask len words.old) index)
         (mask_words (changed (active (as_mask len words.old)) index value) len) words.old }
 {
-    examine_set(len, words, index)?;
+    examine_set(DofMask { len, words }, index)?;
     let at = index / 64;
     words[at] = with_value(words[at], index % 64, value);
     Ok(())

@@ -20,7 +20,7 @@ use Rattle.hybit_core.specs.declared.HybitError.{HybitError}
 use Rattle.hybit_core.proofs.BoolLaws.{and_left, and_right, not-both, is_equal, is_unequal}
 use Rattle.hybit_core.proofs.AnswerLaws.{demand_accepted, then_first, then_second, accepted_by, given_accepted, test_fails, test_passes, last_fails, last_passes}
 use Rattle.lent.specs.Lists.{joined, part, every, spread}
-use Rattle.lent.proofs.ListLaws.{part_lent}
+use Rattle.lent.proofs.ListLaws.{every-part, part_lent}
 use Rattle.word.specs.Bits.{count}
 use Rattle.word.proofs.BitLaws.{every-below-at}
 use Rattle.csr32.specs.Csr.{framed}
@@ -227,7 +227,8 @@ module _ (n m : ℕ) (ps ws ms : List ℕ) (t : ℕ) (a : word_answer (as_words 
           left = row_left n ps (length ws) (length ms) (accepted_facts (as_words n m ps ws ms t) a).lists r h;
           right = masks_here;
         })
-        tiny (take (end - start) (drop start ms)) k (part_lent ps ms r start end es ee) ek
+        (part ps ws r) (take (end - start) (drop start ms)) refl (part_lent ps ms r start end es ee)
+        (ap small (part_lent ps ms r start end es ee) ∙ every-part (λ m. ltb m (2 ^ 64)) ps ms r tiny) k ek
 
     values_are : length (part vp vs r) ≡ last - first
     values_are = omega (arith, part_length vp vs r (values_here n vp (length vs) r f h))

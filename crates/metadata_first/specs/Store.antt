@@ -7,7 +7,7 @@ use Rattle.hybit_core.specs.Floats.{finite}
 use Rattle.lent.specs.Lists.{joined, starts, part, every}
 use Rattle.word.specs.Bits.{below, count}
 use Rattle.csr32.specs.Csr.{framed}
-use Rattle.topology.specs.Words.{Words, as_words, topology_of, member, word_sizes, word_rules}
+use Rattle.topology.specs.Words.{counted, Words, as_words, topology_of, member, word_sizes, word_rules}
 use Rattle.topology.specs.Calls.{rank, metadata_bytes}
 use Rattle.metadata_first.specs.declared.AbtmMetadataFirstStats.{AbtmMetadataFirstStats}
 
@@ -19,6 +19,10 @@ pub record Store : Type 0 where
 -- lent lists and a stored total, as a store
 abbrev pub as_store : ℕ → ℕ → List ℕ → List ℕ → List ℕ → ℕ → List ℕ → List Float → Store
 as_store n m ps ws ms t vp vs = record { words = as_words n m ps ws ms t; vptr = vp; vals = vs }
+
+-- the same store, with the set bits of its masks as the total
+abbrev pub counted_store : Store → Store
+counted_store s = record { words = counted s.words; vptr = s.vptr; vals = s.vals }
 
 -- the record of the membership p and the values v (row, column): one value per present column, ascending
 unfoldable pub packed_of : ℕ → ℕ → (ℕ → ℕ → Bool) → (ℕ → ℕ → Float) → Store

@@ -8,11 +8,18 @@ ghost use Rattle.hybit_core.specs.Answer.{on_given, accepted, refused, plain, de
 ghost use Rattle.hybit_core.specs.Table.{told, given};
 ghost use Rattle.lent.specs.Lists.{part};
 ghost use Rattle.csr32.specs.Csr.{framed};
-ghost use Rattle.topology.specs.Words.{as_words, word_answer, set_bits};
-ghost use Rattle.metadata_first.specs.Store.{as_store, value_rules, store_rules, store_answer, store_row_answer, store_stats, estimated_bytes};
+ghost use Rattle.topology.specs.Words.{counted, word_answer, set_bits};
+ghost use Rattle.topology.specs.Matrix.{lent_topology};
+ghost use Rattle.metadata_first.specs.Store.{counted_store, value_rules, store_rules, store_answer, store_row_answer, store_stats, estimated_bytes};
 ghost use Rattle.metadata_first.specs.Dot.{counts_of, pruning_ratio, empty_word_ratio, accumulated, totals_fit, accumulate_answer};
+ghost use Rattle.metadata_first.specs.Matrix.{lent_store};
 
 use hybit_core::HybitError;
+use topology::AbtmTopology;
+
+mod matrix;
+
+pub use matrix::AbtmMetadataFirstMatrix;
 
 // The counts of one dot, or of several together.
 #[derive(Clone, Copy)]
@@ -24,7 +31,7 @@ pub struct AbtmProductPruningStats {
     pub active_words: usize,
 }
 
-// The report of a row's dot: the number and its five counts, where the Rust answers a pair.
+// The report of a row's dot: the number and its five counts, where the Rust answers a pair. Document 01 has them in one record.
 #[derive(Clone, Copy)]
 pub struct AbtmRowDot {
     pub sum: f64,
@@ -49,10 +56,10 @@ pub struct AbtmMetadataFirstStats {
 fn sum_fits(a: usize, b: usize) -> bool
     ensures { result ≡ ltb (a + b) (2 ^ 64) }
 {
-    b <= 18446744073709551615 - a
+    a.checked_add(b).is_some()
 }
 
-// Whether the five totals of two counts are at most 2^64 − 1.
+// Whether the five totals of two counts are at most 2^64 − 1. All are tested before one is added: one refusal for the five.
 fn totals_fit(a: AbtmProductPruningStats, b: AbtmProductPruningStats) -> bool
     ensures { result ≡ totals_fit (accumulated a b) }
 {
@@ -112,7 +119,7 @@ impl AbtmProductPruningStats {
 }
 
 impl AbtmRowDot {
-    // The five counts.
+    // The five counts. A method and no From: its name says what is taken.
     pub fn counts(self) -> AbtmProductPruningStats
         ensures { result ≡ counts_of self }
     {
@@ -148,25 +155,26 @@ impl AbtmMetadataFirstStats {
     }
 }
 
-// Whether every row has as many values as present columns.
-fn counts_hold(
-    nrows: usize,
-    ncols: usize,
-    row_word_ptr: &[u32],
-    word_indices: &[u32],
-    masks: &[u64],
-    row_value_ptr: &[u32],
-    values: &[f64],
-) -> bool
-    requires fact_1 { word_answer (as_words nrows ncols row_word_ptr.now word_indices.now masks.now (set_bits masks.now)) ≡ accepted }
-    requires fact_2 { framed nrows row_value_ptr.now (length values.now) ≡ true }
-    ensures { result ≡ value_rules (as_store nrows ncols row_word_ptr.now word_indices.now masks.now (set_bits masks.now) row_value_ptr.now values.now) }
+// The proofs know of a list that a call answers that its numbers have 64 bits, as of a parameter, but not of a field.
+fn masks_of<'a>(topology: AbtmTopology<'a>) -> &'a [u64]
+    ensures { result.now ≡ topology.entry.masks.now }
 {
-    for row in 0..nrows {
-        let start = row_word_ptr[row] as usize;
-        let end = row_word_ptr[row + 1] as usize;
-        let first = row_value_ptr[row] as usize;
-        let last = row_value_ptr[row + 1] as usize;
+    topology.masks
+}
+
+// Whether every row has as many values as present columns. A loop and no `all`: its closure would have to be told that a row's
+// pointers are inside.
+fn counts_hold(packed: AbtmMetadataFirstMatrix) -> bool
+    requires words { word_answer (counted (lent_topology packed.topology)) ≡ accepted }
+    requires pointers { framed packed.topology.nrows packed.row_value_ptr.now (length packed.values.now) ≡ true }
+    ensures { result ≡ value_rules (counted_store (lent_store packed.entry)) }
+{
+    let masks = masks_of(packed.topology);
+    for row in 0..packed.topology.nrows {
+        let start = packed.topology.row_word_ptr[row] as usize;
+        let end = packed.topology.row_word_ptr[row + 1] as usize;
+        let first = packed.row_value_ptr[row] as usize;
+        let last = packed.row_value_ptr[row + 1] as usize;
         if last - first != topology::count_bits(&masks[start..end]) {
             return false;
         }
@@ -174,33 +182,21 @@ fn counts_hold(
     true
 }
 
-fn rules_hold(
-    nrows: usize,
-    ncols: usize,
-    row_word_ptr: &[u32],
-    word_indices: &[u32],
-    masks: &[u64],
-    row_value_ptr: &[u32],
-    values: &[f64],
-) -> bool
-    requires { word_answer (as_words nrows ncols row_word_ptr.now word_indices.now masks.now (set_bits masks.now)) ≡ accepted }
-    ensures { result ≡ store_rules (as_store nrows ncols row_word_ptr.now word_indices.now masks.now (set_bits masks.now) row_value_ptr.now values.now) }
+fn rules_hold(packed: AbtmMetadataFirstMatrix) -> bool
+    requires { word_answer (counted (lent_topology packed.topology)) ≡ accepted }
+    ensures { result ≡ store_rules (counted_store (lent_store packed.entry)) }
 {
-    if !csr32::pointers_hold(nrows, row_value_ptr, values.len()) {
-        return false;
-    }
-    if !counts_hold(
-        nrows,
-        ncols,
-        row_word_ptr,
-        word_indices,
-        masks,
-        row_value_ptr,
-        values,
+    if !csr32::pointers_hold(
+        packed.topology.nrows,
+        packed.row_value_ptr,
+        packed.values.len(),
     ) {
         return false;
     }
-    csr32::all_finite(values)
+    if !counts_hold(packed) {
+        return false;
+    }
+    csr32::all_finite(packed.values)
 }
 
 // 12, and before it 11 for a wrong total.
@@ -213,128 +209,58 @@ fn refused_store(masks: &[u64], structural_nnz: usize) -> Result<(), HybitError>
     Err(HybitError::BadStore)
 }
 
-// The Rust's `validate`. Where every row has as many values as present columns, the total of set bits is the number of values, and
-// the bits need not be counted again.
-pub fn check(
-    nrows: usize,
-    ncols: usize,
-    row_word_ptr: &[u32],
-    word_indices: &[u32],
-    masks: &[u64],
-    structural_nnz: usize,
-    row_value_ptr: &[u32],
-    values: &[f64],
-) -> Result<(), HybitError>
-    ensures { told result ≡ store_answer (as_store nrows ncols row_word_ptr.now word_indices.now masks.now structural_nnz row_value_ptr.now values.now) }
-{
-    if !hybit_core::entries_fit(values.len()) {
-        return Err(HybitError::SizeOverflow);
+impl<'a> AbtmMetadataFirstMatrix<'a> {
+    // The Rust's `validate`. Where every row has as many values as present columns, the total of set bits is the number of
+    // values, and the bits need not be counted again.
+    pub fn check(self) -> Result<(), HybitError>
+        ensures { told result ≡ store_answer (lent_store self.entry) }
+    {
+        if !hybit_core::entries_fit(self.values.len()) {
+            return Err(HybitError::SizeOverflow);
+        }
+        self.topology.check_lists()?;
+        let masks = masks_of(self.topology);
+        if !rules_hold(self) {
+            return refused_store(masks, self.topology.structural_nnz);
+        }
+        if self.topology.structural_nnz != self.values.len() {
+            return Err(HybitError::BadWords);
+        }
+        Ok(())
     }
-    topology::check_lists(nrows, ncols, row_word_ptr, word_indices, masks)?;
-    if !rules_hold(
-        nrows,
-        ncols,
-        row_word_ptr,
-        word_indices,
-        masks,
-        row_value_ptr,
-        values,
-    ) {
-        return refused_store(masks, structural_nnz);
+
+    // The row's values, as that part of the lent list.
+    pub fn row_values(self, row: usize) -> Result<&'a [f64], HybitError>
+        ensures { on_given (λ s. s.now) (given result) ≡ answers (store_row_answer (lent_store self.entry) row) (part self.entry.row_value_ptr.now self.entry.values.now row) }
+    {
+        check_row(self, row)?;
+        let start = self.row_value_ptr[row] as usize;
+        let end = self.row_value_ptr[row + 1] as usize;
+        Ok(&self.values[start..end])
     }
-    if structural_nnz != values.len() {
-        return Err(HybitError::BadWords);
+
+    pub fn stats(self) -> Result<AbtmMetadataFirstStats, HybitError>
+        ensures { given result ≡ answers (store_answer (lent_store self.entry)) (store_stats (lent_store self.entry)) }
+    {
+        self.check()?;
+        Ok(AbtmMetadataFirstStats {
+            nrows: self.topology.nrows,
+            ncols: self.topology.ncols,
+            structural_nnz: self.topology.structural_nnz,
+            topology_metadata_bytes: 4 * (self.topology.nrows + 1)
+                + 12 * self.topology.word_indices.len(),
+            value_row_ptr_bytes: 4 * self.row_value_ptr.len(),
+            packed_value_bytes: 8 * self.values.len(),
+        })
     }
-    Ok(())
 }
 
-fn check_row(
-    nrows: usize,
-    ncols: usize,
-    row_word_ptr: &[u32],
-    word_indices: &[u32],
-    masks: &[u64],
-    structural_nnz: usize,
-    row_value_ptr: &[u32],
-    values: &[f64],
-    row: usize,
-) -> Result<(), HybitError>
-    ensures { told result ≡ store_row_answer (as_store nrows ncols row_word_ptr.now word_indices.now masks.now structural_nnz row_value_ptr.now values.now) row }
+fn check_row(packed: AbtmMetadataFirstMatrix, row: usize) -> Result<(), HybitError>
+    ensures { told result ≡ store_row_answer (lent_store packed.entry) row }
 {
-    check(
-        nrows,
-        ncols,
-        row_word_ptr,
-        word_indices,
-        masks,
-        structural_nnz,
-        row_value_ptr,
-        values,
-    )?;
-    if row >= nrows {
+    packed.check()?;
+    if row >= packed.topology.nrows {
         return Err(HybitError::NoSuchPlace);
     }
     Ok(())
-}
-
-// The row's values, as that part of the lent list.
-pub fn row_values<'a>(
-    nrows: usize,
-    ncols: usize,
-    row_word_ptr: &[u32],
-    word_indices: &[u32],
-    masks: &[u64],
-    structural_nnz: usize,
-    row_value_ptr: &[u32],
-    values: &'a [f64],
-    row: usize,
-) -> Result<&'a [f64], HybitError>
-    ensures { on_given (λ s. s.now) (given result) ≡ answers (store_row_answer (as_store nrows ncols row_word_ptr.now word_indices.now masks.now structural_nnz row_value_ptr.now values.now) row) (part row_value_ptr.now values.now row) }
-{
-    check_row(
-        nrows,
-        ncols,
-        row_word_ptr,
-        word_indices,
-        masks,
-        structural_nnz,
-        row_value_ptr,
-        values,
-        row,
-    )?;
-    let start = row_value_ptr[row] as usize;
-    let end = row_value_ptr[row + 1] as usize;
-    Ok(&values[start..end])
-}
-
-pub fn stats(
-    nrows: usize,
-    ncols: usize,
-    row_word_ptr: &[u32],
-    word_indices: &[u32],
-    masks: &[u64],
-    structural_nnz: usize,
-    row_value_ptr: &[u32],
-    values: &[f64],
-) -> Result<AbtmMetadataFirstStats, HybitError>
-    ensures { given result ≡ answers (store_answer (as_store nrows ncols row_word_ptr.now word_indices.now masks.now structural_nnz row_value_ptr.now values.now)) (store_stats (as_store nrows ncols row_word_ptr.now word_indices.now masks.now structural_nnz row_value_ptr.now values.now)) }
-{
-    check(
-        nrows,
-        ncols,
-        row_word_ptr,
-        word_indices,
-        masks,
-        structural_nnz,
-        row_value_ptr,
-        values,
-    )?;
-    Ok(AbtmMetadataFirstStats {
-        nrows: nrows,
-        ncols: ncols,
-        structural_nnz: structural_nnz,
-        topology_metadata_bytes: 4 * (nrows + 1) + 12 * word_indices.len(),
-        value_row_ptr_bytes: 4 * row_value_ptr.len(),
-        packed_value_bytes: 8 * values.len(),
-    })
 }

@@ -3,7 +3,7 @@ use Rattle.std.specs.Prelude.{Result, Ok, Err}
 use mathlib.Core.Bool.{Bool, true, false, not, ◌&&◌, true≢false, false≢true}
 use mathlib.Core.List.{List, [], ◌++◌}
 use mathlib.Core.Path.{◌≡◌, refl, sym, ap, ap₂, ◌∙◌}
-use Prim.Native.Nat.{ℕ, ◌+◌, ◌-◌, ◌^◌, ◌≤◌, ◌<◌}
+use Prim.Native.Nat.{ℕ, ◌+◌, ◌^◌, ◌≤◌, ◌<◌}
 use native.Mathlib.Omega.{arith}
 use lib.Dec.{leb}
 use lib.ListN.{length, take, drop, replicate}
@@ -22,6 +22,7 @@ use Rattle.lent.proofs.LentLaws.{handed_used, front_zeros, written_front}
 use Rattle.csr32.specs.Csr.{Csr, csr_answer, entries, present}
 use Rattle.csr32.proofs.CsrLaws.{valid}
 use Rattle.topology.specs.declared.TopologySize.{TopologySize}
+use Rattle.topology.specs.Words.{Words, as_words, topology_of}
 use Rattle.topology.specs.Calls.{as_room, fits_words, as_size, used_of}
 use Rattle.topology.proofs.TopologyLaws.{topology_pointers, topology_sides}
 use Rattle.topology_build.specs.Build.{topology_from, build_answer}
@@ -29,7 +30,7 @@ use Rattle.metadata_first.specs.Store.{Store, packed_of}
 use Rattle.metadata_first.proofs.StoreLaws.{packed_total, packed_pointers}
 use Rattle.metadata_first_merge.specs.Merge.{row_values, merged_finite, merge_answer}
 use Rattle.metadata_first_build.specs.Pack.{store_of, as_store_room, fits_store, pack_answer}
-use Rattle.metadata_first_build.specs.Making.{Source, Valued, last_refusal}
+use Rattle.metadata_first_build.specs.Making.{Valued, last_refusal}
 
 -- what the call answers, and what its lists of np, nw, nm, nv and nx places hold
 abbrev Outcome : Answer → Given TopologySize → Store → ℕ → ℕ → ℕ → ℕ → ℕ → List ℕ → List ℕ → List ℕ → List ℕ → List Float → Type 0
@@ -64,22 +65,26 @@ module _ (m : Csr) where
   unfolding store_of packed_of merged_finite row_values
   store_finite = refl
 
+-- as many values as the words have bits
+pub source_total : (m : Csr) (t : Words) → t ≡ topology_from m → t.total ≡ length (store_of m).vals
+source_total m t e = ap (λ (t : Words). t.total) e ∙ sym (store_total m)
+
 -- ---- after the build of the words, which answered t
 
 module _ (m : Csr) (np nw nm : ℕ) (t : Result TopologySize HybitError) (e : given t ≡ answers (build_answer m (as_room np nw nm)) (used_of (topology_from m))) where
-  module _ (w n : ℕ) (k : t ≡ Ok (as_size w n)) where
-    made : (build_answer m (as_room np nw nm) ≡ accepted) × ((w ≡ length (topology_from m).word) × (n ≡ (topology_from m).total))
+  module _ (s : TopologySize) (k : t ≡ Ok s) where
+    made : (build_answer m (as_room np nw nm) ≡ accepted) × ((s.words ≡ length (topology_from m).word) × (s.structural_nnz ≡ (topology_from m).total))
     made = go (build_answer m (as_room np nw nm)) refl (sym (ap given k) ∙ e)
       where
-        go : (a : Answer) → build_answer m (as_room np nw nm) ≡ a → gives (as_size w n) ≡ answers a (used_of (topology_from m)) → (build_answer m (as_room np nw nm) ≡ accepted) × ((w ≡ length (topology_from m).word) × (n ≡ (topology_from m).total))
-        go accepted q z = let y : as_size w n ≡ used_of (topology_from m) = given_same (as_size w n) (used_of (topology_from m)) z in (q, (ap (λ (i : TopologySize). i.words) y, ap (λ (i : TopologySize). i.structural_nnz) y))
+        go : (a : Answer) → build_answer m (as_room np nw nm) ≡ a → gives s ≡ answers a (used_of (topology_from m)) → (build_answer m (as_room np nw nm) ≡ accepted) × ((s.words ≡ length (topology_from m).word) × (s.structural_nnz ≡ (topology_from m).total))
+        go accepted q z = let y : s ≡ used_of (topology_from m) = given_same s (used_of (topology_from m)) z in (q, (ap (λ (i : TopologySize). i.words) y, ap (λ (i : TopologySize). i.structural_nnz) y))
         go (refused t) q z = let y : ◌≡◌ {A = ℕ} 0 1 = cc in absurd (omega arith)
 
     words_in_lem : fits_words (topology_from m) (as_room np nw nm) ≡ true
     unfolding build_answer
     words_in_lem = demand_accepted _ 13 (then_second (csr_answer m) (demand (fits_words (topology_from m) (as_room np nw nm)) 13) made.0)
 
-    list_is : csr_answer m ≡ accepted
+    pub list_is : csr_answer m ≡ accepted
     unfolding build_answer
     list_is = then_first (csr_answer m) (demand (fits_words (topology_from m) (as_room np nw nm)) 13) made.0
 
@@ -87,8 +92,8 @@ module _ (m : Csr) (np nw nm : ℕ) (t : Result TopologySize HybitError) (e : gi
     pub record Used : Type 0 where
       pub rows_in : m.rows ≤ 2 ^ 20
       pub ptr_in : m.rows + 1 ≤ np
-      pub word_in : w ≤ nw
-      pub mask_in : w ≤ nm
+      pub word_in : s.words ≤ nw
+      pub mask_in : s.words ≤ nm
 
     pub used : Used
     unfolding fits_words
@@ -103,22 +108,21 @@ module _ (m : Csr) (np nw nm : ℕ) (t : Result TopologySize HybitError) (e : gi
           mask_in = omega (arith, made.1.0, topology_sides m.rows m.cols (λ r. present (entries m r)), leb-true (length (topology_from m).mask) nm (and_right (fp && fw) fm words_in_lem));
         }
 
-    pub values_many : n ≡ length (store_of m).vals
-    values_many = made.1.1 ∙ sym (store_total m)
-
     -- what the build of the words left
     module _ (op ow om : List ℕ) (ep : op ≡ built 0 np (build_answer m (as_room np nw nm)) (topology_from m).ptr) (ew : ow ≡ built 0 nw (build_answer m (as_room np nw nm)) (topology_from m).word)
         (em : om ≡ built 0 nm (build_answer m (as_room np nw nm)) (topology_from m).mask) where
       front : (z k : ℕ) (l new : List ℕ) → l ≡ built 0 z (build_answer m (as_room np nw nm)) new → length new ≡ k → take k l ≡ new
       front z k l new q h = ap (take k) q ∙ handed_used 0 z (build_answer m (as_room np nw nm)) k new made.0 h
 
-      pub pack_source : Source m (take (m.rows + 1) op) (take w ow) (take w om)
-      pack_source = record {
-        list_accepted = list_is;
-        pointers_are = front np (m.rows + 1) op (topology_from m).ptr ep (omega (arith, topology_pointers m.rows m.cols (λ r. present (entries m r))));
-        words_are = front nw w ow (topology_from m).word ew (sym made.1.0);
-        masks_are = front nm w om (topology_from m).mask em (sym (topology_sides m.rows m.cols (λ r. present (entries m r))) ∙ sym made.1.0);
-      }
+      -- the used parts are the words of the plot list
+      pub pack_source : as_words m.rows m.cols (take (m.rows + 1) op) (take s.words ow) (take s.words om) s.structural_nnz ≡ topology_from m
+      unfolding topology_of
+      pack_source =
+          let pointers : take (m.rows + 1) op ≡ (topology_from m).ptr = front np (m.rows + 1) op (topology_from m).ptr ep (omega (arith, topology_pointers m.rows m.cols (λ r. present (entries m r)))) in
+          let words : take s.words ow ≡ (topology_from m).word = front nw s.words ow (topology_from m).word ew (sym made.1.0) in
+          let masks : take s.words om ≡ (topology_from m).mask = front nm s.words om (topology_from m).mask em (sym (topology_sides m.rows m.cols (λ r. present (entries m r))) ∙ sym made.1.0) in
+          let total : s.structural_nnz ≡ (topology_from m).total = made.1.1 in
+          λ i. record { rows = m.rows; cols = m.cols; ptr = pointers i; word = words i; mask = masks i; total = total i }
 
 -- ---- an accepted build, as facts
 
@@ -188,9 +192,9 @@ module _ (m : Csr) (np nw nm nv nx : ℕ) where
         differ : refuses (paper x) ≡ gives (used_of (topology_from m)) → ⊥
         differ q = let z : ◌≡◌ {A = ℕ} 0 1 = cc in omega arith
 
-    module _ (w n : ℕ) (k : t ≡ Ok (as_size w n)) where
-      words-made : (build_answer m (as_room np nw nm) ≡ accepted) × ((w ≡ length (topology_from m).word) × (n ≡ (topology_from m).total))
-      words-made = made m np nw nm t e w n k
+    module _ (s : TopologySize) (k : t ≡ Ok s) where
+      words-made : (build_answer m (as_room np nw nm) ≡ accepted) × ((s.words ≡ length (topology_from m).word) × (s.structural_nnz ≡ (topology_from m).total))
+      words-made = made m np nw nm t e s k
 
       -- the values were asked for: b tells whether they are written
       module _ (b : Bool) (ov : List ℕ) (ox : List Float) (vs : Valued m nv nx b ov ox) where
@@ -198,13 +202,13 @@ module _ (m : Csr) (np nw nm nv nx : ℕ) where
         no_values_written h p = vs.not_held (not-true b h) (omega (arith, p.pointers)) (omega (arith, store_total m, p.values)) p.finites
 
         pub pack_built : not b ≡ false → (op ow om : List ℕ) → op ≡ built 0 np (build_answer m (as_room np nw nm)) (topology_from m).ptr → ow ≡ built 0 nw (build_answer m (as_room np nw nm)) (topology_from m).word
-            → om ≡ built 0 nm (build_answer m (as_room np nw nm)) (topology_from m).mask → Outcome whole (gives (as_size w n)) (store_of m) np nw nm nv nx op ow om ov ox
+            → om ≡ built 0 nm (build_answer m (as_room np nw nm)) (topology_from m).mask → Outcome whole (gives s) (store_of m) np nw nm nv nx op ow om ov ox
         unfolding store_of packed_of
         pack_built h op ow om ep ew em =
             let y : b ≡ true = not-false b h in
             let k1 = vs.held y in
             let k2 = vs.written y in
-            let ok : whole ≡ accepted = accepts (record { list = list_is m np nw nm t e w n k; finites = k1.2; fits = words_in_lem m np nw nm t e w n k; pointers = omega (arith, k1.0); values = omega (arith, k1.1, store_total m) }) in
+            let ok : whole ≡ accepted = accepts (record { list = list_is m np nw nm t e s k; finites = k1.2; fits = words_in_lem m np nw nm t e s k; pointers = omega (arith, k1.0); values = omega (arith, k1.1, store_total m) }) in
             rw ok (
               ap₂ (λ (i j : ℕ). gives (as_size i j)) words-made.1.0 words-made.1.1,
               (

@@ -10,6 +10,7 @@ use lib.Dec.{ltb}
 use lib.ListN.{length, get_or, take, drop, set, replicate, length-set, length-map, length-append, length-replicate, replicate-append-replicate}
 use lib.Seq.{take-suc-set, take_all, take_at, drop_at}
 use lib.Ieee.{Float}
+use Rattle.hybit_core.specs.Answer.{accepted}
 use Rattle.hybit_core.specs.Floats.{zero64}
 use Rattle.hybit_core.proofs.BoolLaws.{eqb_turned}
 use Rattle.lent.specs.Lists.{joined, each, starts, part, every, some}
@@ -17,10 +18,10 @@ use Rattle.lent.proofs.ListLaws.{joined_lengths, joined-le, length-joined-le, le
 use Rattle.word.specs.Bits.{below, count, mask_of, words_of, ceil64}
 use Rattle.word.proofs.BelowLaws.{below_same, length-below-le}
 use Rattle.mask.specs.Calls.{listed}
-use Rattle.csr32.specs.Csr.{Csr, Entry, entries, present, merged}
+use Rattle.csr32.specs.Csr.{Csr, Entry, csr_answer, entries, present, merged}
 use Rattle.csr32.proofs.FrameLaws.{Framed, RowIn, row_left, row_right, parts_all}
-use Rattle.csr32.proofs.CsrLaws.{Valid, valid, row_of, entries_lent, row_lent, present_row}
-use Rattle.topology.specs.Words.{topology_of, set_bits}
+use Rattle.csr32.proofs.CsrLaws.{Valid, valid, row_columns, present_row}
+use Rattle.topology.specs.Words.{Words, topology_of, set_bits}
 use Rattle.topology.proofs.RowLaws.{Row}
 use Rattle.topology.proofs.TopologyLaws.{Accepted, accepted_facts, row_bits, row_words_lem, row_masks_lem}
 use Rattle.topology_build.specs.Build.{topology_from}
@@ -29,7 +30,7 @@ use Rattle.topology_build.proofs.AnswerLaws.{built_accepted}
 use Rattle.metadata_first.specs.Store.{packed_of}
 use Rattle.metadata_first_merge.specs.Merge.{row_values}
 use Rattle.metadata_first_build.specs.Pack.{store_of}
-use Rattle.metadata_first_build.specs.Making.{Source}
+use Rattle.metadata_first_build.proofs.PlaceLaws.{row_sides, row_fits}
 
 -- ---- the rows of the store
 
@@ -87,12 +88,12 @@ pub record Cut (a b x y : ℕ) : Type 0 where
   pub left : b ≤ x
   pub right : b ≤ y
 
-module _ (m : Csr) (wptr word mask : List ℕ) (src : Source m wptr word mask) (bits₀ starts₀ : List ℕ) where
+module _ (m : Csr) (list : csr_answer m ≡ accepted) (t : Words) (src : t ≡ topology_from m) (bits₀ starts₀ : List ℕ) where
   ok : Valid m
-  ok = valid m src.list_accepted
+  ok = valid m list
 
   facts : Accepted (topology_from m)
-  facts = accepted_facts (topology_from m) (built_accepted m src.list_accepted)
+  facts = accepted_facts (topology_from m) (built_accepted m list)
 
   pub packing_none : (vptr : List ℕ) (packed : List Float) → length vptr ≡ m.rows + 1 → packed ≡ replicate (length (store_of m).vals) zero64 → Packing m bits₀ starts₀ 0 0 bits₀ starts₀ vptr packed
   unfolding joined each
@@ -134,40 +135,41 @@ module _ (m : Csr) (wptr word mask : List ℕ) (src : Source m wptr word mask) (
         )
 
     module _ (h : r < m.rows) where
-      pub packing_pointers : RowIn m.ptr (length m.col) r
-      packing_pointers = row_of ok h
-
-      words_in_lem : RowIn wptr (length word) r
+      words_in_lem : RowIn t.ptr (length t.word) r
       unfolding topology_of
-      words_in_lem =
-          rw (src.pointers_are, src.words_are) (row_left m.rows (topology_from m).ptr (length (topology_from m).word) (length (topology_from m).mask) facts.lists r h)
+      words_in_lem = rw src (row_left m.rows (topology_from m).ptr (length (topology_from m).word) (length (topology_from m).mask) facts.lists r h)
 
-      pub packing_words : RowIn wptr (length mask) r
+      pub packing_words : RowIn t.ptr (length t.mask) r
       unfolding topology_of
-      packing_words =
-          rw (src.pointers_are, src.masks_are) (row_right m.rows (topology_from m).ptr (length (topology_from m).word) (length (topology_from m).mask) facts.lists r h)
-
-      pub packing_entries : (a b : ℕ) → a ≡ get_or m.ptr r 0 → b ≡ get_or m.ptr (r + 1) 0 → Cut a b (length m.col) (length m.val)
-      packing_entries a b ea eb = record { order = omega (arith, packing_pointers.order); left = omega (arith, packing_pointers.inside); right = omega (arith, packing_pointers.inside, ok.sides) }
+      packing_words = rw src (row_right m.rows (topology_from m).ptr (length (topology_from m).word) (length (topology_from m).mask) facts.lists r h)
 
       -- f and l are the pointers of the row's words
-      module _ (f l : ℕ) (ef : f ≡ get_or wptr r 0) (el : l ≡ get_or wptr (r + 1) 0) where
-        pub packing_masks : Cut f l (length word) (length mask)
+      module _ (f l : ℕ) (ef : f ≡ get_or t.ptr r 0) (el : l ≡ get_or t.ptr (r + 1) 0) where
+        pub packing_masks : Cut f l (length t.word) (length t.mask)
         packing_masks = record { order = omega (arith, words_in_lem.order); left = omega (arith, words_in_lem.inside); right = omega (arith, packing_words.inside) }
 
-        words_are : take (l - f) (drop f word) ≡ words_of (present (entries m r)) m.cols
+        words_are : take (l - f) (drop f t.word) ≡ words_of (present (entries m r)) m.cols
         words_are =
-            part_lent wptr word r f l ef el ∙ ap₂ (λ (p s : List ℕ). part p s r) src.pointers_are src.words_are ∙ row_words_lem m.rows m.cols (λ r. present (entries m r)) r h
+            part_lent t.ptr t.word r f l ef el ∙ ap (λ (t : Words). part t.ptr t.word r) src ∙ row_words_lem m.rows m.cols (λ r. present (entries m r)) r h
 
-        masks_are : take (l - f) (drop f mask) ≡ map (mask_of (present (entries m r)) m.cols) (words_of (present (entries m r)) m.cols)
+        masks_are : take (l - f) (drop f t.mask) ≡ map (mask_of (present (entries m r)) m.cols) (words_of (present (entries m r)) m.cols)
         masks_are =
-            part_lent wptr mask r f l ef el ∙ ap₂ (λ (p s : List ℕ). part p s r) src.pointers_are src.masks_are ∙ row_masks_lem m.rows m.cols (λ r. present (entries m r)) r h
+            part_lent t.ptr t.mask r f l ef el ∙ ap (λ (t : Words). part t.ptr t.mask r) src ∙ row_masks_lem m.rows m.cols (λ r. present (entries m r)) r h
+
+        row : Row (present (entries m r)) m.cols (take (l - f) (drop f t.word)) (take (l - f) (drop f t.mask))
+        row = record { words = words_are; masks = masks_are }
+
+        pub packing_sides : length (take (l - f) (drop f t.mask)) ≡ length (take (l - f) (drop f t.word))
+        packing_sides = row_sides (present (entries m r)) m.cols _ _ row ok.cols_in
+
+        pub packing_fit : (k : ℕ) → get_or (take (l - f) (drop f t.mask)) k 0 < 2 ^ 64
+        packing_fit = row_fits (present (entries m r)) m.cols _ _ row ok.cols_in
 
         -- k is how many bits the row's masks have
-        module _ (k : ℕ) (ek : k ≡ set_bits (take (l - f) (drop f mask)) % 2 ^ 64) where
+        module _ (k : ℕ) (ek : k ≡ set_bits (take (l - f) (drop f t.mask)) % 2 ^ 64) where
           row_long : k ≡ length (columns_at m r)
           row_long =
-              let e : set_bits (take (l - f) (drop f mask)) ≡ length (columns_at m r) = ap set_bits masks_are ∙ row_bits (present (entries m r)) m.cols in
+              let e : set_bits (take (l - f) (drop f t.mask)) ≡ length (columns_at m r) = ap set_bits masks_are ∙ row_bits (present (entries m r)) m.cols in
               omega (arith, length-below-le (present (entries m r)) m.cols, ok.cols_in)
 
           next-count : at + k ≡ length (joined (columns_at m) (r + 1))
@@ -193,28 +195,24 @@ module _ (m : Csr) (wptr word mask : List ℕ) (src : Source m wptr word mask) (
           zeros : take (at + k - at) (drop at packed) ≡ replicate k zero64
           zeros = part_mid at (at + k) (joined (values_at m) r) (replicate k zero64) rest packed split front_long (ap (λ (i : ℕ). at + i) (sym (length-replicate k zero64)))
 
-          module _ (a b : ℕ) (ea : a ≡ get_or m.ptr r 0) (eb : b ≡ get_or m.ptr (r + 1) 0) where
-            abbrev cs : List ℕ
-            cs = take (b - a) (drop a m.col)
-
-            abbrev vs : List Float
-            vs = take (b - a) (drop a m.val)
-
+          -- cs and vs are the columns and values of the row's entries
+          module _ (cs : List ℕ) (vs : List Float) (ec : cs ≡ part m.ptr m.col r) (ev : vs ≡ part m.ptr m.val r) where
             same : zip cs vs ≡ entries m r
-            same = entries_lent m r a b ea eb
+            unfolding entries
+            same = ap₂ (λ (cs : List ℕ) (vs : List Float). zip cs vs) ec ev
 
             -- what `pack_row` requires
-            pub packing_row : ceil64 m.cols ≤ length bits₀ → ceil64 m.cols ≤ length starts₀
-                → ((m.cols ≤ 2 ^ 20) × (length vs ≡ length cs)) × ((every (λ c. ltb c m.cols) cs ≡ true) × (Row (present (zip cs vs)) m.cols (take (l - f) (drop f word)) (take (l - f) (drop f mask)) × (((ceil64 m.cols ≤ length bits) × (ceil64 m.cols ≤ length starts)) × (take (at + k - at) (drop at packed) ≡ replicate (count (present (zip cs vs)) m.cols) zero64))))
-            packing_row hb hs =
-                let lent = row_lent ok r a b m.cols ea eb refl in
-                ((ok.cols_in, lent.0), (lent.1, (row, ((omega (arith, inv.same_bits), omega (arith, inv.same_starts)), zeros ∙ ap (λ (i : ℕ). replicate i zero64) (row_long ∙ sym (ap (λ (es : List Entry). count (present es) m.cols) same))))))
-              where
-                row : Row (present (zip cs vs)) m.cols (take (l - f) (drop f word)) (take (l - f) (drop f mask))
-                row = record {
-                  words = words_are ∙ sym (ap (λ (es : List Entry). words_of (present es) m.cols) same);
-                  masks = masks_are ∙ sym (ap (λ (es : List Entry). map (mask_of (present es) m.cols) (words_of (present es) m.cols)) same);
-                }
+            pub packing_columns : (m.cols ≤ 2 ^ 20) × (every (λ c. ltb c m.cols) cs ≡ true)
+            packing_columns = (ok.cols_in, ap (every (λ c. ltb c m.cols)) ec ∙ row_columns ok r)
+
+            pub packing_row : Row (present (zip cs vs)) m.cols (take (l - f) (drop f t.word)) (take (l - f) (drop f t.mask))
+            packing_row = subst (λ (es : List Entry). Row (present es) m.cols (take (l - f) (drop f t.word)) (take (l - f) (drop f t.mask))) (sym same) row
+
+            pub packing_room : (ceil64 m.cols ≤ length bits₀) × (ceil64 m.cols ≤ length starts₀) → (ceil64 m.cols ≤ length bits) × (ceil64 m.cols ≤ length starts)
+            packing_room h = (omega (arith, inv.same_bits, h.0), omega (arith, inv.same_starts, h.1))
+
+            pub packing_zeros : take (at + k - at) (drop at packed) ≡ replicate (count (present (zip cs vs)) m.cols) zero64
+            packing_zeros = zeros ∙ ap (λ (i : ℕ). replicate i zero64) (row_long ∙ sym (ap (λ (es : List Entry). count (present es) m.cols) same))
 
             -- the row is packed to `out`, and its pointer v stored
             pub packing_more : (v : ℕ) (bits' starts' : List ℕ) (out : List Float) → v ≡ at % 2 ^ 32 → length bits' ≡ length bits → length starts' ≡ length starts → out ≡ row_values m.cols (zip cs vs)
@@ -242,5 +240,5 @@ module _ (m : Csr) (wptr word mask : List ℕ) (src : Source m wptr word mask) (
                 }
 
 -- 16,384 places are enough
-pub places_in : (m : Csr) (wptr word mask : List ℕ) → Source m wptr word mask → ceil64 m.cols ≤ length {A = ℕ} (take 16384 (replicate 16384 0))
-places_in m wptr word mask src = omega (arith, zeros_long 16384 16384 (omega arith), (valid m src.list_accepted).cols_in)
+pub places_in : (m : Csr) → csr_answer m ≡ accepted → ceil64 m.cols ≤ length {A = ℕ} (take 16384 (replicate 16384 0))
+places_in m list = omega (arith, zeros_long 16384 16384 (omega arith), (valid m list).cols_in)

@@ -3,17 +3,9 @@ use Rattle.std.specs.Prelude.{ℕ, ◌≤◌, ◌<◌, Bool, true, false, List, 
 use Rattle.hybit_core.specs.Answer.{Answer, Told, accepted, refused, plain}
 use Rattle.hybit_core.specs.Floats.{zero64}
 use Rattle.lent.specs.Lent.{padded}
-use Rattle.csr32.specs.Csr.{Csr, csr_answer, entries, present}
-use Rattle.topology.specs.Words.{topology_of}
+use Rattle.csr32.specs.Csr.{Csr}
 use Rattle.metadata_first_merge.specs.Merge.{merged_finite}
 use Rattle.metadata_first_build.specs.Pack.{store_of}
-
--- an accepted plot list and the lists of its words
-pub record Source (m : Csr) (ptr word mask : List ℕ) : Type 0 where
-  pub list_accepted : csr_answer m ≡ accepted
-  pub pointers_are : ptr ≡ (topology_of m.rows m.cols (λ r. present (entries m r))).ptr
-  pub words_are : word ≡ (topology_of m.rows m.cols (λ r. present (entries m r))).word
-  pub masks_are : mask ≡ (topology_of m.rows m.cols (λ r. present (entries m r))).mask
 
 -- the values of a plot list in two lists of nv and nx places, as r says: the lists hold them, and all are finite; then they are
 -- written there, with zeros past them

@@ -1,166 +1,147 @@
 // metadata_first.rs: `AbtmMetadataFirstMatrix::from_csr32`, packing. The Rust sorts each row's entries. Here the words are built
 // first, as in the Rust, and each entry is then added at its column's rank among the row's words: a row takes as many steps as it
 // has entries, and copies of a column are added in stored order.
+// A row's rule and that its columns are inside are asked for: a row's structs have no column count to say them with.
 #![tactic(auto)]
 
 ghost use Rattle.std.specs.Prelude.{◌≡◌, true, ◌+◌, ◌≤◌, ◌<◌, ◌^◌, ltb, length, replicate};
-ghost use mathlib.Core.List.{[], zip};
+ghost use mathlib.Core.List.{[]};
 ghost use Rattle.hybit_core.specs.Answer.{refuses, answers};
 ghost use Rattle.hybit_core.specs.Floats.{zero64};
+ghost use Rattle.hybit_core.specs.Table.{given};
 ghost use Rattle.lent.specs.Lists.{every};
 ghost use Rattle.lent.specs.Lent.{padded, built};
 ghost use Rattle.word.specs.Bits.{count, ceil64};
-ghost use Rattle.csr32.specs.Csr.{as_csr, present};
+ghost use Rattle.levels.specs.Ranks.{Ranks};
+ghost use Rattle.csr32.specs.Csr.{present};
+ghost use Rattle.csr32.specs.Matrix.{lent_csr};
+ghost use Rattle.csr32.specs.Row.{entries_of};
 ghost use Rattle.topology.specs.Words.{row_member, row_rule};
 ghost use Rattle.topology.specs.Calls.{used_of};
-ghost use Rattle.hybit_core.specs.Table.{given};
+ghost use Rattle.topology.specs.Matrix.{lent_topology};
 ghost use Rattle.topology.proofs.RowLaws.{Row};
+ghost use Rattle.topology_build.specs.Build.{topology_from};
 ghost use Rattle.metadata_first_merge.specs.Merge.{row_values, merge_answer};
 ghost use Rattle.metadata_first_build.specs.Pack.{store_of, as_store_room, pack_answer};
-ghost use Rattle.levels.specs.Ranks.{Ranks};
-ghost use Rattle.metadata_first_build.specs.Making.{Source, Valued, last_refusal};
+ghost use Rattle.metadata_first_build.specs.Making.{Valued, last_refusal};
 
+use csr32::{CheckedCsr32, Csr32Matrix, CsrRow};
 use hybit_core::HybitError;
-use topology::TopologySize;
+use topology::{AbtmTopology, AbtmTopologyRow, TopologySize};
+
+// What the values are packed from: an accepted plot list, and its words.
+#[derive(Clone, Copy)]
+struct Source<'a, 'b> {
+    csr: CheckedCsr32<'a>,
+    topology: AbtmTopology<'b>,
+    ghost built: { lent_topology topology ≡ topology_from (lent_csr csr.matrix) },
+}
 
 // Notes each word of a row: its mask, and the place of its first value in the row.
-fn place_words(ncols: usize, words: &[u32], masks: &[u64], bits: &mut [u64], starts: &mut [u32])
-    requires fact_1 { ncols ≤ 2 ^ 20 }
-    requires fact_2 { length masks.now ≡ length words.now }
-    requires fact_3 { row_rule ncols words.now masks.now ≡ true }
-    requires fact_4 { (ceil64 ncols ≤ length bits.old) × (ceil64 ncols ≤ length starts.old) }
-    ensures { Ranks (row_member words.now masks.now) ncols bits.new starts.new }
+fn place_words(ncols: usize, row: AbtmTopologyRow, bits: &mut [u64], starts: &mut [u32])
+    requires columns { ncols ≤ 2 ^ 20 }
+    requires rule { row_rule ncols row.words.now row.masks.now ≡ true }
+    requires room { (ceil64 ncols ≤ length bits.old) × (ceil64 ncols ≤ length starts.old) }
+    ensures { Ranks (row_member row.entry.words.now row.entry.masks.now) ncols bits.new starts.new }
 {
+    let words = row.words;
+    let masks = row.masks;
     let mut place: usize = 0;
-    for i in 0..words.len() {
-        let index = words[i] as usize;
+    for (i, word) in words.iter().enumerate() {
+        let index = *word as usize;
         bits[index] = masks[i];
         starts[index] = hybit_core::narrow(place);
         place += word::popcount(masks[i]);
     }
 }
 
-// Adds a row's entries, in stored order, each at its column's rank.
-fn add_entries(
-    ncols: usize,
-    cols: &[u32],
-    vals: &[f64],
-    bits: &[u64],
-    starts: &[u32],
-    out: &mut [f64],
-)
-    requires fact_1 { (ncols ≤ 2 ^ 20) × (length vals.now ≡ length cols.now) }
-    requires fact_2 { every (λ c. ltb c ncols) cols.now ≡ true }
-    requires fact_3 { Ranks (present (zip cols.now vals.now)) ncols bits.now starts.now }
-    requires fact_4 { out.old ≡ replicate (count (present (zip cols.now vals.now)) ncols) zero64 }
-    ensures { out.new ≡ row_values ncols (zip cols.now vals.now) }
+// Adds a row's entries, in stored order, each at its column's rank. The bitmap and its starts are only read here; above they are
+// written.
+fn add_entries(ncols: usize, entries: CsrRow, bits: &[u64], starts: &[u32], out: &mut [f64])
+    requires columns { (ncols ≤ 2 ^ 20) × (every (λ c. ltb c ncols) entries.cols.now ≡ true) }
+    requires ranks { Ranks (present (entries_of entries)) ncols bits.now starts.now }
+    requires zeros { out.old ≡ replicate (count (present (entries_of entries)) ncols) zero64 }
+    ensures { out.new ≡ row_values ncols (entries_of entries.entry) }
 {
-    for k in 0..cols.len() {
-        let c = cols[k] as usize;
+    for (k, col) in entries.cols.iter().enumerate() {
+        let c = *col as usize;
         let index = c / 64;
         let place = starts[index] as usize + word::ones_below(bits[index], c % 64);
-        out[place] = out[place] + vals[k];
+        out[place] = out[place] + entries.vals[k];
     }
 }
 
-// One row: its words and masks, its entries, and its part of the values, all 0.0.
+// One row: its words, its entries, and its part of the values, all 0.0.
 fn pack_row(
     ncols: usize,
-    words: &[u32],
-    masks: &[u64],
-    cols: &[u32],
-    vals: &[f64],
+    row: AbtmTopologyRow,
+    entries: CsrRow,
     bits: &mut [u64],
     starts: &mut [u32],
     out: &mut [f64],
 )
-    requires fact_1 { (ncols ≤ 2 ^ 20) × (length vals.now ≡ length cols.now) }
-    requires fact_2 { every (λ c. ltb c ncols) cols.now ≡ true }
-    requires fact_3 { Row (present (zip cols.now vals.now)) ncols words.now masks.now }
-    requires fact_4 { (ceil64 ncols ≤ length bits.old) × (ceil64 ncols ≤ length starts.old) }
-    requires fact_5 { out.old ≡ replicate (count (present (zip cols.now vals.now)) ncols) zero64 }
-    ensures { out.new ≡ row_values ncols (zip cols.now vals.now) }
+    requires columns { (ncols ≤ 2 ^ 20) × (every (λ c. ltb c ncols) entries.cols.now ≡ true) }
+    requires words { Row (present (entries_of entries)) ncols row.words.now row.masks.now }
+    requires room { (ceil64 ncols ≤ length bits.old) × (ceil64 ncols ≤ length starts.old) }
+    requires zeros { out.old ≡ replicate (count (present (entries_of entries)) ncols) zero64 }
+    ensures { out.new ≡ row_values ncols (entries_of entries.entry) }
 {
-    place_words(ncols, words, masks, bits, starts);
-    add_entries(ncols, cols, vals, bits, starts, out);
+    place_words(ncols, row, bits, starts);
+    add_entries(ncols, entries, bits, starts, out);
 }
 
 // All rows, and where each starts. The values are 0.0 before.
 fn pack_rows(
-    nrows: usize,
-    ncols: usize,
-    row_ptr: &[u32],
-    col_idx: &[u32],
-    values: &[f64],
-    row_word_ptr: &[u32],
-    word_indices: &[u32],
-    masks: &[u64],
+    source: Source,
     bits: &mut [u64],
     starts: &mut [u32],
     row_value_ptr: &mut [u32],
     packed: &mut [f64],
 )
-    requires fact_1 { Source (as_csr nrows ncols row_ptr.now col_idx.now values.now) row_word_ptr.now word_indices.now masks.now }
-    requires fact_2 { (ceil64 ncols ≤ length bits.old) × (ceil64 ncols ≤ length starts.old) }
-    requires fact_3 { length row_value_ptr.old ≡ nrows + 1 }
-    requires fact_4 { packed.old ≡ replicate (length (store_of (as_csr nrows ncols row_ptr.now col_idx.now values.now)).vals) zero64 }
-    ensures pointers { row_value_ptr.new ≡ (store_of (as_csr nrows ncols row_ptr.now col_idx.now values.now)).vptr }
-    ensures values { packed.new ≡ (store_of (as_csr nrows ncols row_ptr.now col_idx.now values.now)).vals }
+    requires room { (ceil64 source.csr.matrix.ncols ≤ length bits.old) × (ceil64 source.csr.matrix.ncols ≤ length starts.old) }
+    requires pointers { length row_value_ptr.old ≡ source.csr.matrix.nrows + 1 }
+    requires zeros { packed.old ≡ replicate (length (store_of (lent_csr source.csr.matrix)).vals) zero64 }
+    ensures pointers { row_value_ptr.new ≡ (store_of (lent_csr source.entry.csr.matrix)).vptr }
+    ensures values { packed.new ≡ (store_of (lent_csr source.entry.csr.matrix)).vals }
 {
+    let csr = source.csr;
+    let topology = source.topology;
     let mut at: usize = 0;
-    for next in 0..nrows {
-        let row = next;
+    for row in 0..csr.matrix.nrows {
         row_value_ptr[row] = hybit_core::narrow(at);
-        let start = row_ptr[row] as usize;
-        let end = row_ptr[row + 1] as usize;
-        let first = row_word_ptr[row] as usize;
-        let last = row_word_ptr[row + 1] as usize;
-        let to = at + topology::count_bits(&masks[first..last]);
+        // Two reads: FramedTopology::row would compare the places first.
+        let first = topology.row_word_ptr[row] as usize;
+        let last = topology.row_word_ptr[row + 1] as usize;
+        let row_words = AbtmTopologyRow {
+            words: &topology.word_indices[first..last],
+            masks: &topology.masks[first..last],
+        };
+        let to = at + topology::count_bits(row_words.masks);
         pack_row(
-            ncols,
-            &word_indices[first..last],
-            &masks[first..last],
-            &col_idx[start..end],
-            &values[start..end],
+            csr.matrix.ncols,
+            row_words,
+            csr.row(row),
             bits,
             starts,
             &mut packed[at..to],
         );
         at = to;
     }
-    row_value_ptr[nrows] = hybit_core::narrow(at);
+    row_value_ptr[csr.matrix.nrows] = hybit_core::narrow(at);
 }
 
 // The same through 192 KiB of local places.
-fn pack(
-    nrows: usize,
-    ncols: usize,
-    row_ptr: &[u32],
-    col_idx: &[u32],
-    values: &[f64],
-    row_word_ptr: &[u32],
-    word_indices: &[u32],
-    masks: &[u64],
-    row_value_ptr: &mut [u32],
-    packed: &mut [f64],
-)
-    requires fact_1 { Source (as_csr nrows ncols row_ptr.now col_idx.now values.now) row_word_ptr.now word_indices.now masks.now }
-    requires fact_2 { length row_value_ptr.old ≡ nrows + 1 }
-    requires fact_3 { packed.old ≡ replicate (length (store_of (as_csr nrows ncols row_ptr.now col_idx.now values.now)).vals) zero64 }
-    ensures pointers { row_value_ptr.new ≡ (store_of (as_csr nrows ncols row_ptr.now col_idx.now values.now)).vptr }
-    ensures values { packed.new ≡ (store_of (as_csr nrows ncols row_ptr.now col_idx.now values.now)).vals }
+fn pack(source: Source, row_value_ptr: &mut [u32], packed: &mut [f64])
+    requires pointers { length row_value_ptr.old ≡ source.csr.matrix.nrows + 1 }
+    requires zeros { packed.old ≡ replicate (length (store_of (lent_csr source.csr.matrix)).vals) zero64 }
+    ensures pointers { row_value_ptr.new ≡ (store_of (lent_csr source.entry.csr.matrix)).vptr }
+    ensures values { packed.new ≡ (store_of (lent_csr source.entry.csr.matrix)).vals }
 {
+    // The library has no heap: the room is that of the largest input.
     let mut bits = [0u64; 16384];
     let mut starts = [0u32; 16384];
     pack_rows(
-        nrows,
-        ncols,
-        row_ptr,
-        col_idx,
-        values,
-        row_word_ptr,
-        word_indices,
-        masks,
+        source,
         &mut bits[..16384],
         &mut starts[..16384],
         row_value_ptr,
@@ -169,49 +150,31 @@ fn pack(
 }
 
 // The values of a plot list whose words are built, where the two lists hold them; answers whether they do and all values are
-// finite.
-fn fill_values(
-    nrows: usize,
-    ncols: usize,
-    row_ptr: &[u32],
-    col_idx: &[u32],
-    values: &[f64],
-    row_word_ptr: &[u32],
-    word_indices: &[u32],
-    masks: &[u64],
-    structural_nnz: usize,
-    row_value_ptr: &mut [u32],
-    packed: &mut [f64],
-) -> bool
-    requires fact_1 { Source (as_csr nrows ncols row_ptr.now col_idx.now values.now) row_word_ptr.now word_indices.now masks.now }
-    requires fact_2 { structural_nnz ≡ length (store_of (as_csr nrows ncols row_ptr.now col_idx.now values.now)).vals }
-    ensures { Valued (as_csr nrows ncols row_ptr.now col_idx.now values.now) (length row_value_ptr.old) (length packed.old) result row_value_ptr.new packed.new }
+// finite. No refusal: 4 comes before 13, and where the lists are short only metadata_first_merge can tell.
+fn fill_values(source: Source, row_value_ptr: &mut [u32], packed: &mut [f64]) -> bool
+    ensures { Valued (lent_csr source.entry.csr.matrix) (length row_value_ptr.old) (length packed.old) result row_value_ptr.new packed.new }
 {
+    let nrows = source.csr.matrix.nrows;
+    let count = source.topology.structural_nnz;
     if row_value_ptr.len() <= nrows {
         return false;
     }
-    if packed.len() < structural_nnz {
+    if packed.len() < count {
         return false;
     }
     lent::clear_from(row_value_ptr, 0);
     lent::clear_from(packed, 0);
     pack(
-        nrows,
-        ncols,
-        row_ptr,
-        col_idx,
-        values,
-        row_word_ptr,
-        word_indices,
-        masks,
+        source,
         &mut row_value_ptr[..nrows + 1],
-        &mut packed[..structural_nnz],
+        &mut packed[..count],
     );
-    csr32::all_finite(&packed[..structural_nnz])
+    csr32::all_finite(&packed[..count])
 }
 
 // Zeros in all lists: what a refused build leaves.
-fn clear_all(
+// Lists that are written stay apart: a struct of them would have to name each in every contract.
+pub fn clear_all(
     row_word_ptr: &mut [u32],
     word_indices: &mut [u32],
     masks: &mut [u64],
@@ -230,78 +193,51 @@ fn clear_all(
 }
 
 // The refusal of a refused build: that of the checks, 4 for a merged value among them, or else 13.
-fn refusal(
-    nrows: usize,
-    ncols: usize,
-    row_ptr: &[u32],
-    col_idx: &[u32],
-    values: &[f64],
-) -> Result<TopologySize, HybitError>
-    ensures { given result ≡ refuses (last_refusal (merge_answer (as_csr nrows ncols row_ptr.now col_idx.now values.now))) }
+fn refusal(csr: Csr32Matrix) -> Result<TopologySize, HybitError>
+    ensures { given result ≡ refuses (last_refusal (merge_answer (lent_csr csr.entry))) }
 {
-    metadata_first_merge::check(nrows, ncols, row_ptr, col_idx, values)?;
+    metadata_first_merge::check(csr)?;
     Err(HybitError::ShortList)
 }
 
 // The packed store of a plot list: the used parts are nrows + 1 pointers of each kind, as many words and masks as the answer
 // says, and structural_nnz values.
+// Lists that are written stay apart: a struct of them would have to name each in every contract.
 pub fn from_csr32(
-    nrows: usize,
-    ncols: usize,
-    row_ptr: &[u32],
-    col_idx: &[u32],
-    values: &[f64],
+    csr: Csr32Matrix,
     row_word_ptr: &mut [u32],
     word_indices: &mut [u32],
     masks: &mut [u64],
     row_value_ptr: &mut [u32],
     packed: &mut [f64],
 ) -> Result<TopologySize, HybitError>
-    ensures answer { given result ≡ answers (pack_answer (as_csr nrows ncols row_ptr.now col_idx.now values.now) (as_store_room (length row_word_ptr.old) (length word_indices.old) (length masks.old) (length row_value_ptr.old) (length packed.old))) (used_of (store_of (as_csr nrows ncols row_ptr.now col_idx.now values.now)).words) }
-    ensures pointers { row_word_ptr.new ≡ built 0 (length row_word_ptr.old) (pack_answer (as_csr nrows ncols row_ptr.now col_idx.now values.now) (as_store_room (length row_word_ptr.old) (length word_indices.old) (length masks.old) (length row_value_ptr.old) (length packed.old))) (store_of (as_csr nrows ncols row_ptr.now col_idx.now values.now)).words.ptr }
-    ensures numbers { word_indices.new ≡ built 0 (length word_indices.old) (pack_answer (as_csr nrows ncols row_ptr.now col_idx.now values.now) (as_store_room (length row_word_ptr.old) (length word_indices.old) (length masks.old) (length row_value_ptr.old) (length packed.old))) (store_of (as_csr nrows ncols row_ptr.now col_idx.now values.now)).words.word }
-    ensures bits { masks.new ≡ built 0 (length masks.old) (pack_answer (as_csr nrows ncols row_ptr.now col_idx.now values.now) (as_store_room (length row_word_ptr.old) (length word_indices.old) (length masks.old) (length row_value_ptr.old) (length packed.old))) (store_of (as_csr nrows ncols row_ptr.now col_idx.now values.now)).words.mask }
-    ensures starts { row_value_ptr.new ≡ built 0 (length row_value_ptr.old) (pack_answer (as_csr nrows ncols row_ptr.now col_idx.now values.now) (as_store_room (length row_word_ptr.old) (length word_indices.old) (length masks.old) (length row_value_ptr.old) (length packed.old))) (store_of (as_csr nrows ncols row_ptr.now col_idx.now values.now)).vptr }
-    ensures values { packed.new ≡ built zero64 (length packed.old) (pack_answer (as_csr nrows ncols row_ptr.now col_idx.now values.now) (as_store_room (length row_word_ptr.old) (length word_indices.old) (length masks.old) (length row_value_ptr.old) (length packed.old))) (store_of (as_csr nrows ncols row_ptr.now col_idx.now values.now)).vals }
+    ensures answer { given result ≡ answers (pack_answer (lent_csr csr.entry) (as_store_room (length row_word_ptr.old) (length word_indices.old) (length masks.old) (length row_value_ptr.old) (length packed.old))) (used_of (store_of (lent_csr csr.entry)).words) }
+    ensures pointers { row_word_ptr.new ≡ built 0 (length row_word_ptr.old) (pack_answer (lent_csr csr.entry) (as_store_room (length row_word_ptr.old) (length word_indices.old) (length masks.old) (length row_value_ptr.old) (length packed.old))) (store_of (lent_csr csr.entry)).words.ptr }
+    ensures numbers { word_indices.new ≡ built 0 (length word_indices.old) (pack_answer (lent_csr csr.entry) (as_store_room (length row_word_ptr.old) (length word_indices.old) (length masks.old) (length row_value_ptr.old) (length packed.old))) (store_of (lent_csr csr.entry)).words.word }
+    ensures bits { masks.new ≡ built 0 (length masks.old) (pack_answer (lent_csr csr.entry) (as_store_room (length row_word_ptr.old) (length word_indices.old) (length masks.old) (length row_value_ptr.old) (length packed.old))) (store_of (lent_csr csr.entry)).words.mask }
+    ensures starts { row_value_ptr.new ≡ built 0 (length row_value_ptr.old) (pack_answer (lent_csr csr.entry) (as_store_room (length row_word_ptr.old) (length word_indices.old) (length masks.old) (length row_value_ptr.old) (length packed.old))) (store_of (lent_csr csr.entry)).vptr }
+    ensures values { packed.new ≡ built zero64 (length packed.old) (pack_answer (lent_csr csr.entry) (as_store_room (length row_word_ptr.old) (length word_indices.old) (length masks.old) (length row_value_ptr.old) (length packed.old))) (store_of (lent_csr csr.entry)).vals }
 {
-    let t = topology_build::from_csr32(
-        nrows,
-        ncols,
-        row_ptr,
-        col_idx,
-        values,
-        row_word_ptr,
-        word_indices,
-        masks,
-    );
-    let Ok(
-        TopologySize {
-            words,
-            structural_nnz,
-        },
-    ) = t
-    else {
+    let Ok(size) = topology_build::from_csr32(csr, row_word_ptr, word_indices, masks) else {
         clear_all(row_word_ptr, word_indices, masks, row_value_ptr, packed);
-        return refusal(nrows, ncols, row_ptr, col_idx, values);
+        return refusal(csr);
     };
-    if !fill_values(
-        nrows,
-        ncols,
-        row_ptr,
-        col_idx,
-        values,
-        &row_word_ptr[..nrows + 1],
-        &word_indices[..words],
-        &masks[..words],
-        structural_nnz,
-        row_value_ptr,
-        packed,
-    ) {
+    let topology = AbtmTopology {
+        nrows: csr.nrows,
+        ncols: csr.ncols,
+        row_word_ptr: &row_word_ptr[..csr.nrows + 1],
+        word_indices: &word_indices[..size.words],
+        masks: &masks[..size.words],
+        structural_nnz: size.structural_nnz,
+    };
+    // topology_build has checked it: checked() would read the list once more.
+    let source = Source {
+        csr: CheckedCsr32 { matrix: csr },
+        topology,
+    };
+    if !fill_values(source, row_value_ptr, packed) {
         clear_all(row_word_ptr, word_indices, masks, row_value_ptr, packed);
-        return refusal(nrows, ncols, row_ptr, col_idx, values);
+        return refusal(csr);
     }
-    Ok(TopologySize {
-        words: words,
-        structural_nnz: structural_nnz,
-    })
+    Ok(size)
 }

@@ -3,7 +3,7 @@ use Rattle.std.specs.Prelude.{Result, Ok}
 use Rattle.hybit_core.specs.declared.HybitError.{HybitError}
 use mathlib.Core.Bool.{Bool, true, ◌&&◌}
 use mathlib.Core.List.{List, ◌++◌}
-use mathlib.Core.Path.{◌≡◌, refl, sym, ap, ap₂, ◌∙◌}
+use mathlib.Core.Path.{◌≡◌, refl, sym, ap, ap₂, subst, ◌∙◌}
 use Prim.Native.Nat.{ℕ, ◌+◌, ◌%◌, ◌^◌, ◌≤◌, ◌<◌}
 use native.Mathlib.Omega.{arith}
 use lib.Dec.{leb, ltb}
@@ -24,11 +24,11 @@ use Rattle.word.proofs.BelowLaws.{rank_lt, length-below-le}
 use Rattle.mask.specs.Mask.{Mask, as_mask, active, mask_rules, mask_answer}
 use Rattle.csr32.specs.Csr.{at}
 use Rattle.csr32.proofs.FrameLaws.{RowIn, row_left, row_right}
-use Rattle.topology.specs.Words.{as_words, member, row_member}
+use Rattle.topology.specs.Words.{member, row_member}
 use Rattle.topology.proofs.TopologyLaws as topology
 use Rattle.topology.proofs.CallLaws.{RowOk, sides_lent, rule_lent}
 use Rattle.metadata_first.specs.declared.AbtmRowDot.{AbtmRowDot}
-use Rattle.metadata_first.specs.Store.{Store, as_store, value_at, store_sizes, store_faults, store_answer}
+use Rattle.metadata_first.specs.Store.{Store, value_at, store_sizes, store_faults, store_answer}
 use Rattle.metadata_first.specs.Dot.{dot_of, dot_on, operands_answer, dot_answer}
 use Rattle.metadata_first.proofs.DotLaws.{dot_cong}
 use Rattle.metadata_first.proofs.CallLaws.{Stored, stored, row_values_lem, value_in_row}
@@ -65,67 +65,72 @@ operands s a x e =
 
 -- ---- a row of them
 
-module _ (n m : ℕ) (ps ws ms : List ℕ) (t : ℕ) (vp : List ℕ) (vs : List Float) (len : ℕ) (bits : List ℕ) (x : List Float) (e : operands_answer (as_store n m ps ws ms t vp vs) (as_mask len bits) x ≡ accepted) where
-  known : Operands (as_store n m ps ws ms t vp vs) (as_mask len bits) x
-  known = operands (as_store n m ps ws ms t vp vs) (as_mask len bits) x e
+module _ (s : Store) (a : Mask) (x : List Float) (e : operands_answer s a x ≡ accepted) where
+  known : Operands s a x
+  known = operands s a x e
 
-  words_known : topology.Accepted (as_words n m ps ws ms t)
+  words_known : topology.Accepted s.words
   words_known = known.store.words_facts
 
-  pub rows_few : n ≤ 2 ^ 20
+  pub rows_few : s.words.rows ≤ 2 ^ 20
   rows_few = words_known.rows_in
 
-  pub columns_few : m ≤ 2 ^ 20
+  pub columns_few : s.words.cols ≤ 2 ^ 20
   columns_few = words_known.cols_in
 
-  module _ (r : ℕ) (h : r < n) where
-    pub row_words_lem : RowIn ps (length ws) r
-    row_words_lem = row_left n ps (length ws) (length ms) words_known.lists r h
+  module _ (r : ℕ) (h : r < s.words.rows) where
+    pub row_words_lem : RowIn s.words.ptr (length s.words.word) r
+    row_words_lem = row_left s.words.rows s.words.ptr (length s.words.word) (length s.words.mask) words_known.lists r h
 
-    pub row_masks_lem : RowIn ps (length ms) r
-    row_masks_lem = row_right n ps (length ws) (length ms) words_known.lists r h
+    pub row_masks_lem : RowIn s.words.ptr (length s.words.mask) r
+    row_masks_lem = row_right s.words.rows s.words.ptr (length s.words.word) (length s.words.mask) words_known.lists r h
 
-    pub row_vals : RowIn vp (length vs) r
-    row_vals = row_values_lem (as_store n m ps ws ms t vp vs) known.store r h
+    pub row_vals : RowIn s.vptr (length s.vals) r
+    row_vals = row_values_lem s known.store r h
 
-    ok : RowOk (as_words n m ps ws ms t) r
+    ok : RowOk s.words r
     ok = record { facts = words_known; here = h; left = row_words_lem; right = row_masks_lem }
 
     -- the row's lent parts
-    module _ (us ns : List ℕ) (ys : List Float) (eu : us ≡ part ps ws r) (en : ns ≡ part ps ms r) (ey : ys ≡ part vp vs r) where
-      member_is : row_member us ns ≡ member (as_words n m ps ws ms t) r
+    module _ (us ns : List ℕ) (ys : List Float) (eu : us ≡ part s.words.ptr s.words.word r) (en : ns ≡ part s.words.ptr s.words.mask r) (ey : ys ≡ part s.vptr s.vals r) where
+      member_is : row_member us ns ≡ member s.words r
       unfolding member
       member_is = ap₂ (λ (a b : List ℕ). row_member a b) eu en
 
-      count_is : length ys ≡ count (member (as_words n m ps ws ms t) r) m
+      count_is : length ys ≡ count (member s.words r) s.words.cols
       count_is = ap length ey ∙ known.store.row_counts r h
 
-      pub row_ready : RowReady m us ns ys bits x
-      row_ready = record {
+      ready : RowReady s.words.cols us ns ys a.bits x
+      ready = record {
         columns_in = words_known.cols_in;
-        sides = sides_lent (as_words n m ps ws ms t) r ok us ns eu en;
-        rule = rule_lent (as_words n m ps ws ms t) r ok us ns eu en;
-        values_are = count_is ∙ ap (λ (p : ℕ → Bool). count p m) (sym member_is);
-        mask_valid = ap (λ (k : ℕ). mask_answer (as_mask k bits)) (sym known.mask_size) ∙ known.mask;
+        sides = sides_lent s.words r ok us ns eu en;
+        rule = rule_lent s.words r ok us ns eu en;
+        values_are = count_is ∙ ap (λ (p : ℕ → Bool). count p s.words.cols) (sym member_is);
+        mask_valid = ap (λ (k : ℕ). mask_answer (as_mask k a.bits)) (sym known.mask_size) ∙ known.mask;
         vector_long = known.vector;
       }
 
-      -- a value of the row's part is the store's
-      value_is : (c : ℕ) → c < m → member (as_words n m ps ws ms t) r c ≡ true → get_or ys (count (row_member us ns) c) nan ≡ value_at (as_store n m ps ws ms t vp vs) r c
-      value_is c l b =
-          let p : ℕ → Bool = member (as_words n m ps ws ms t) r in
-          let z : count (member (as_words n m ps ws ms t) r) c < length (part vp vs r) = omega (arith, rank_lt (member (as_words n m ps ws ms t) r) c m l b, known.store.row_counts r h) in
-          ap₂ (λ (k : List Float) (q : ℕ → Bool). get_or k (count q c) nan) ey member_is ∙ sym (value_in_row (as_store n m ps ws ms t vp vs) known.store r h c z)
+      -- the vector is as long as there are columns
+      pub row_ready : RowReady (length x) us ns ys a.bits x
+      row_ready = subst (λ (n : ℕ). RowReady n us ns ys a.bits x) (sym known.vector) ready
 
-      pub row_dot_is : (d : AbtmRowDot) → d ≡ row_dot m us ns ys bits x → d ≡ dot_on (as_store n m ps ws ms t vp vs) (as_mask len bits) x r
+      -- a value of the row's part is the store's
+      value_is : (c : ℕ) → c < s.words.cols → member s.words r c ≡ true → get_or ys (count (row_member us ns) c) nan ≡ value_at s r c
+      value_is c l b =
+          let p : ℕ → Bool = member s.words r in
+          let z : count p c < length (part s.vptr s.vals r) = omega (arith, rank_lt p c s.words.cols l b, known.store.row_counts r h) in
+          ap₂ (λ (k : List Float) (q : ℕ → Bool). get_or k (count q c) nan) ey member_is ∙ sym (value_in_row s known.store r h c z)
+
+      pub row_dot_is : (d : AbtmRowDot) → d ≡ row_dot (length x) us ns ys a.bits x → d ≡ dot_on s a x r
       unfolding dot_on
       row_dot_is d q =
-          let p : ℕ → Bool = member (as_words n m ps ws ms t) r in
-          let a : ℕ → Bool = active (as_mask len bits) in
-          q ∙ ap (λ (k : ℕ). dot_of m (row_member us ns) (λ c. get_or ys (count (row_member us ns) c) nan) (active (as_mask k bits)) (at x)) (sym known.mask_size)
-          ∙ dot_cong m (row_member us ns) p a a (λ c. get_or ys (count (row_member us ns) c) nan) (value_at (as_store n m ps ws ms t vp vs) r) (at x) (at x)
+          let p : ℕ → Bool = member s.words r in
+          let b : ℕ → Bool = active a in
+          q ∙ ap (λ (k : ℕ). row_dot k us ns ys a.bits x) known.vector
+          ∙ ap (λ (k : ℕ). dot_of s.words.cols (row_member us ns) (λ c. get_or ys (count (row_member us ns) c) nan) (active (as_mask k a.bits)) (at x)) (sym known.mask_size)
+          ∙ dot_cong s.words.cols (row_member us ns) p b b (λ c. get_or ys (count (row_member us ns) c) nan) (value_at s r) (at x) (at x)
           (λ c l. ap (λ (f : ℕ → Bool). f c) member_is) (λ c l. refl)
-          (λ c l b. value_is c l (ap (λ (f : ℕ → Bool). f c) (sym member_is) ∙ and_left (row_member us ns c) (a c) b)) (λ c l b. refl)
+          (λ c l e. value_is c l (ap (λ (f : ℕ → Bool). f c) (sym member_is) ∙ and_left (row_member us ns c) (b c) e)) (λ c l e. refl)
 
 -- ---- every row
 

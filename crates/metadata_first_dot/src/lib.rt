@@ -1,5 +1,6 @@
 // metadata_first.rs: `sparse_dot_row`, the pruned dot of a row, and the same for every row in one call. Once the operands are
 // checked both run one row kernel: it meets each word of the row with the mask first and reads values only where they overlap.
+// The two lists that are written stay apart: a struct of them would have to name each in every contract.
 #![tactic(auto)]
 
 ghost use Rattle.std.specs.Prelude.{◌≡◌, true, ◌≤◌, ◌<◌, ◌^◌, length};
@@ -7,15 +8,25 @@ ghost use Rattle.hybit_core.specs.Answer.{accepted};
 ghost use Rattle.hybit_core.specs.Floats.{zero64};
 ghost use Rattle.hybit_core.specs.Table.{told, given};
 ghost use Rattle.lent.specs.Lent.{built};
-ghost use Rattle.mask.specs.Mask.{as_mask};
-ghost use Rattle.metadata_first.specs.Store.{as_store};
+ghost use Rattle.mask.specs.Dof.{lent_mask};
+ghost use Rattle.metadata_first.specs.Matrix.{lent_store};
 ghost use Rattle.metadata_first.specs.Dot.{dot_on, operands_answer, sparse_dot_row};
 ghost use Rattle.metadata_first_operands.specs.Checks.{rows_answer};
 ghost use Rattle.metadata_first_dot.specs.Rows.{row_sums, row_counts};
 ghost use Rattle.metadata_first_dot.specs.Walk.{word_sum, word_inside, RowReady, row_dot};
 
 use hybit_core::HybitError;
-use metadata_first::AbtmRowDot;
+use mask::DofMask;
+use metadata_first::{AbtmMetadataFirstMatrix, AbtmRowDot};
+
+// What every dot reads: the operands, accepted.
+#[derive(Clone, Copy)]
+struct Operands<'a> {
+    packed: AbtmMetadataFirstMatrix<'a>,
+    mask: DofMask<'a>,
+    x: &'a [f64],
+    ghost valid: { operands_answer (lent_store packed) (lent_mask mask) x.now ≡ accepted },
+}
 
 // The products of one word added to `start`, ascending: of its mask, the bits that are active. A value stands at the rank of
 // its column among the present ones, not among the active ones.
@@ -28,13 +39,13 @@ fn sum_word(
     x: &[f64],
     start: f64,
 ) -> f64
-    requires fact_1 { (place ≤ 2 ^ 20) × (base ≤ 2 ^ 20) }
-    requires fact_2 { word_inside (length values.now) (length x.now) mask bits place base ≡ true }
+    requires small { (place ≤ 2 ^ 20) × (base ≤ 2 ^ 20) }
+    requires inside { word_inside (length values.now) (length x.now) mask bits place base ≡ true }
     ensures { result ≡ word_sum values.now x.now mask bits place base start }
 {
     let mut sum = start;
     let mut rest = bits;
-    // A walk over the set bits of a word: no index is counted.
+    // A walk over the set bits: as an iterator of our own it would have to say which members are left, and be no plainer.
     while rest != 0 {
         let bit = word::lowest(rest);
         let ordinal = place + word::ones_below(mask, bit);
@@ -44,24 +55,18 @@ fn sum_word(
     sum
 }
 
-// The row kernel: a row's words and masks, its values, the words of the mask, the vector. A word without a product is only counted.
-fn dot_row(
-    ncols: usize,
-    words: &[u32],
-    masks: &[u64],
-    values: &[f64],
-    active: &[u64],
-    x: &[f64],
-) -> AbtmRowDot
-    requires { RowReady ncols words.now masks.now values.now active.now x.now }
-    ensures { result ≡ row_dot ncols words.now masks.now values.now active.now x.now }
+// The row kernel: a row's words and masks, its values, the words of the mask, the vector. A word without a product is only
+// counted.
+fn dot_row(words: &[u32], masks: &[u64], values: &[f64], active: &[u64], x: &[f64]) -> AbtmRowDot
+    requires { RowReady (length x.now) words.now masks.now values.now active.now x.now }
+    ensures { result ≡ row_dot (length x.now) words.now masks.now values.now active.now x.now }
 {
     let mut sum: f64 = 0.0;
     let mut candidate: usize = 0;
     let mut executed: usize = 0;
     let mut active_words: usize = 0;
-    for i in 0..words.len() {
-        let index = words[i] as usize;
+    for (i, word) in words.iter().enumerate() {
+        let index = *word as usize;
         let bits = word::intersection(masks[i], active[index]);
         if bits == 0 {
             candidate += word::popcount(masks[i]);
@@ -73,130 +78,55 @@ fn dot_row(
         active_words += 1;
     }
     AbtmRowDot {
-        sum: sum,
+        sum,
         candidate_products: candidate,
         executed_products: executed,
         skipped_products: candidate - executed,
         topology_words: words.len(),
-        active_words: active_words,
+        active_words,
     }
 }
 
-// The dot of one row, the operands being checked.
-fn row_dot(
-    nrows: usize,
-    ncols: usize,
-    row_word_ptr: &[u32],
-    word_indices: &[u32],
-    masks: &[u64],
-    structural_nnz: usize,
-    row_value_ptr: &[u32],
-    values: &[f64],
-    mask_len: usize,
-    mask: &[u64],
-    x: &[f64],
-    row: usize,
-) -> AbtmRowDot
-    requires fact_1 { operands_answer (as_store nrows ncols row_word_ptr.now word_indices.now masks.now structural_nnz row_value_ptr.now values.now) (as_mask mask_len mask.now) x.now ≡ accepted }
-    requires fact_2 { row < nrows }
-    ensures { result ≡ dot_on (as_store nrows ncols row_word_ptr.now word_indices.now masks.now structural_nnz row_value_ptr.now values.now) (as_mask mask_len mask.now) x.now row }
+// The dot of one row.
+fn row_dot(operands: Operands, row: usize) -> AbtmRowDot
+    requires { row < operands.packed.topology.nrows }
+    ensures { result ≡ dot_on (lent_store operands.entry.packed) (lent_mask operands.entry.mask) operands.entry.x.now row }
 {
-    let start = row_word_ptr[row] as usize;
-    let end = row_word_ptr[row + 1] as usize;
-    let first = row_value_ptr[row] as usize;
-    let last = row_value_ptr[row + 1] as usize;
+    let packed = operands.packed;
+    let start = packed.topology.row_word_ptr[row] as usize;
+    let end = packed.topology.row_word_ptr[row + 1] as usize;
+    let first = packed.row_value_ptr[row] as usize;
+    let last = packed.row_value_ptr[row + 1] as usize;
     dot_row(
-        ncols,
-        &word_indices[start..end],
-        &masks[start..end],
-        &values[first..last],
-        mask,
-        x,
+        &packed.topology.word_indices[start..end],
+        &packed.topology.masks[start..end],
+        &packed.values[first..last],
+        operands.mask.words,
+        operands.x,
     )
 }
 
 // The dot of a row with the vector x over the active columns of a mask.
 pub fn sparse_dot_row(
-    nrows: usize,
-    ncols: usize,
-    row_word_ptr: &[u32],
-    word_indices: &[u32],
-    masks: &[u64],
-    structural_nnz: usize,
-    row_value_ptr: &[u32],
-    values: &[f64],
+    packed: AbtmMetadataFirstMatrix,
     row: usize,
-    mask_len: usize,
-    mask: &[u64],
+    mask: DofMask,
     x: &[f64],
 ) -> Result<AbtmRowDot, HybitError>
-    ensures { given result ≡ sparse_dot_row (as_store nrows ncols row_word_ptr.now word_indices.now masks.now structural_nnz row_value_ptr.now values.now) (as_mask mask_len mask.now) x.now row }
+    ensures { given result ≡ sparse_dot_row (lent_store packed.entry) (lent_mask mask.entry) x.now row }
 {
-    metadata_first_operands::examine_row(
-        nrows,
-        ncols,
-        row_word_ptr,
-        word_indices,
-        masks,
-        structural_nnz,
-        row_value_ptr,
-        values,
-        mask_len,
-        mask,
-        x,
-        row,
-    )?;
-    Ok(row_dot(
-        nrows,
-        ncols,
-        row_word_ptr,
-        word_indices,
-        masks,
-        structural_nnz,
-        row_value_ptr,
-        values,
-        mask_len,
-        mask,
-        x,
-        row,
-    ))
+    metadata_first_operands::examine_row(packed, mask, x, row)?;
+    let operands = Operands { packed, mask, x };
+    Ok(row_dot(operands, row))
 }
 
-fn fill_rows(
-    nrows: usize,
-    ncols: usize,
-    row_word_ptr: &[u32],
-    word_indices: &[u32],
-    masks: &[u64],
-    structural_nnz: usize,
-    row_value_ptr: &[u32],
-    values: &[f64],
-    mask_len: usize,
-    mask: &[u64],
-    x: &[f64],
-    sums: &mut [f64],
-    executed: &mut [u32],
-)
-    requires fact_1 { operands_answer (as_store nrows ncols row_word_ptr.now word_indices.now masks.now structural_nnz row_value_ptr.now values.now) (as_mask mask_len mask.now) x.now ≡ accepted }
-    requires fact_2 { (length sums.old ≡ nrows) × (length executed.old ≡ nrows) }
-    ensures sums { sums.new ≡ row_sums (as_store nrows ncols row_word_ptr.now word_indices.now masks.now structural_nnz row_value_ptr.now values.now) (as_mask mask_len mask.now) x.now }
-    ensures counts { executed.new ≡ row_counts (as_store nrows ncols row_word_ptr.now word_indices.now masks.now structural_nnz row_value_ptr.now values.now) (as_mask mask_len mask.now) x.now }
+fn fill_rows(operands: Operands, sums: &mut [f64], executed: &mut [u32])
+    requires { (length sums.old ≡ operands.packed.topology.nrows) × (length executed.old ≡ operands.packed.topology.nrows) }
+    ensures sums { sums.new ≡ row_sums (lent_store operands.entry.packed) (lent_mask operands.entry.mask) operands.entry.x.now }
+    ensures counts { executed.new ≡ row_counts (lent_store operands.entry.packed) (lent_mask operands.entry.mask) operands.entry.x.now }
 {
-    for row in 0..nrows {
-        let d = row_dot(
-            nrows,
-            ncols,
-            row_word_ptr,
-            word_indices,
-            masks,
-            structural_nnz,
-            row_value_ptr,
-            values,
-            mask_len,
-            mask,
-            x,
-            row,
-        );
+    for row in 0..operands.packed.topology.nrows {
+        let d = row_dot(operands, row);
         sums[row] = d.sum;
         executed[row] = hybit_core::narrow(d.executed_products);
     }
@@ -205,60 +135,29 @@ fn fill_rows(
 // The dot of every row, the operands checked once: row r's total in place r of `sums`, and how many products it has in place r
 // of `executed`, which 2^20 columns keep in 32 bits.
 pub fn sparse_dot_rows(
-    nrows: usize,
-    ncols: usize,
-    row_word_ptr: &[u32],
-    word_indices: &[u32],
-    masks: &[u64],
-    structural_nnz: usize,
-    row_value_ptr: &[u32],
-    values: &[f64],
-    mask_len: usize,
-    mask: &[u64],
+    packed: AbtmMetadataFirstMatrix,
+    mask: DofMask,
     x: &[f64],
     sums: &mut [f64],
     executed: &mut [u32],
 ) -> Result<(), HybitError>
-    ensures answer { told result ≡ rows_answer (as_store nrows ncols row_word_ptr.now word_indices.now masks.now structural_nnz row_value_ptr.now values.now) (as_mask mask_len mask.now) x.now (length sums.old) (length executed.old) }
-    ensures sums { sums.new ≡ built zero64 (length sums.old) (rows_answer (as_store nrows ncols row_word_ptr.now word_indices.now masks.now structural_nnz row_value_ptr.now values.now) (as_mask mask_len mask.now) x.now (length sums.old) (length executed.old)) (row_sums (as_store nrows ncols row_word_ptr.now word_indices.now masks.now structural_nnz row_value_ptr.now values.now) (as_mask mask_len mask.now) x.now) }
-    ensures counts { executed.new ≡ built 0 (length executed.old) (rows_answer (as_store nrows ncols row_word_ptr.now word_indices.now masks.now structural_nnz row_value_ptr.now values.now) (as_mask mask_len mask.now) x.now (length sums.old) (length executed.old)) (row_counts (as_store nrows ncols row_word_ptr.now word_indices.now masks.now structural_nnz row_value_ptr.now values.now) (as_mask mask_len mask.now) x.now) }
+    ensures answer { told result ≡ rows_answer (lent_store packed.entry) (lent_mask mask.entry) x.now (length sums.old) (length executed.old) }
+    ensures sums { sums.new ≡ built zero64 (length sums.old) (rows_answer (lent_store packed.entry) (lent_mask mask.entry) x.now (length sums.old) (length executed.old)) (row_sums (lent_store packed.entry) (lent_mask mask.entry) x.now) }
+    ensures counts { executed.new ≡ built 0 (length executed.old) (rows_answer (lent_store packed.entry) (lent_mask mask.entry) x.now (length sums.old) (length executed.old)) (row_counts (lent_store packed.entry) (lent_mask mask.entry) x.now) }
 {
-    let v = metadata_first_operands::examine_rows(
-        nrows,
-        ncols,
-        row_word_ptr,
-        word_indices,
-        masks,
-        structural_nnz,
-        row_value_ptr,
-        values,
-        mask_len,
-        mask,
-        x,
-        sums.len(),
-        executed.len(),
-    );
+    let v = metadata_first_operands::examine_rows(packed, mask, x, sums.len(), executed.len());
     if let Err(e) = v {
         lent::clear_from(sums, 0);
         lent::clear_from(executed, 0);
         return Err(e);
     }
+    let operands = Operands { packed, mask, x };
     fill_rows(
-        nrows,
-        ncols,
-        row_word_ptr,
-        word_indices,
-        masks,
-        structural_nnz,
-        row_value_ptr,
-        values,
-        mask_len,
-        mask,
-        x,
-        &mut sums[..nrows],
-        &mut executed[..nrows],
+        operands,
+        &mut sums[..packed.topology.nrows],
+        &mut executed[..packed.topology.nrows],
     );
-    lent::clear_from(sums, nrows);
-    lent::clear_from(executed, nrows);
+    lent::clear_from(sums, packed.topology.nrows);
+    lent::clear_from(executed, packed.topology.nrows);
     Ok(())
 }

@@ -1,23 +1,23 @@
 -- Laws of merged values: one entry more, columns without an entry, and finite merged values by columns and row after row. Assumes nothing.
 use mathlib.Core.Bool.{Bool, true, false, not}
 use mathlib.Core.List.{List, ◌++◌, zip}
-use mathlib.Core.Path.{◌≡◌, refl, sym, ap, ◌∙◌}
-use Prim.Native.Nat.{ℕ, ◌+◌, ◌-◌, ◌≤◌, ◌<◌}
+use mathlib.Core.Path.{◌≡◌, refl, sym, ap, ap₂, ◌∙◌}
+use Prim.Native.Nat.{ℕ, ◌+◌, ◌≤◌, ◌<◌}
 use native.Mathlib.Numerals.{add-one}
 use native.Mathlib.Omega.{arith}
 use lib.Dec.{ltb}
-use lib.ListN.{length, get_or, take, drop}
+use lib.ListN.{length}
 use lib.Ieee.{Float}
 use borrow.Author.Tests.{ltb-true}
 use Rattle.hybit_core.specs.Answer.{accepted}
 use Rattle.hybit_core.specs.Floats.{finite}
 use Rattle.hybit_core.proofs.BoolLaws.{same_test, not-both, flag_on, flag_off}
-use Rattle.lent.specs.Lists.{joined, every}
+use Rattle.lent.specs.Lists.{joined, part, every}
 use Rattle.lent.proofs.ListLaws.{every_append, every_front, every_back, every_map, joined_at, every-at, every-listed}
 use Rattle.word.specs.Bits.{below}
 use Rattle.word.proofs.BitLaws.{every-below, every-below-at}
-use Rattle.csr32.specs.Csr.{Csr, Entry, csr_answer, entries, present, merged}
-use Rattle.csr32.proofs.CsrLaws.{present_columns, entries_lent}
+use Rattle.csr32.specs.Csr.{Csr, csr_answer, entries, present, merged}
+use Rattle.csr32.proofs.CsrLaws.{present_columns}
 use Rattle.metadata_first_merge.specs.Merge.{row_values, merged_finite}
 
 -- accepted for packing, apart from the lent lists
@@ -61,10 +61,11 @@ module _ (m : Csr) where
       let w = joined_at f r m.rows h in
       every_back finite (joined f r) (f r) (every_front finite (joined f r ++ f r) w.0 (sym (ap (every finite) w.1) ∙ e))
 
-  -- t is the answer for row r, as the code lends it: from a, its pointer, up to b, the next one
-  module _ (r a b : ℕ) (p : a ≡ get_or m.ptr r 0) (q : b ≡ get_or m.ptr (r + 1) 0) (t : Bool) (e : t ≡ every finite (row_values m.cols (zip (take (b - a) (drop a m.col)) (take (b - a) (drop a m.val))))) where
+  -- t is the answer for row r, whose columns and values are cs and vs
+  module _ (r : ℕ) (cs : List ℕ) (vs : List Float) (p : cs ≡ part m.ptr m.col r) (q : vs ≡ part m.ptr m.val r) (t : Bool) (e : t ≡ every finite (row_values m.cols (zip cs vs))) where
     row_answer_lem : t ≡ every finite (row_values m.cols (entries m r))
-    row_answer_lem = e ∙ ap (λ (es : List Entry). every finite (row_values m.cols es)) (entries_lent m r a b p q)
+    unfolding entries
+    row_answer_lem = e ∙ ap₂ (λ (cs : List ℕ) (vs : List Float). every finite (row_values m.cols (zip cs vs))) p q
 
     pub rows_more : RowsFinite m r → not t ≡ false → RowsFinite m (r + 1)
     unfolding joined

@@ -1,54 +1,41 @@
 // metadata_first.rs: what the pruned dots ask of their operands before they read a row.
+// Three parameters, as document 01's calls have them: metadata_first_dot makes them one once they are accepted.
 #![tactic(auto)]
 
 ghost use Rattle.std.specs.Prelude.{◌≡◌};
 ghost use Rattle.hybit_core.specs.Table.{told};
-ghost use Rattle.mask.specs.Mask.{as_mask};
-ghost use Rattle.metadata_first.specs.Store.{as_store};
+ghost use Rattle.mask.specs.Dof.{lent_mask};
+ghost use Rattle.metadata_first.specs.Matrix.{lent_store};
 ghost use Rattle.metadata_first.specs.Dot.{operands_answer, dot_answer};
 ghost use Rattle.metadata_first_operands.specs.Checks.{rows_answer};
 
 use hybit_core::HybitError;
+use mask::DofMask;
+use metadata_first::AbtmMetadataFirstMatrix;
 
-// The checks that every dot makes.
+// The checks that every dot makes. Other calls have records of other types, and sizes of their own.
 pub fn examine_operands(
-    nrows: usize,
-    ncols: usize,
-    row_word_ptr: &[u32],
-    word_indices: &[u32],
-    masks: &[u64],
-    structural_nnz: usize,
-    row_value_ptr: &[u32],
-    values: &[f64],
-    mask_len: usize,
-    mask: &[u64],
+    packed: AbtmMetadataFirstMatrix,
+    mask: DofMask,
     x: &[f64],
 ) -> Result<(), HybitError>
-    ensures { told result ≡ operands_answer (as_store nrows ncols row_word_ptr.now word_indices.now masks.now structural_nnz row_value_ptr.now values.now) (as_mask mask_len mask.now) x.now }
+    ensures { told result ≡ operands_answer (lent_store packed.entry) (lent_mask mask.entry) x.now }
 {
-    if !hybit_core::dimension_fits(mask_len) {
+    if !hybit_core::dimension_fits(mask.len) {
         return Err(HybitError::SizeOverflow);
     }
-    metadata_first::check(
-        nrows,
-        ncols,
-        row_word_ptr,
-        word_indices,
-        masks,
-        structural_nnz,
-        row_value_ptr,
-        values,
-    )?;
-    mask::check(mask_len, mask)?;
-    if mask_len != ncols {
+    packed.check()?;
+    mask.check()?;
+    // By hand and by no helper: the fields say which of the two lengths is expected.
+    if mask.len != packed.topology.ncols {
         return Err(HybitError::DimensionMismatch {
-            expected: ncols,
-            actual: mask_len,
+            expected: packed.topology.ncols,
+            actual: mask.len,
         });
     }
-    if x.len() != ncols {
+    if x.len() != packed.topology.ncols {
         return Err(HybitError::DimensionMismatch {
-            expected: ncols,
+            expected: packed.topology.ncols,
             actual: x.len(),
         });
     }
@@ -57,75 +44,35 @@ pub fn examine_operands(
 
 // Those of a row's dot.
 pub fn examine_row(
-    nrows: usize,
-    ncols: usize,
-    row_word_ptr: &[u32],
-    word_indices: &[u32],
-    masks: &[u64],
-    structural_nnz: usize,
-    row_value_ptr: &[u32],
-    values: &[f64],
-    mask_len: usize,
-    mask: &[u64],
+    packed: AbtmMetadataFirstMatrix,
+    mask: DofMask,
     x: &[f64],
     row: usize,
 ) -> Result<(), HybitError>
-    ensures { told result ≡ dot_answer (as_store nrows ncols row_word_ptr.now word_indices.now masks.now structural_nnz row_value_ptr.now values.now) (as_mask mask_len mask.now) x.now row }
+    ensures { told result ≡ dot_answer (lent_store packed.entry) (lent_mask mask.entry) x.now row }
 {
-    examine_operands(
-        nrows,
-        ncols,
-        row_word_ptr,
-        word_indices,
-        masks,
-        structural_nnz,
-        row_value_ptr,
-        values,
-        mask_len,
-        mask,
-        x,
-    )?;
-    if row >= nrows {
+    examine_operands(packed, mask, x)?;
+    if row >= packed.topology.nrows {
         return Err(HybitError::NoSuchPlace);
     }
     Ok(())
 }
 
-// Those of every row's dot, into lists of so many places.
+// Those of every row's dot, into lists of so many places. Two numbers and no struct: this is the one test of them.
 pub fn examine_rows(
-    nrows: usize,
-    ncols: usize,
-    row_word_ptr: &[u32],
-    word_indices: &[u32],
-    masks: &[u64],
-    structural_nnz: usize,
-    row_value_ptr: &[u32],
-    values: &[f64],
-    mask_len: usize,
-    mask: &[u64],
+    packed: AbtmMetadataFirstMatrix,
+    mask: DofMask,
     x: &[f64],
     sums: usize,
     counts: usize,
 ) -> Result<(), HybitError>
-    ensures { told result ≡ rows_answer (as_store nrows ncols row_word_ptr.now word_indices.now masks.now structural_nnz row_value_ptr.now values.now) (as_mask mask_len mask.now) x.now sums counts }
+    ensures { told result ≡ rows_answer (lent_store packed.entry) (lent_mask mask.entry) x.now sums counts }
 {
-    examine_operands(
-        nrows,
-        ncols,
-        row_word_ptr,
-        word_indices,
-        masks,
-        structural_nnz,
-        row_value_ptr,
-        values,
-        mask_len,
-        mask,
-        x,
-    )?;
-    if sums < nrows {
+    examine_operands(packed, mask, x)?;
+    if sums < packed.topology.nrows {
         return Err(HybitError::ShortList);
     }
-    if counts < nrows {
+    if counts < packed.topology.nrows {
         return Err(HybitError::ShortList);
     }
     Ok(())

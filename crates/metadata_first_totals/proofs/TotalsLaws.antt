@@ -1,13 +1,13 @@
 -- The totals of a list with one report more: sums only grow, so a refusal stays. Assumes nothing.
 use Rattle.std.specs.Prelude.{Result, Ok, Err}
 use mathlib.Core.Bool.{Bool, true, false, false≢true}
-use mathlib.Core.List.{List, [], ◌∷◌, ◌++◌, foldl-append}
+use mathlib.Core.List.{List, [], ◌∷◌, ◌++◌, append-nil, append_assoc, foldl-append}
 use mathlib.Core.Path.{◌≡◌, refl, sym, ap, ap₂, ◌∙◌}
 use Prim.Native.Nat.{ℕ, ◌+◌, ◌≤◌, ◌<◌, ◌^◌}
 use native.Mathlib.Numerals.{add-one}
 use native.Mathlib.Omega.{arith}
 use lib.Ieee.{nan}
-use lib.ListN.{length, get_or, take}
+use lib.ListN.{length, get_or, take, drop, take-append-drop}
 use lib.Seq.{take-suc, take_all}
 use borrow.Author.Tests.{lt-ltb}
 use Rattle.hybit_core.specs.Answer.{gives, refuses, demand, answers}
@@ -46,31 +46,23 @@ over_more : (ds : List AbtmRowDot) (d : AbtmRowDot)
 unfolding totals_over
 over_more ds d = ap (λ (s : AbtmProductPruningStats). answers (demand (totals_fit s) 1) s) (sums_more ds d)
 
--- what `add` knows of the totals that it is handed, and what it owes
-module _ (totals : Result AbtmProductPruningStats HybitError) (d : AbtmRowDot) (ds : List AbtmRowDot) (h : given totals ≡ totals_over ds) where
-  pub totals_go_on : (t c : AbtmProductPruningStats) (r : Result AbtmProductPruningStats HybitError) → totals ≡ Ok t → c ≡ counts_of d
-      → given r ≡ answers (accumulate_answer t c) (accumulated t c) → given r ≡ totals_over (ds ++ (d ∷ []))
-  unfolding totals_over accumulate_answer
-  totals_go_on t c r e p q =
-      q
-      ∙ ap₂ (λ (s k : AbtmProductPruningStats). answers (demand (totals_fit (accumulated s k)) 1) (accumulated s k)) (go (totals_fit (sums_of ds)) (sym (ap given e) ∙ h)) p
-      ∙ sym (over_more ds d)
-    where
-      go : (b : Bool) → gives t ≡ answers (demand b 1) (sums_of ds) → t ≡ sums_of ds
-      go true g = cc
-      go false g = cc
+-- sums that fit with more reports fitted before
+front_fits : (es ds : List AbtmRowDot) → totals_fit (sums_of (ds ++ es)) ≡ true → totals_fit (sums_of ds) ≡ true
+front_fits [] ds e = ap (λ (l : List AbtmRowDot). totals_fit (sums_of l)) (sym (append-nil ds)) ∙ e
+front_fits (d ∷ es) ds e =
+    less_fits (sums_of ds) (counts_of d)
+    (ap totals_fit (sym (sums_more ds d)) ∙ front_fits es (ds ++ (d ∷ [])) (ap (λ (l : List AbtmRowDot). totals_fit (sums_of l)) (append_assoc ds (d ∷ []) es) ∙ e))
 
-  pub refusal_stays : (e : HybitError) → totals ≡ Err e → refuses (paper e) ≡ totals_over (ds ++ (d ∷ []))
-  unfolding totals_over
-  refusal_stays e p =
-      go (totals_fit (sums_of ds)) (totals_fit (accumulated (sums_of ds) (counts_of d))) (less_fits (sums_of ds) (counts_of d)) (sym (ap given p) ∙ h)
-      ∙ sym (over_more ds d)
-    where
-      go : (b c : Bool) → (c ≡ true → b ≡ true) → refuses (paper e) ≡ answers (demand b 1) (sums_of ds)
-          → refuses (paper e) ≡ answers (demand c 1) (accumulated (sums_of ds) (counts_of d))
-      go true c f g = cc
-      go false true f g = absurd (false≢true (f refl))
-      go false false f g = g
+-- a refusal stays, whatever reports follow
+refusal_stays : (ds es : List AbtmRowDot) (e : HybitError) → refuses (paper e) ≡ totals_over ds → refuses (paper e) ≡ totals_over (ds ++ es)
+unfolding totals_over
+refusal_stays ds es e h = go (totals_fit (sums_of ds)) (totals_fit (sums_of (ds ++ es))) (front_fits es ds) h
+  where
+    go : (b c : Bool) → (c ≡ true → b ≡ true) → refuses (paper e) ≡ answers (demand b 1) (sums_of ds)
+        → refuses (paper e) ≡ answers (demand c 1) (sums_of (ds ++ es))
+    go true c f g = cc
+    go false true f g = absurd (false≢true (f refl))
+    go false false f g = g
 
 -- ---- the loop over a list
 
@@ -79,13 +71,29 @@ abbrev pub blank : AbtmRowDot
 blank = record { sum = nan; candidate_products = 0; executed_products = 0; skipped_products = 0; topology_words = 0; active_words = 0 }
 
 module _ (ds : List AbtmRowDot) where
-  -- t tells the totals of the first i reports
-  abbrev pub Taken : ℕ → Result AbtmProductPruningStats HybitError → Type 0
-  Taken i t = given t ≡ totals_over (take i ds)
+  -- t is the totals of the first i reports
+  abbrev pub Taken : ℕ → AbtmProductPruningStats → Type 0
+  Taken i t = gives t ≡ totals_over (take i ds)
 
-  pub taken_more : (i : ℕ) (t r : Result AbtmProductPruningStats HybitError) → Taken i t → i < length ds
-      → ((es : List AbtmRowDot) → given t ≡ totals_over es → given r ≡ totals_over (es ++ (get_or ds i blank ∷ []))) → Taken (i + 1) r
-  taken_more i t r k l f = f (take i ds) k ∙ ap totals_over (sym (ap (λ (j : ℕ). take j ds) (add-one i) ∙ take-suc ds i blank l))
+  -- the next report, and what `accumulate` answers at it
+  module _ (i : ℕ) (t c : AbtmProductPruningStats) (r : Result AbtmProductPruningStats HybitError) (k : Taken i t) (l : i < length ds) (p : c ≡ counts_of (get_or ds i blank))
+      (q : given r ≡ answers (accumulate_answer t c) (accumulated t c)) where
+    next : given r ≡ totals_over (take (i + 1) ds)
+    unfolding totals_over accumulate_answer
+    next =
+        q
+        ∙ ap₂ (λ (s k : AbtmProductPruningStats). answers (demand (totals_fit (accumulated s k)) 1) (accumulated s k)) (go (totals_fit (sums_of (take i ds))) k) p
+        ∙ sym (over_more (take i ds) (get_or ds i blank)) ∙ ap totals_over (sym (ap (λ (j : ℕ). take j ds) (add-one i) ∙ take-suc ds i blank l))
+      where
+        go : (b : Bool) → gives t ≡ answers (demand b 1) (sums_of (take i ds)) → t ≡ sums_of (take i ds)
+        go true g = cc
+        go false g = cc
 
-  pub taken_all : (i : ℕ) (t : Result AbtmProductPruningStats HybitError) → Taken i t → length ds ≤ i → given t ≡ totals_over ds
+    pub taken_more : (u : AbtmProductPruningStats) → r ≡ Ok u → Taken (i + 1) u
+    taken_more u e = sym (ap given e) ∙ next
+
+    pub taken_fails : (e : HybitError) → r ≡ Err e → refuses (paper e) ≡ totals_over ds
+    taken_fails x e = refusal_stays (take (i + 1) ds) (drop (i + 1) ds) x (sym (ap given e) ∙ next) ∙ ap totals_over (take-append-drop (i + 1) ds)
+
+  pub taken_all : (i : ℕ) (t : AbtmProductPruningStats) → Taken i t → length ds ≤ i → gives t ≡ totals_over ds
   taken_all i t k l = k ∙ ap totals_over (take_all i ds l)

@@ -1,752 +1,671 @@
 // Runs the port on document 01's worked plots and writes what it computes. The file stdout was written by hand from the
 // document's figures.
+// A list that a call writes is full of 9s before, at a length that the case asks for: what is printed shows each place written.
 #![tactic(auto)]
 
-use abtm::AbtmConfig;
+use abtm::{AbtmConfig, AbtmMatrix};
 use abtm_build::TilesSize;
+use csr32::Csr32Matrix;
 use hybit_core::HybitError;
-use metadata_first::AbtmRowDot;
+use mask::DofMask;
+use metadata_first::{AbtmMetadataFirstMatrix, AbtmProductPruningStats, AbtmRowDot};
 use restricted::ColumnRestriction;
-use topology::TopologySize;
+use std::{fmt, io};
+use topology::{AbtmTopology, TopologySize};
 use word::Operation;
 
-fn text(s: &[u8]) {
-    io::write_all(1, s);
-}
+// ---- the worked row of 70 columns: its entries, in stored order
 
-fn number(n: u64) {
-    text(b" ");
-    io::print_decimal(1, n);
-}
+const COLS: [u32; 4] = [65, 3, 3, 64];
 
-fn size(n: usize) {
-    number(n as u64);
-}
+const VALUES: [f64; 4] = [2.0, 1.0, 0.5, 4.0];
 
-fn refused(e: HybitError) {
-    text(b" refused");
-    number(e.number() as u64);
-}
+// ---- what is printed
 
-fn count_answer(a: Result<usize, HybitError>) {
-    match a {
-        Ok(n) => size(n),
-        Err(e) => refused(e),
+// Each element, behind a space.
+#[derive(Clone, Copy)]
+struct Spaced<'a, T>(&'a [T]);
+
+impl<'a, T: fmt::Display> fmt::Display for Spaced<'a, T> {
+    fn fmt<W: fmt::Write>(&self, f: &mut fmt::Formatter<W>) -> fmt::Result {
+        for element in self.0 {
+            write!(f, " {element}")?;
+        }
+        Ok(())
     }
 }
 
-fn flag(b: bool) {
-    if b {
-        text(b" yes");
-    } else {
-        text(b" no");
+// A float's bits; a NaN has none that are compared. trial and recorded print floats in forms of their own.
+#[derive(Clone, Copy)]
+struct Bits(f64);
+
+impl fmt::Display for Bits {
+    fn fmt<W: fmt::Write>(&self, f: &mut fmt::Formatter<W>) -> fmt::Result {
+        if self.0.is_nan() {
+            return write!(f, "nan");
+        }
+        write!(f, "{:016x}", self.0.to_bits())
     }
 }
 
-fn bool_answer(a: Result<bool, HybitError>) {
-    match a {
-        Ok(b) => flag(b),
-        Err(e) => refused(e),
+#[derive(Clone, Copy)]
+struct Floats<'a>(&'a [f64]);
+
+impl<'a> fmt::Display for Floats<'a> {
+    fn fmt<W: fmt::Write>(&self, f: &mut fmt::Formatter<W>) -> fmt::Result {
+        for value in self.0 {
+            write!(f, " {}", Bits(*value))?;
+        }
+        Ok(())
     }
 }
 
-fn verdict(v: Result<(), HybitError>) {
-    match v {
-        Ok(()) => text(b" accepted"),
-        Err(e) => refused(e),
+// What a call answers, or the number of its refusal.
+#[derive(Clone, Copy)]
+struct Answer<T>(Result<T, HybitError>);
+
+impl<T: fmt::Display> fmt::Display for Answer<T> {
+    fn fmt<W: fmt::Write>(&self, f: &mut fmt::Formatter<W>) -> fmt::Result {
+        match &self.0 {
+            Ok(value) => write!(f, "{value}"),
+            Err(e) => write!(f, "refused {}", e.number()),
+        }
     }
 }
 
-fn select(mask: u64, ordinal: usize) {
-    match word::select(mask, ordinal) {
-        Some(i) => size(i),
-        None => text(b" Nothing"),
+#[derive(Clone, Copy)]
+struct Accepted;
+
+impl fmt::Display for Accepted {
+    fn fmt<W: fmt::Write>(&self, f: &mut fmt::Formatter<W>) -> fmt::Result {
+        write!(f, "accepted")
     }
 }
+
+fn verdict(v: Result<(), HybitError>) -> Answer<Accepted> {
+    Answer(v.map(|_| Accepted))
+}
+
+#[derive(Clone, Copy)]
+struct YesNo(bool);
+
+impl fmt::Display for YesNo {
+    fn fmt<W: fmt::Write>(&self, f: &mut fmt::Formatter<W>) -> fmt::Result {
+        if self.0 {
+            return write!(f, "yes");
+        }
+        write!(f, "no")
+    }
+}
+
+#[derive(Clone, Copy)]
+struct Selected(Option<usize>);
+
+impl fmt::Display for Selected {
+    fn fmt<W: fmt::Write>(&self, f: &mut fmt::Formatter<W>) -> fmt::Result {
+        match self.0 {
+            Some(column) => write!(f, "{column}"),
+            None => write!(f, "Nothing"),
+        }
+    }
+}
+
+#[derive(Clone, Copy)]
+struct Words(TopologySize);
+
+impl fmt::Display for Words {
+    fn fmt<W: fmt::Write>(&self, f: &mut fmt::Formatter<W>) -> fmt::Result {
+        write!(f, "words {}, ones {}", self.0.words, self.0.structural_nnz)
+    }
+}
+
+fn words_answer(a: Result<TopologySize, HybitError>) -> Answer<Words> {
+    Answer(a.map(|size| Words(size)))
+}
+
+#[derive(Clone, Copy)]
+struct Tiles(TilesSize);
+
+impl fmt::Display for Tiles {
+    fn fmt<W: fmt::Write>(&self, f: &mut fmt::Formatter<W>) -> fmt::Result {
+        let size = self.0;
+        write!(
+            f,
+            "tiles {}, slots {}, values {}",
+            size.tiles, size.value_slots, size.matrix_nnz
+        )
+    }
+}
+
+#[derive(Clone, Copy)]
+struct Kept(ColumnRestriction);
+
+impl fmt::Display for Kept {
+    fn fmt<W: fmt::Write>(&self, f: &mut fmt::Formatter<W>) -> fmt::Result {
+        write!(f, "kept {} of {}", self.0.retained_nnz, self.0.source_nnz)
+    }
+}
+
+// Candidate, executed and skipped products, topology words and active words.
+#[derive(Clone, Copy)]
+struct Counts(AbtmProductPruningStats);
+
+impl fmt::Display for Counts {
+    fn fmt<W: fmt::Write>(&self, f: &mut fmt::Formatter<W>) -> fmt::Result {
+        let counts = self.0;
+        write!(
+            f,
+            "{} {} {} {} {}",
+            counts.candidate_products,
+            counts.executed_products,
+            counts.skipped_products,
+            counts.topology_words,
+            counts.active_words
+        )
+    }
+}
+
+#[derive(Clone, Copy)]
+struct Report(AbtmRowDot);
+
+impl fmt::Display for Report {
+    fn fmt<W: fmt::Write>(&self, f: &mut fmt::Formatter<W>) -> fmt::Result {
+        write!(
+            f,
+            "{}, counts {}",
+            Bits(self.0.sum),
+            Counts(self.0.counts())
+        )
+    }
+}
+
+fn dot_answer(a: Result<AbtmRowDot, HybitError>) -> Answer<Report> {
+    Answer(a.map(|row| Report(row)))
+}
+
+// ---- words and masks
 
 // A word of the 70-column row: its members' ranks at the offsets that the row's ranks are made of, and its selects.
-fn show_word(name: &[u8], mask: u64, first: usize, second: usize) {
-    text(name);
-    text(b": mask");
-    number(mask);
-    text(b", present");
-    size(word::popcount(mask));
-    text(b", ranks at");
-    size(first);
-    size(second);
-    text(b" 64 65:");
-    count_answer(word::rank(mask, first));
-    count_answer(word::rank(mask, second));
-    count_answer(word::rank(mask, 64));
-    count_answer(word::rank(mask, 65));
-    text(b", selects 0 1 2:");
-    select(mask, 0);
-    select(mask, 1);
-    select(mask, 2);
-    text(b"\n");
+fn show_word(
+    rt: &impl Print,
+    name: &str,
+    mask: u64,
+    first: usize,
+    second: usize,
+) -> io::Result<()> {
+    println!(rt;
+        "{name}: mask {mask}, present {}, ranks at {first} {second} 64 65: {} {} {} {}, selects 0 1 2: {} {} {}",
+        word::popcount(mask),
+        Answer(word::rank(mask, first)),
+        Answer(word::rank(mask, second)),
+        Answer(word::rank(mask, 64)),
+        Answer(word::rank(mask, 65)),
+        Selected(word::select(mask, 0)),
+        Selected(word::select(mask, 1)),
+        Selected(word::select(mask, 2))
+    )
 }
 
-fn show_operations(a: u64, b: u64) {
-    text(b"masks");
-    number(a);
-    number(b);
-    text(b": union");
-    number(word::combine(Operation::Union, a, b));
-    text(b", intersection");
-    number(word::combine(Operation::Intersection, a, b));
-    text(b", and_not");
-    number(word::combine(Operation::AndNot, a, b));
-    text(b", xor");
-    number(word::combine(Operation::Xor, a, b));
-    text(b"\n");
+fn show_operations(rt: &impl Print, a: u64, b: u64) -> io::Result<()> {
+    println!(rt;
+        "masks {a} {b}: union {}, intersection {}, and_not {}, xor {}",
+        word::combine(Operation::Union, a, b),
+        word::combine(Operation::Intersection, a, b),
+        word::combine(Operation::AndNot, a, b),
+        word::combine(Operation::Xor, a, b)
+    )
 }
 
-fn show_words(words: &[u64]) {
-    for bits in words {
-        number(*bits);
+// The mask of 70 columns with two active plots.
+fn show_mask(rt: &impl Print) -> io::Result<()> {
+    let plots = [65usize, 3];
+    // The mask's words, of its own length.
+    let mut bits = [0u64; 2];
+    let mut members = [9usize; 4];
+    let built = mask_build::from_indices(70, &plots, &mut bits);
+    let mask = DofMask {
+        len: 70,
+        words: &bits,
+    };
+    let count = mask.indices(&mut members);
+    print!(rt;
+        "active of 70:{}: {}, words{}, members {}:{}",
+        Spaced(&plots),
+        verdict(built),
+        Spaced(&bits),
+        Answer(count),
+        Spaced(&members)
+    )?;
+    show_asked(rt, mask)?;
+    println!(rt;
+        ", set 70: {}",
+        verdict(mask_build::set(70, &mut bits, 70, true))
+    )
+}
+
+fn show_asked(rt: &impl Print, mask: DofMask) -> io::Result<()> {
+    print!(rt;
+        ", has 3 64 65 70: {} {} {} {}",
+        Answer(mask.contains(3).map(|b| YesNo(b))),
+        Answer(mask.contains(64).map(|b| YesNo(b))),
+        Answer(mask.contains(65).map(|b| YesNo(b))),
+        Answer(mask.contains(70).map(|b| YesNo(b)))
+    )
+}
+
+// ---- words of a plot list
+
+// One row of 70 columns.
+// Its parameters are the record's fields.
+fn row_of_70<'a>(row_ptr: &'a [u32], col_idx: &'a [u32], values: &'a [f64]) -> Csr32Matrix<'a> {
+    Csr32Matrix {
+        nrows: 1,
+        ncols: 70,
+        row_ptr,
+        col_idx,
+        values,
     }
 }
 
-fn show_indices(indices: &[usize]) {
-    for index in indices {
-        size(*index);
-    }
-}
-
-// The mask of 70 columns with these active plots.
-fn show_built(plots: &[usize], words: &mut [u64]) {
-    text(b"active of 70:");
-    show_indices(plots);
-    text(b":");
-    verdict(mask_build::from_indices(70, plots, words));
-    text(b", words");
-    show_words(words);
-}
-
-fn show_members(words: &[u64], members: &mut [usize]) {
-    text(b", members");
-    count_answer(mask::indices(70, words, members));
-    text(b":");
-    show_indices(members);
-}
-
-fn show_asked(words: &[u64]) {
-    text(b", has 3 64 65 70:");
-    bool_answer(mask::contains(70, words, 3));
-    bool_answer(mask::contains(70, words, 64));
-    bool_answer(mask::contains(70, words, 65));
-    bool_answer(mask::contains(70, words, 70));
-}
-
-fn show_mask(plots: &[usize], words: &mut [u64], members: &mut [usize]) {
-    show_built(plots, words);
-    show_members(words, members);
-    show_asked(words);
-    text(b", set 70:");
-    verdict(mask_build::set(70, words, 70, true));
-    text(b"\n");
-}
-
-fn show_u32(numbers: &[u32]) {
-    for number in numbers {
-        size(*number as usize);
-    }
-}
-
-fn topology_answer(a: Result<TopologySize, HybitError>) {
-    match a {
-        Ok(
-            TopologySize {
-                words,
-                structural_nnz,
-            },
-        ) => {
-            text(b" words");
-            size(words);
-            text(b", ones");
-            size(structural_nnz);
-        }
-        Err(e) => refused(e),
-    }
-}
-
-fn show_lists(ptr: &[u32], words: &[u32], masks: &[u64]) {
-    text(b", pointers");
-    show_u32(ptr);
-    text(b", numbers");
-    show_u32(words);
-    text(b", masks");
-    show_words(masks);
-    text(b"\n");
-}
-
-// The words of one row of 70 columns.
-fn show_row(
-    row_ptr: &[u32],
-    cols: &[u32],
-    values: &[f64],
-    ptr: &mut [u32],
-    words: &mut [u32],
-    masks: &mut [u64],
-) {
-    text(b"row");
-    show_u32(cols);
-    text(b" of 70:");
-    topology_answer(topology_build::from_csr32(1, 70, row_ptr, cols, values, ptr, words, masks));
-    show_lists(ptr, words, masks);
-}
-
-fn show_rank(ptr: &[u32], words: &[u32], masks: &[u64], col: usize) {
-    count_answer(topology_rows::row_rank(1, 70, ptr, words, masks, 3, 0, col));
-}
-
-fn show_ranks(ptr: &[u32], words: &[u32], masks: &[u64]) {
-    text(b"ranks at 0 4 64 65 70 71:");
-    show_rank(ptr, words, masks, 0);
-    show_rank(ptr, words, masks, 4);
-    show_rank(ptr, words, masks, 64);
-    show_rank(ptr, words, masks, 65);
-    show_rank(ptr, words, masks, 70);
-    show_rank(ptr, words, masks, 71);
-    text(b"\n");
-}
-
-fn show_select(ptr: &[u32], words: &[u32], masks: &[u64], ordinal: usize) {
-    match topology_rows::row_select(1, 70, ptr, words, masks, 3, 0, ordinal) {
-        Ok(Some(c)) => size(c),
-        Ok(None) => text(b" Nothing"),
-        Err(e) => refused(e),
-    }
-}
-
-fn show_selects(ptr: &[u32], words: &[u32], masks: &[u64]) {
-    text(b"selects 0 1 2 3:");
-    show_select(ptr, words, masks, 0);
-    show_select(ptr, words, masks, 1);
-    show_select(ptr, words, masks, 2);
-    show_select(ptr, words, masks, 3);
-    text(b"\n");
-}
-
-fn show_stats(ptr: &[u32], words: &[u32], masks: &[u64]) {
-    text(b"metadata_bytes");
-    match topology::stats(1, 70, ptr, words, masks, 3) {
-        Ok(s) => size(s.metadata_bytes),
-        Err(e) => refused(e),
-    }
-    text(b"\n");
-}
-
-// Two one-row records with one mask of two bits each.
-fn show_combined(name: &[u8], operation: Operation, masks: &[u64], other_masks: &[u64]) {
-    let ptr: [u32; 2] = [0, 1];
-    let words: [u32; 1] = [0];
-    let mut out_ptr: [u32; 2] = [9; 2];
-    let mut out_words: [u32; 1] = [9];
-    let mut out_masks: [u64; 1] = [9];
-    text(name);
-    text(b":");
-    topology_answer(topology_combine::combine(
-        operation,
-        1,
-        64,
-        &ptr,
-        &words,
+// Its words, with this total.
+// Its parameters are the record's fields.
+fn words_of_70<'a>(
+    row_word_ptr: &'a [u32],
+    word_indices: &'a [u32],
+    masks: &'a [u64],
+    structural_nnz: usize,
+) -> AbtmTopology<'a> {
+    AbtmTopology {
+        nrows: 1,
+        ncols: 70,
+        row_word_ptr,
+        word_indices,
         masks,
-        2,
-        1,
-        64,
-        &ptr,
-        &words,
-        other_masks,
-        2,
-        &mut out_ptr,
-        &mut out_words,
-        &mut out_masks,
-    ));
-    show_lists(&out_ptr, &out_words, &out_masks);
+        structural_nnz,
+    }
 }
 
-fn show_sets() {
-    let six: [u64; 1] = [6];
-    let three: [u64; 1] = [3];
-    show_combined(b"6 union 3", Operation::Union, &six, &three);
-    show_combined(b"6 intersection 3", Operation::Intersection, &six, &three);
-    show_combined(b"6 and_not 3", Operation::AndNot, &six, &three);
-    show_combined(b"6 xor 3", Operation::Xor, &six, &three);
-    show_combined(b"6 xor 6", Operation::Xor, &six, &six);
+fn show_lists(rt: &impl Print, ptr: &[u32], words: &[u32], masks: &[u64]) -> io::Result<()> {
+    println!(rt;
+        ", pointers{}, numbers{}, masks{}",
+        Spaced(ptr),
+        Spaced(words),
+        Spaced(masks)
+    )
+}
+
+fn show_row(
+    rt: &impl Print,
+    row: Csr32Matrix,
+    ptr: &mut [u32],
+    indices: &mut [u32],
+    masks: &mut [u64],
+) -> io::Result<()> {
+    let built = topology_build::from_csr32(row, ptr, indices, masks);
+    print!(rt; "row{} of 70: {}", Spaced(row.col_idx), words_answer(built))?;
+    show_lists(rt, ptr, indices, masks)
+}
+
+fn show_ranks(rt: &impl Print, row: AbtmTopology) -> io::Result<()> {
+    println!(rt;
+        "ranks at 0 4 64 65 70 71: {} {} {} {} {} {}",
+        Answer(topology_rows::row_rank(row, 0, 0)),
+        Answer(topology_rows::row_rank(row, 0, 4)),
+        Answer(topology_rows::row_rank(row, 0, 64)),
+        Answer(topology_rows::row_rank(row, 0, 65)),
+        Answer(topology_rows::row_rank(row, 0, 70)),
+        Answer(topology_rows::row_rank(row, 0, 71))
+    )
+}
+
+fn select(row: AbtmTopology, ordinal: usize) -> Answer<Selected> {
+    Answer(topology_rows::row_select(row, 0, ordinal).map(|column| Selected(column)))
+}
+
+fn show_selects(rt: &impl Print, row: AbtmTopology) -> io::Result<()> {
+    println!(rt;
+        "selects 0 1 2 3: {} {} {} {}",
+        select(row, 0),
+        select(row, 1),
+        select(row, 2),
+        select(row, 3)
+    )
 }
 
 // The 70-column row, with lists of exactly the used lengths, and what is asked of its words.
-fn show_plots() {
-    let row_ptr: [u32; 2] = [0, 4];
-    let cols: [u32; 4] = [65, 3, 3, 64];
-    let values: [f64; 4] = [2.0, 1.0, 0.5, 4.0];
-    let mut ptr: [u32; 2] = [9; 2];
-    let mut words: [u32; 2] = [9; 2];
-    let mut masks: [u64; 2] = [9; 2];
-    show_row(&row_ptr, &cols, &values, &mut ptr, &mut words, &mut masks);
-    show_ranks(&ptr, &words, &masks);
-    show_selects(&ptr, &words, &masks);
-    show_stats(&ptr, &words, &masks);
+fn show_plots(rt: &impl Print) -> io::Result<()> {
+    let mut ptr = [9u32; 2];
+    let mut indices = [9u32; 2];
+    let mut masks = [9u64; 2];
+    let row = row_of_70(&[0, 4], &COLS, &VALUES);
+    show_row(rt, row, &mut ptr, &mut indices, &mut masks)?;
+    let topology = words_of_70(&ptr, &indices, &masks, 3);
+    show_ranks(rt, topology)?;
+    show_selects(rt, topology)?;
+    println!(rt;
+        "metadata_bytes {}",
+        Answer(topology.stats().map(|s| s.metadata_bytes))
+    )
 }
 
 // Column 5 with 1.0 and -1.0: present.
-fn show_cancelling() {
-    let row_ptr: [u32; 2] = [0, 2];
-    let cols: [u32; 2] = [5, 5];
-    let values: [f64; 2] = [1.0, -1.0];
-    let mut ptr: [u32; 2] = [9; 2];
-    let mut words: [u32; 2] = [9; 2];
-    let mut masks: [u64; 2] = [9; 2];
-    show_row(&row_ptr, &cols, &values, &mut ptr, &mut words, &mut masks);
+fn show_cancelling(rt: &impl Print) -> io::Result<()> {
+    let row = row_of_70(&[0, 2], &[5, 5], &[1.0, -1.0]);
+    show_row(rt, row, &mut [9; 2], &mut [9; 2], &mut [9; 2])
 }
 
-fn show_empty() {
-    let row_ptr: [u32; 2] = [0, 0];
-    let cols: [u32; 0] = [];
-    let values: [f64; 0] = [];
-    let mut ptr: [u32; 2] = [9; 2];
-    let mut words: [u32; 2] = [9; 2];
-    let mut masks: [u64; 2] = [9; 2];
-    show_row(&row_ptr, &cols, &values, &mut ptr, &mut words, &mut masks);
+fn show_empty(rt: &impl Print) -> io::Result<()> {
+    let row = row_of_70(&[0, 0], &[], &[]);
+    show_row(rt, row, &mut [9; 2], &mut [9; 2], &mut [9; 2])
 }
 
-fn bits(w: u64) {
-    text(b" ");
-    io::print_hex(1, w, 16);
-}
+// ---- two records
 
-// A float's bits; a NaN has none that are compared.
-fn float(x: f64) {
-    if x == x {
-        bits(f64::to_bits(x));
-    } else {
-        text(b" nan");
+// A row of 64 columns with a mask of two bits.
+fn row_of_64<'a>(row_word_ptr: &'a [u32], masks: &'a [u64]) -> AbtmTopology<'a> {
+    AbtmTopology {
+        nrows: 1,
+        ncols: 64,
+        row_word_ptr,
+        word_indices: &[0],
+        masks,
+        structural_nnz: 2,
     }
 }
 
-fn show_floats(values: &[f64]) {
-    for value in values {
-        float(*value);
-    }
+// Takes the operation by the library's name for it.
+fn show_combined(
+    rt: &impl Print,
+    name: &str,
+    operation: Operation,
+    mask: u64,
+    other: u64,
+) -> io::Result<()> {
+    let mut ptr = [9u32; 2];
+    let mut indices = [9u32; 1];
+    let mut masks = [9u64; 1];
+    let combined = topology_combine::combine(
+        operation,
+        row_of_64(&[0, 1], &[mask]),
+        row_of_64(&[0, 1], &[other]),
+        &mut ptr,
+        &mut indices,
+        &mut masks,
+    );
+    print!(rt; "{name}: {}", words_answer(combined))?;
+    show_lists(rt, &ptr, &indices, &masks)
 }
 
-fn report(d: AbtmRowDot) {
-    float(d.sum);
-    text(b", counts");
-    size(d.candidate_products);
-    size(d.executed_products);
-    size(d.skipped_products);
-    size(d.topology_words);
-    size(d.active_words);
+fn show_sets(rt: &impl Print) -> io::Result<()> {
+    show_combined(rt, "6 union 3", Operation::Union, 6, 3)?;
+    show_combined(rt, "6 intersection 3", Operation::Intersection, 6, 3)?;
+    show_combined(rt, "6 and_not 3", Operation::AndNot, 6, 3)?;
+    show_combined(rt, "6 xor 3", Operation::Xor, 6, 3)?;
+    show_combined(rt, "6 xor 6", Operation::Xor, 6, 6)
 }
 
-fn dot_answer(a: Result<AbtmRowDot, HybitError>) {
-    match a {
-        Ok(d) => report(d),
-        Err(e) => refused(e),
-    }
-}
+// ---- the packed store
 
-// The packed store of one row of 70 columns.
 fn show_packed(
-    row_ptr: &[u32],
-    cols: &[u32],
-    values: &[f64],
+    rt: &impl Print,
+    row: Csr32Matrix,
     ptr: &mut [u32],
-    words: &mut [u32],
+    indices: &mut [u32],
     masks: &mut [u64],
     value_ptr: &mut [u32],
     packed: &mut [f64],
-) {
-    text(b"packed");
-    show_u32(cols);
-    text(b":");
-    topology_answer(metadata_first_build::from_csr32(
-        1, 70, row_ptr, cols, values, ptr, words, masks, value_ptr, packed,
-    ));
-    text(b", value pointers");
-    show_u32(value_ptr);
-    text(b", values");
-    show_floats(packed);
-    text(b"\n");
+) -> io::Result<()> {
+    let built = metadata_first_build::from_csr32(row, ptr, indices, masks, value_ptr, packed);
+    println!(rt;
+        "packed{}: {}, value pointers{}, values{}",
+        Spaced(row.col_idx),
+        words_answer(built),
+        Spaced(value_ptr),
+        Floats(packed)
+    )
 }
 
+// The dot of the row with x all 1.0.
 fn show_dot(
-    name: &[u8],
-    ptr: &[u32],
-    words: &[u32],
-    masks: &[u64],
-    nnz: usize,
-    value_ptr: &[u32],
-    packed: &[f64],
+    rt: &impl Print,
+    name: &str,
+    packed: AbtmMetadataFirstMatrix,
     active: &[u64],
-) {
-    let x: [f64; 70] = [1.0; 70];
-    text(name);
-    text(b":");
-    dot_answer(metadata_first_dot::sparse_dot_row(
-        1, 70, ptr, words, masks, nnz, value_ptr, packed, 0, 70, active, &x,
-    ));
-    text(b"\n");
+) -> io::Result<()> {
+    let mask = DofMask {
+        len: 70,
+        words: active,
+    };
+    let dot = metadata_first_dot::sparse_dot_row(packed, 0, mask, &[1.0; 70]);
+    println!(rt; "{name}: {}", dot_answer(dot))
 }
 
-// The worked row's store and its dots with x all 1.0.
-fn show_store() {
-    let row_ptr: [u32; 2] = [0, 4];
-    let cols: [u32; 4] = [65, 3, 3, 64];
-    let values: [f64; 4] = [2.0, 1.0, 0.5, 4.0];
-    let mut ptr: [u32; 2] = [9; 2];
-    let mut words: [u32; 2] = [9; 2];
-    let mut masks: [u64; 2] = [9; 2];
-    let mut value_ptr: [u32; 2] = [9; 2];
-    let mut packed: [f64; 3] = [9.0; 3];
+fn show_store(rt: &impl Print) -> io::Result<()> {
+    let mut ptr = [9u32; 2];
+    let mut indices = [9u32; 2];
+    let mut masks = [9u64; 2];
+    let mut value_ptr = [9u32; 2];
+    let mut slots = [9.0f64; 3];
     show_packed(
-        &row_ptr,
-        &cols,
-        &values,
+        rt,
+        row_of_70(&[0, 4], &COLS, &VALUES),
         &mut ptr,
-        &mut words,
+        &mut indices,
         &mut masks,
         &mut value_ptr,
-        &mut packed,
-    );
-    let both: [u64; 2] = [8, 2];
-    let one: [u64; 2] = [8, 0];
-    show_dot(
-        b"active 3 65",
-        &ptr,
-        &words,
-        &masks,
-        3,
-        &value_ptr,
-        &packed,
-        &both,
-    );
-    show_dot(
-        b"active 3",
-        &ptr,
-        &words,
-        &masks,
-        3,
-        &value_ptr,
-        &packed,
-        &one,
-    );
-    let none: [u32; 2] = [0, 0];
-    show_dot(
-        b"empty row",
-        &none,
-        &words[..0],
-        &masks[..0],
-        0,
-        &none,
-        &packed[..0],
-        &both,
-    );
+        &mut slots,
+    )?;
+    let packed = AbtmMetadataFirstMatrix {
+        topology: words_of_70(&ptr, &indices, &masks, 3),
+        row_value_ptr: &value_ptr,
+        values: &slots,
+    };
+    show_dot(rt, "active 3 65", packed, &[8, 2])?;
+    show_dot(rt, "active 3", packed, &[8, 0])?;
+    let empty = AbtmMetadataFirstMatrix {
+        topology: words_of_70(&[0, 0], &[], &[], 0),
+        row_value_ptr: &[0, 0],
+        values: &[],
+    };
+    show_dot(rt, "empty row", empty, &[8, 2])
 }
 
-fn tiles_answer(a: Result<TilesSize, HybitError>) {
-    match a {
-        Ok(
-            TilesSize {
-                tiles,
-                value_slots,
-                matrix_nnz,
-            },
-        ) => {
-            text(b" tiles");
-            size(tiles);
-            text(b", slots");
-            size(value_slots);
-            text(b", values");
-            size(matrix_nnz);
-        }
-        Err(e) => refused(e),
-    }
-}
+// ---- tiles
 
-// The tiles of one row of 70 columns.
 fn show_tiles(
-    row_ptr: &[u32],
-    cols: &[u32],
-    values: &[f64],
+    rt: &impl Print,
+    row: Csr32Matrix,
     config: AbtmConfig,
     ptr: &mut [u32],
     masks: &mut [u64],
     offsets: &mut [u32],
     metas: &mut [u32],
     slots: &mut [f64],
-) {
-    text(b"tiles of");
-    size(cols.len());
-    text(b" entries:");
-    tiles_answer(abtm_build::from_csr32(
-        1, 70, row_ptr, cols, values, config, ptr, masks, offsets, metas, slots,
-    ));
-    text(b", pointers");
-    show_u32(ptr);
-    text(b", masks");
-    show_words(masks);
-    text(b", metas");
-    show_u32(metas);
-    text(b"\n");
+) -> io::Result<()> {
+    let built = abtm_build::from_csr32(row, config, ptr, masks, offsets, metas, slots);
+    println!(rt;
+        "tiles of {} entries: {}, pointers{}, masks{}, metas{}",
+        row.col_idx.len(),
+        Answer(built.map(|size| Tiles(size))),
+        Spaced(ptr),
+        Spaced(masks),
+        Spaced(metas)
+    )
 }
 
-// A row with these columns, 1.0 in each, under 4 and 32.
-fn show_kind(entries: u32, cols: &[u32], values: &[f64]) {
-    let row_ptr: [u32; 2] = [0, entries];
+// A row with 1.0 in its first columns, under 4 and 32.
+fn show_kind(rt: &impl Print, entries: u32, cols: &[u32], values: &[f64]) -> io::Result<()> {
     let config = AbtmConfig {
         sparse_max_nnz: 4,
         dense_min_nnz: 32,
     };
-    let mut ptr: [u32; 2] = [9; 2];
-    let mut masks: [u64; 1] = [9];
-    let mut offsets: [u32; 1] = [9];
-    let mut metas: [u32; 1] = [9];
-    let mut slots: [f64; 64] = [9.0; 64];
     show_tiles(
-        &row_ptr,
-        cols,
-        values,
+        rt,
+        row_of_70(&[0, entries], cols, values),
         config,
-        &mut ptr,
-        &mut masks,
-        &mut offsets,
-        &mut metas,
-        &mut slots,
-    );
+        &mut [9; 2],
+        &mut [9; 1],
+        &mut [9; 1],
+        &mut [9; 1],
+        &mut [9.0; 64],
+    )
 }
 
-fn show_kinds() {
-    let four: [u32; 4] = [0, 1, 2, 3];
-    let five: [u32; 5] = [0, 1, 2, 3, 4];
-    let many: [u32; 31] = [
-        0, 1, 2, 3, 4, 5, 6, 7, 8, 9, 10, 11, 12, 13, 14, 15, 16, 17, 18, 19, 20, 21, 22, 23, 24,
-        25, 26, 27, 28, 29, 30,
+fn show_kinds(rt: &impl Print) -> io::Result<()> {
+    let cols = [
+        0u32, 1, 2, 3, 4, 5, 6, 7, 8, 9, 10, 11, 12, 13, 14, 15, 16, 17, 18, 19, 20, 21, 22, 23,
+        24, 25, 26, 27, 28, 29, 30, 31,
     ];
-    let most: [u32; 32] = [
-        0, 1, 2, 3, 4, 5, 6, 7, 8, 9, 10, 11, 12, 13, 14, 15, 16, 17, 18, 19, 20, 21, 22, 23, 24,
-        25, 26, 27, 28, 29, 30, 31,
-    ];
-    let four_ones: [f64; 4] = [1.0; 4];
-    let five_ones: [f64; 5] = [1.0; 5];
-    let many_ones: [f64; 31] = [1.0; 31];
-    let most_ones: [f64; 32] = [1.0; 32];
-    show_kind(4, &four, &four_ones);
-    show_kind(5, &five, &five_ones);
-    show_kind(31, &many, &many_ones);
-    show_kind(32, &most, &most_ones);
+    let ones = [1.0f64; 32];
+    show_kind(rt, 4, &cols[..4], &ones[..4])?;
+    show_kind(rt, 5, &cols[..5], &ones[..5])?;
+    show_kind(rt, 31, &cols[..31], &ones[..31])?;
+    show_kind(rt, 32, &cols, &ones)
 }
 
-fn show_thresholds(sparse: u8, dense: u8) {
-    text(b"thresholds");
-    number(sparse as u64);
-    number(dense as u64);
-    text(b":");
+fn show_thresholds(rt: &impl Print, sparse: u8, dense: u8) -> io::Result<()> {
     let config = AbtmConfig {
         sparse_max_nnz: sparse,
         dense_min_nnz: dense,
     };
-    verdict(config.validate());
-    text(b"\n");
+    println!(rt;
+        "thresholds {sparse} {dense}: {}",
+        verdict(config.validate())
+    )
 }
 
 // Column 5 with these two values: packed, and its tile.
-fn show_pair(values: &[f64]) {
-    let row_ptr: [u32; 2] = [0, 2];
-    let cols: [u32; 2] = [5, 5];
-    let mut ptr: [u32; 2] = [9; 2];
-    let mut words: [u32; 1] = [9];
-    let mut masks: [u64; 1] = [9];
-    let mut metas: [u32; 1] = [9];
-    let mut value_ptr: [u32; 2] = [9; 2];
-    let mut slots: [f64; 1] = [9.0];
+fn show_pair(rt: &impl Print, values: &[f64]) -> io::Result<()> {
+    let row = row_of_70(&[0, 2], &[5, 5], values);
+    let mut slots = [9.0f64; 1];
     show_packed(
-        &row_ptr,
-        &cols,
-        values,
-        &mut ptr,
-        &mut words,
-        &mut masks,
-        &mut value_ptr,
+        rt,
+        row,
+        &mut [9; 2],
+        &mut [9; 1],
+        &mut [9; 1],
+        &mut [9; 2],
         &mut slots,
-    );
+    )?;
     show_tiles(
-        &row_ptr,
-        &cols,
-        values,
+        rt,
+        row,
         abtm::default_config(),
-        &mut ptr,
-        &mut masks,
-        &mut words,
-        &mut metas,
+        &mut [9; 2],
+        &mut [9; 1],
+        &mut [9; 1],
+        &mut [9; 1],
         &mut slots,
-    );
-    text(b"values");
-    show_floats(&slots);
-    text(b"\n");
-}
-
-fn restrict_answer(a: Result<ColumnRestriction, HybitError>) {
-    match a {
-        Ok(s) => {
-            text(b" kept");
-            size(s.retained_nnz);
-            text(b" of");
-            size(s.source_nnz);
-        }
-        Err(e) => refused(e),
-    }
+    )?;
+    println!(rt; "values{}", Floats(&slots))
 }
 
 // A tile with column 5 alone, restricted to these columns.
-fn show_cut(name: &[u8], values: &[f64], active: &[u64]) {
-    let ptr: [u32; 2] = [0, 1];
-    let masks: [u64; 1] = [32];
-    let zero: [u32; 1] = [0];
-    let mut out_ptr: [u32; 2] = [9; 2];
-    let mut cols: [u32; 1] = [9];
-    let mut kept: [f64; 1] = [9.0];
-    text(name);
-    restrict_answer(restricted_abtm::from_abtm(
-        1,
-        70,
-        &ptr,
-        &masks,
-        &zero,
-        &zero,
-        values,
-        1,
-        70,
-        active,
-        &mut out_ptr,
-        &mut cols,
-        &mut kept,
-    ));
-    text(b"\n");
+fn show_cut(rt: &impl Print, name: &str, value: f64, active: &[u64]) -> io::Result<()> {
+    let tiles = AbtmMatrix {
+        nrows: 1,
+        ncols: 70,
+        row_tile_ptr: &[0, 1],
+        masks: &[32],
+        value_offsets: &[0],
+        metas: &[0],
+        values: &[value],
+        matrix_nnz: 1,
+    };
+    let mask = DofMask {
+        len: 70,
+        words: active,
+    };
+    let cut = restricted_abtm::from_abtm(tiles, mask, &mut [9; 2], &mut [9; 1], &mut [9.0; 1]);
+    println!(rt; "{name}: {}", Answer(cut.map(|size| Kept(size))))
 }
 
 // The largest finite value twice, its tile restricted with the column active and inactive; and values that cancel.
-fn show_pairs() {
-    let largest = f64::from_bits(9218868437227405311);
-    let twice: [f64; 2] = [largest; 2];
-    let merged: [f64; 1] = [largest + largest];
-    let five: [u64; 2] = [32, 0];
-    let none: [u64; 2] = [0; 2];
-    let cancelling: [f64; 2] = [1.0, -1.0];
-    show_pair(&twice);
-    show_cut(b"restricted with 5 active:", &merged, &five);
-    show_cut(b"restricted with 5 inactive:", &merged, &none);
-    show_pair(&cancelling);
+fn show_pairs(rt: &impl Print) -> io::Result<()> {
+    show_pair(rt, &[f64::MAX, f64::MAX])?;
+    show_cut(
+        rt,
+        "restricted with 5 active",
+        f64::MAX + f64::MAX,
+        &[32, 0],
+    )?;
+    show_cut(
+        rt,
+        "restricted with 5 inactive",
+        f64::MAX + f64::MAX,
+        &[0, 0],
+    )?;
+    show_pair(rt, &[1.0, -1.0])
 }
 
-fn number_answer(a: Result<f64, HybitError>) {
-    match a {
-        Ok(n) => float(n),
-        Err(e) => refused(e),
-    }
+// ---- demand 3
+
+// The two routes by the dot.
+fn show_dots(rt: &impl Print, row: Csr32Matrix, mask: DofMask, x: &[f64]) -> io::Result<()> {
+    let pruned = demand_routes::pruned_dot(
+        row,
+        mask,
+        x,
+        0,
+        &mut [9; 2],
+        &mut [9; 2],
+        &mut [9; 2],
+        &mut [9; 2],
+        &mut [9.0; 3],
+    );
+    println!(rt; "pruned: {}", dot_answer(pruned))?;
+    let restricted = demand_routes::restricted_dot(
+        row,
+        mask,
+        x,
+        0,
+        &mut [9; 2],
+        &mut [9; 3],
+        &mut [9.0; 3],
+        &mut [9; 2],
+        &mut [9; 2],
+        &mut [9; 2],
+        &mut [9; 2],
+        &mut [9.0; 3],
+        &mut [9; 2],
+    );
+    println!(rt; "restricted: {}", dot_answer(restricted))
 }
 
-// Demand 3's route by tiles: the row product.
-fn show_tiled(row_ptr: &[u32], cols: &[u32], values: &[f64], active: &[u64], x: &[f64]) {
-    let mut ptr: [u32; 2] = [9; 2];
-    let mut masks: [u64; 2] = [9; 2];
-    let mut offsets: [u32; 2] = [9; 2];
-    let mut metas: [u32; 2] = [9; 2];
-    let mut slots: [f64; 3] = [9.0; 3];
-    let mut out_ptr: [u32; 2] = [9; 2];
-    let mut out_cols: [u32; 2] = [9; 2];
-    let mut out_values: [f64; 2] = [9.0; 2];
-    let mut product: [f64; 1] = [9.0];
-    text(b"tiled:");
-    number_answer(demand_tiled::tiled_number(
-        1,
-        70,
-        row_ptr,
-        cols,
-        values,
-        70,
-        active,
+// The route by tiles: the row product.
+fn show_tiled(rt: &impl Print, row: Csr32Matrix, mask: DofMask, x: &[f64]) -> io::Result<()> {
+    let tiled = demand_tiled::tiled_number(
+        row,
+        mask,
         abtm::default_config(),
         x,
         0,
-        &mut ptr,
-        &mut masks,
-        &mut offsets,
-        &mut metas,
-        &mut slots,
-        &mut out_ptr,
-        &mut out_cols,
-        &mut out_values,
-        &mut product,
-    ));
-    text(b"\n");
-}
-
-// Demand 3's two routes by the dot.
-fn show_dots(row_ptr: &[u32], cols: &[u32], values: &[f64], active: &[u64], x: &[f64]) {
-    let mut ptr: [u32; 2] = [9; 2];
-    let mut words: [u32; 2] = [9; 2];
-    let mut masks: [u64; 2] = [9; 2];
-    let mut value_ptr: [u32; 2] = [9; 2];
-    let mut packed: [f64; 3] = [9.0; 3];
-    let mut out_ptr: [u32; 2] = [9; 2];
-    let mut out_cols: [u32; 3] = [9; 3];
-    let mut out_values: [f64; 3] = [9.0; 3];
-    let mut all: [u64; 2] = [9; 2];
-    text(b"pruned:");
-    dot_answer(demand_routes::pruned_dot(
-        1,
-        70,
-        row_ptr,
-        cols,
-        values,
-        70,
-        active,
-        x,
-        0,
-        &mut ptr,
-        &mut words,
-        &mut masks,
-        &mut value_ptr,
-        &mut packed,
-    ));
-    text(b"\nrestricted:");
-    dot_answer(demand_routes::restricted_dot(
-        1,
-        70,
-        row_ptr,
-        cols,
-        values,
-        70,
-        active,
-        x,
-        0,
-        &mut out_ptr,
-        &mut out_cols,
-        &mut out_values,
-        &mut ptr,
-        &mut words,
-        &mut masks,
-        &mut value_ptr,
-        &mut packed,
-        &mut all,
-    ));
-    text(b"\n");
+        &mut [9; 2],
+        &mut [9; 2],
+        &mut [9; 2],
+        &mut [9; 2],
+        &mut [9.0; 3],
+        &mut [9; 2],
+        &mut [9; 2],
+        &mut [9.0; 2],
+        &mut [9.0; 1],
+    );
+    println!(rt; "tiled: {}", Answer(tiled.map(|sum| Bits(sum))))
 }
 
 // The worked row with 3 and 65 active by all three routes.
-fn show_routes() {
-    let row_ptr: [u32; 2] = [0, 4];
-    let cols: [u32; 4] = [65, 3, 3, 64];
-    let values: [f64; 4] = [2.0, 1.0, 0.5, 4.0];
-    let active: [u64; 2] = [8, 2];
-    let x: [f64; 70] = [1.0; 70];
-    show_dots(&row_ptr, &cols, &values, &active, &x);
-    show_tiled(&row_ptr, &cols, &values, &active, &x);
+fn show_routes(rt: &impl Print) -> io::Result<()> {
+    let x = [1.0f64; 70];
+    let row = row_of_70(&[0, 4], &COLS, &VALUES);
+    let mask = DofMask {
+        len: 70,
+        words: &[8, 2],
+    };
+    show_dots(rt, row, mask, &x)?;
+    show_tiled(rt, row, mask, &x)
 }
+
+// ---- totals
 
 // The counts of one of the worked row's dots.
 fn row_report(executed: usize, skipped: usize, active_words: usize) -> AbtmRowDot {
@@ -756,12 +675,12 @@ fn row_report(executed: usize, skipped: usize, active_words: usize) -> AbtmRowDo
         executed_products: executed,
         skipped_products: skipped,
         topology_words: 2,
-        active_words: active_words,
+        active_words,
     }
 }
 
 // The five totals over the first and last of 64 reports; those between are of empty rows.
-fn show_totals(first: AbtmRowDot, last: AbtmRowDot) {
+fn show_totals(rt: &impl Print, first: AbtmRowDot, last: AbtmRowDot) -> io::Result<()> {
     let mut reports = [AbtmRowDot {
         sum: 0.0,
         candidate_products: 0,
@@ -772,41 +691,43 @@ fn show_totals(first: AbtmRowDot, last: AbtmRowDot) {
     }; 64];
     reports[0] = first;
     reports[63] = last;
-    text(b"totals:");
-    match metadata_first_totals::totals_of_64(reports) {
-        Err(e) => refused(e),
-        Ok(t) => {
-            size(t.candidate_products);
-            size(t.executed_products);
-            size(t.skipped_products);
-            size(t.topology_words);
-            size(t.active_words);
-        }
-    }
-    text(b"\n");
+    let totals = metadata_first_totals::totals_of_64(reports);
+    println!(rt; "totals: {}", Answer(totals.map(|all| Counts(all))))
 }
 
-fn main() {
-    show_word(b"word 0", 8, 0, 4);
-    show_word(b"word 1", 3, 1, 6);
-    show_operations(6, 3);
-    show_operations(6, 6);
-    let plots: [usize; 2] = [65, 3];
-    let mut words: [u64; 2] = [0; 2];
-    let mut members: [usize; 4] = [9; 4];
-    show_mask(&plots, &mut words, &mut members);
-    show_plots();
-    show_cancelling();
-    show_empty();
-    show_sets();
-    show_store();
-    show_pairs();
-    show_kinds();
-    show_thresholds(4, 64);
-    show_thresholds(4, 65);
-    show_thresholds(4, 4);
-    show_routes();
-    show_totals(row_report(2, 1, 2), row_report(1, 2, 1));
-    show_totals(row_report(2, 18446744073709551613, 2), row_report(1, 2, 1));
-    show_totals(row_report(2, 18446744073709551614, 2), row_report(1, 2, 1));
+// ---- the program
+
+fn show_all(rt: &impl Print) -> io::Result<()> {
+    show_word(rt, "word 0", 8, 0, 4)?;
+    show_word(rt, "word 1", 3, 1, 6)?;
+    show_operations(rt, 6, 3)?;
+    show_operations(rt, 6, 6)?;
+    show_mask(rt)?;
+    show_plots(rt)?;
+    show_cancelling(rt)?;
+    show_empty(rt)?;
+    show_sets(rt)?;
+    show_store(rt)?;
+    show_pairs(rt)?;
+    show_kinds(rt)?;
+    show_thresholds(rt, 4, 64)?;
+    show_thresholds(rt, 4, 65)?;
+    show_thresholds(rt, 4, 4)?;
+    show_routes(rt)?;
+    show_totals(rt, row_report(2, 1, 2), row_report(1, 2, 1))?;
+    show_totals(
+        rt,
+        row_report(2, 18446744073709551613, 2),
+        row_report(1, 2, 1),
+    )?;
+    show_totals(
+        rt,
+        row_report(2, 18446744073709551614, 2),
+        row_report(1, 2, 1),
+    )
+}
+
+fn main(rt: HostRuntime) {
+    // Where the output can't be written, the rest of it is lost and the status stays 0.
+    let _ = show_all(&rt);
 }

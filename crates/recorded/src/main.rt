@@ -3,11 +3,15 @@
 // 65,536 bytes, none of whose lines goes on in the next. Its output has for each call what came of it: the refusal's number,
 // expected and actual, the result, and every list that was lent to be written. The expected output is what the Rust or the model
 // of document 01 answered (oracle/record).
+// A call is known by its number in the recording; the functions differ in type, so no table holds them.
+// Functions of one form stand apart where the calls, or the lists handed on, differ in type.
+// What is printed goes out by the kit's io: with the library's macros each function would hand on a handle and an answer.
 #![tactic(auto)]
 
 ghost use Rattle.std.specs.Prelude.{◌≤◌};
 
-use abtm::AbtmConfig;
+use abtm::{AbtmConfig, AbtmMatrix, TileKind};
+use csr32::Csr32Matrix;
 use denimrasp_answers::{
     DenimraspBlocks, DenimraspBool, DenimraspCount, DenimraspDot, DenimraspPart, DenimraspRatio,
     DenimraspRegion, DenimraspRestriction, DenimraspSelect, DenimraspStoreStats,
@@ -17,12 +21,13 @@ use denimrasp_answers::{
 use dense_block::DenseBlocks;
 use hybit_core::HybitError;
 use lent::Zero;
-use metadata_first::{AbtmProductPruningStats, AbtmRowDot};
+use mask::DofMask;
+use metadata_first::{AbtmMetadataFirstMatrix, AbtmProductPruningStats, AbtmRowDot};
 use restricted::{ColumnRestriction, LocalRegion};
-use topology::AbtmTopologyWord;
+use topology::{AbtmTopology, AbtmTopologyWord};
 use word::Operation;
 
-// The places that a recorded list has at most.
+// The most places of a recorded list. The rooms are fixed lists: a Vec's memory can be refused, which each call would hand on.
 const ROOM: usize = 4096;
 
 // The places of the words of one mask: one more than a mask of 2^20 has.
@@ -30,29 +35,7 @@ const MASK_ROOM: usize = 16385;
 
 // Ten times v and one digit more, the low 64 bits.
 fn ten_times(v: u64, digit: u8) -> u64 {
-    let two = std::num::wrapping_add_u64(v, v);
-    let four = std::num::wrapping_add_u64(two, two);
-    let eight = std::num::wrapping_add_u64(four, four);
-    let ten = std::num::wrapping_add_u64(eight, two);
-    std::num::wrapping_add_u64(ten, digit as u64)
-}
-
-// The next number of the input; the one after it starts behind the space or line feed.
-fn numeral(text: &[u8], at: &mut usize) -> u64 {
-    let mut value: u64 = 0;
-    let mut i = *at;
-    // The place is the caller's, and goes on from where the last number ended.
-    while i < text.len() {
-        let b = text[i];
-        i += 1;
-        if b < 48 {
-            *at = i;
-            return value;
-        }
-        value = ten_times(value, b - 48);
-    }
-    *at = i;
-    value
+    v.wrapping_mul(10).wrapping_add(digit as u64)
 }
 
 // The float of a pattern; a NaN's patterns are all one NaN.
@@ -66,7 +49,7 @@ fn float_of(bits: u64) -> f64 {
     f64::from_bits(bits)
 }
 
-// A list's length, at most the places that there are.
+// A list's length, at most the places that there are: two numbers of different width, so it is no min.
 fn places(n: u64, room: usize) -> usize
     ensures { result ≤ room }
 {
@@ -76,25 +59,16 @@ fn places(n: u64, room: usize) -> usize
     room
 }
 
-fn index(text: &[u8], at: &mut usize) -> usize {
-    numeral(text, at) as usize
-}
-
-// A number below 256.
-fn byte(text: &[u8], at: &mut usize) -> u8 {
-    (numeral(text, at) % 256) as u8
-}
-
 // An element of a recorded list: as the input and the output have it.
 trait Recorded: Zero {
-    fn read(text: &[u8], at: &mut usize) -> Self;
+    fn read(input: &mut Input) -> Self;
 
     fn show(self);
 }
 
 impl Recorded for u32 {
-    fn read(text: &[u8], at: &mut usize) -> u32 {
-        hybit_core::narrow(index(text, at))
+    fn read(input: &mut Input) -> u32 {
+        hybit_core::narrow(input.index())
     }
 
     fn show(self) {
@@ -103,8 +77,8 @@ impl Recorded for u32 {
 }
 
 impl Recorded for u64 {
-    fn read(text: &[u8], at: &mut usize) -> u64 {
-        numeral(text, at)
+    fn read(input: &mut Input) -> u64 {
+        input.numeral()
     }
 
     fn show(self) {
@@ -113,8 +87,8 @@ impl Recorded for u64 {
 }
 
 impl Recorded for usize {
-    fn read(text: &[u8], at: &mut usize) -> usize {
-        index(text, at)
+    fn read(input: &mut Input) -> usize {
+        input.index()
     }
 
     fn show(self) {
@@ -123,28 +97,13 @@ impl Recorded for usize {
 }
 
 impl Recorded for f64 {
-    fn read(text: &[u8], at: &mut usize) -> f64 {
-        float_of(numeral(text, at))
+    fn read(input: &mut Input) -> f64 {
+        float_of(input.numeral())
     }
 
     fn show(self) {
         float(self);
     }
-}
-
-// The next list of the input, in the first places of the room for it.
-fn read<'a, T: Recorded>(text: &[u8], at: &mut usize, room: &'a mut [T]) -> &'a mut [T] {
-    let used = places(numeral(text, at), room.len());
-    for place in &mut room[..used] {
-        *place = T::read(text, at);
-    }
-    &mut room[..used]
-}
-
-// The same list, to be read alone: a call is handed it without a loan of its own.
-fn list<'a, T: Recorded>(text: &[u8], at: &mut usize, room: &'a mut [T]) -> &'a [T] {
-    let list = read(text, at, room);
-    &list[..]
 }
 
 // The rows and columns that come first in most records.
@@ -154,10 +113,69 @@ struct Frame {
     ncols: usize,
 }
 
-fn read_frame(text: &[u8], at: &mut usize) -> Frame {
-    let nrows = index(text, at);
-    let ncols = index(text, at);
-    Frame { nrows, ncols }
+// A block of the input, and the place in it from which it goes on.
+#[derive(Drop)]
+struct Input<'a> {
+    text: &'a [u8],
+    at: usize,
+}
+
+impl<'a> Input<'a> {
+    // The next number; the one after it starts behind the space or line feed.
+    fn numeral(&mut self) -> u64 {
+        let mut value: u64 = 0;
+        // The place goes on from where the last number ended.
+        while self.at < self.text.len() {
+            let b = self.text[self.at];
+            self.at += 1;
+            if b < 48 {
+                return value;
+            }
+            value = ten_times(value, b - 48);
+        }
+        value
+    }
+
+    fn index(&mut self) -> usize {
+        self.numeral() as usize
+    }
+
+    // A number below 256.
+    fn byte(&mut self) -> u8 {
+        (self.numeral() % 256) as u8
+    }
+
+    fn frame(&mut self) -> Frame {
+        let nrows = self.index();
+        let ncols = self.index();
+        Frame { nrows, ncols }
+    }
+
+    // The next list, in the first places of the room for it.
+    fn read<'b, T: Recorded>(&mut self, room: &'b mut [T]) -> &'b mut [T] {
+        let used = places(self.numeral(), room.len());
+        for place in &mut room[..used] {
+            *place = T::read(self);
+        }
+        &mut room[..used]
+    }
+
+    // The same list, to be read alone: a call is handed it without a loan of its own.
+    fn list<'b, T: Recorded>(&mut self, room: &'b mut [T]) -> &'b [T] {
+        let list = self.read(room);
+        &list[..]
+    }
+}
+
+// Recorded blocks: `six` tells their width, as the C interface has it.
+#[derive(Clone, Copy)]
+struct Blocks<'a> {
+    nrows: usize,
+    ncols: usize,
+    six: bool,
+    row_ptr: &'a [u32],
+    col_idx: &'a [u32],
+    values: &'a [f64],
 }
 
 fn number(n: u64) {
@@ -170,14 +188,10 @@ fn size(n: usize) {
 }
 
 fn truth(b: bool) {
-    if b {
-        number(1);
-    } else {
-        number(0);
-    }
+    number(u64::from(b));
 }
 
-// A float's bits, and one pattern for every NaN.
+// A float's bits, and one pattern for every NaN: in decimal, where plots and trial print hexadecimal.
 fn float(x: f64) {
     if x == x {
         number(f64::to_bits(x));
@@ -345,120 +359,107 @@ fn show_part<T: Recorded>(part: Result<&[T], HybitError>) {
     }
 }
 
-// Lent words.
-fn show_words(ptr: &[u32], words: &[u32], masks: &[u64]) {
-    show(ptr);
-    show(words);
-    show(masks);
-}
-
-// A lent plot list, or lent blocks.
-fn show_list(row_ptr: &[u32], col_idx: &[u32], values: &[f64]) {
-    show(row_ptr);
-    show(col_idx);
-    show(values);
+// The three lists of words, of a plot list or of blocks.
+fn show_three<A: Recorded, B: Recorded, C: Recorded>(first: &[A], second: &[B], third: &[C]) {
+    show(first);
+    show(second);
+    show(third);
 }
 
 // The calls that are handed a mask first. A record is read once, by the function of all calls that begin with it: the time to prove
 // a function goes by its statements times its locals, and each list that it reads costs it five of either.
-fn mask_calls(call: u64, text: &[u8], at: &mut usize) {
+fn mask_calls(call: u64, input: &mut Input) {
     let mut words_room = [0u64; MASK_ROOM];
-    let len = index(text, at);
-    let words = read(text, at, &mut words_room);
+    let len = input.index();
+    let words = input.read(&mut words_room);
     match call {
-        4 | 6 | 7 | 9 | 10 | 11 => mask_change(call, text, at, len, words),
-        _ => mask_read(call, text, at, len, words),
+        4 | 6 | 7 | 9 | 10 | 11 => mask_change(call, input, len, words),
+        _ => mask_read(call, input, DofMask { len, words }),
     }
 }
 
 // The calls that leave the mask as it is.
-fn mask_read(call: u64, text: &[u8], at: &mut usize, len: usize, words: &[u64]) {
+fn mask_read(call: u64, input: &mut Input, mask: DofMask) {
     match call {
-        1 | 240 => mask_place(call, index(text, at), len, words),
-        8 => mask_indices(text, at, len, words),
-        12 => mask_intersects(text, at, len, words),
-        _ => mask_question(call, len, words),
+        1 | 240 => mask_place(call, input.index(), mask),
+        8 => mask_indices(input, mask),
+        12 => mask_intersects(input, mask),
+        _ => mask_question(call, mask),
     }
 }
 
-fn mask_question(call: u64, len: usize, words: &[u64]) {
+fn mask_question(call: u64, mask: DofMask) {
     match call {
-        0 => verdict(denimrasp::denimrasp_mask_check(len, words)),
-        2 => count(denimrasp::denimrasp_mask_count_ones(len, words)),
-        _ => answer(denimrasp::denimrasp_mask_is_empty(len, words)),
+        0 => verdict(denimrasp::denimrasp_mask_check(mask.len, mask.words)),
+        2 => count(denimrasp::denimrasp_mask_count_ones(mask.len, mask.words)),
+        _ => answer(denimrasp::denimrasp_mask_is_empty(mask.len, mask.words)),
     }
 }
 
-fn mask_place(call: u64, index: usize, len: usize, words: &[u64]) {
+fn mask_place(call: u64, index: usize, mask: DofMask) {
     if call == 1 {
-        answer(denimrasp::denimrasp_mask_contains(len, words, index));
+        answer(denimrasp::denimrasp_mask_contains(mask.len, mask.words, index));
     } else {
         refusal(0, 0, 0);
-        truth(mask::is_member(len, words, index));
+        truth(mask.is_member(index));
     }
 }
 
-fn mask_change(call: u64, text: &[u8], at: &mut usize, len: usize, words: &mut [u64]) {
-    let r = mask_changed(call, text, at, len, words);
+// The words are written: they stay apart, as the C interface has them.
+fn mask_change(call: u64, input: &mut Input, len: usize, words: &mut [u64]) {
+    let r = mask_changed(call, input, len, words);
     verdict(r);
     show(words);
 }
 
-fn mask_changed(
-    call: u64,
-    text: &[u8],
-    at: &mut usize,
-    len: usize,
-    words: &mut [u64],
-) -> DenimraspVerdict {
+// The words are written: they stay apart, as the C interface has them.
+fn mask_changed(call: u64, input: &mut Input, len: usize, words: &mut [u64]) -> DenimraspVerdict {
     match call {
         4 => denimrasp::denimrasp_mask_new(len, words),
-        6 => mask_set(text, at, len, words),
-        7 => mask_or_word(text, at, len, words),
-        _ => mask_assign(call, text, at, len, words),
+        6 => mask_set(input, len, words),
+        7 => mask_or_word(input, len, words),
+        _ => mask_assign(call, input, len, words),
     }
 }
 
-fn mask_set(text: &[u8], at: &mut usize, len: usize, words: &mut [u64]) -> DenimraspVerdict {
-    let index = index(text, at);
-    let value = numeral(text, at) != 0;
+// The words are written: they stay apart, as the C interface has them.
+fn mask_set(input: &mut Input, len: usize, words: &mut [u64]) -> DenimraspVerdict {
+    let index = input.index();
+    let value = input.numeral() != 0;
     denimrasp::denimrasp_mask_set(len, words, index, value)
 }
 
-fn mask_or_word(text: &[u8], at: &mut usize, len: usize, words: &mut [u64]) -> DenimraspVerdict {
-    let word_index = index(text, at);
-    let bits = numeral(text, at);
+// The words are written: they stay apart, as the C interface has them.
+fn mask_or_word(input: &mut Input, len: usize, words: &mut [u64]) -> DenimraspVerdict {
+    let word_index = input.index();
+    let bits = input.numeral();
     denimrasp::denimrasp_mask_or_word(len, words, word_index, bits)
 }
 
-fn mask_indices(text: &[u8], at: &mut usize, len: usize, words: &[u64]) {
+fn mask_indices(input: &mut Input, mask: DofMask) {
     let mut out_room = [0usize; ROOM];
-    let out = read(text, at, &mut out_room);
-    count(denimrasp::denimrasp_mask_indices(len, words, out));
+    let out = input.read(&mut out_room);
+    count(denimrasp::denimrasp_mask_indices(mask.len, mask.words, out));
     show(out);
 }
 
-fn mask_intersects(text: &[u8], at: &mut usize, len: usize, words: &[u64]) {
+fn mask_intersects(input: &mut Input, mask: DofMask) {
     let mut other_room = [0u64; MASK_ROOM];
-    let other_len = index(text, at);
-    let other = list(text, at, &mut other_room);
-    answer(denimrasp::denimrasp_mask_intersects(len, words, other_len, other));
+    let other_len = input.index();
+    let other = input.list(&mut other_room);
+    answer(denimrasp::denimrasp_mask_intersects(mask.len, mask.words, other_len, other));
 }
 
 // The mask changed by a second one.
-fn mask_assign(
-    call: u64,
-    text: &[u8],
-    at: &mut usize,
-    len: usize,
-    words: &mut [u64],
-) -> DenimraspVerdict {
+// The words are written: they stay apart, as the C interface has them.
+fn mask_assign(call: u64, input: &mut Input, len: usize, words: &mut [u64]) -> DenimraspVerdict {
     let mut other_room = [0u64; MASK_ROOM];
-    let other_len = index(text, at);
-    let other = list(text, at, &mut other_room);
+    let other_len = input.index();
+    let other = input.list(&mut other_room);
     mask_combined(call, len, words, other_len, other)
 }
 
+// The words are written: they stay apart, as the C interface has them.
 fn mask_combined(
     call: u64,
     len: usize,
@@ -473,128 +474,139 @@ fn mask_combined(
     }
 }
 
-fn mask_from_indices(text: &[u8], at: &mut usize) {
+fn mask_from_indices(input: &mut Input) {
     let mut indices_room = [0usize; ROOM];
     let mut words_room = [0u64; MASK_ROOM];
-    let len = index(text, at);
-    let indices = read(text, at, &mut indices_room);
-    let words = read(text, at, &mut words_room);
+    let len = input.index();
+    let indices = input.read(&mut indices_room);
+    let words = input.read(&mut words_room);
     let r = denimrasp::denimrasp_mask_from_indices(len, indices, words);
     verdict(r);
     show(words);
 }
 
 // The calls that are handed a plot list first.
-fn csr32_calls(call: u64, text: &[u8], at: &mut usize) {
+fn csr32_calls(call: u64, input: &mut Input) {
     let mut row_ptr_room = [0u32; ROOM];
     let mut col_idx_room = [0u32; ROOM];
     let mut values_room = [0.0f64; ROOM];
-    let f = read_frame(text, at);
-    let row_ptr = list(text, at, &mut row_ptr_room);
-    let col_idx = list(text, at, &mut col_idx_room);
-    let values = list(text, at, &mut values_room);
-    csr32_call(call, text, at, f, row_ptr, col_idx, values);
+    let f = input.frame();
+    let row_ptr = input.list(&mut row_ptr_room);
+    let col_idx = input.list(&mut col_idx_room);
+    let values = input.list(&mut values_room);
+    csr32_call(
+        call,
+        input,
+        Csr32Matrix {
+            nrows: f.nrows,
+            ncols: f.ncols,
+            row_ptr,
+            col_idx,
+            values,
+        },
+    );
 }
 
-fn csr32_call(
-    call: u64,
-    text: &[u8],
-    at: &mut usize,
-    f: Frame,
-    row_ptr: &[u32],
-    col_idx: &[u32],
-    values: &[f64],
-) {
+fn csr32_call(call: u64, input: &mut Input, csr: Csr32Matrix) {
     match call {
-        14 => csr32_apply(text, at, f, row_ptr, col_idx, values),
-        18 => topology_from_csr32(text, at, f, row_ptr, col_idx, values),
-        32 => metadata_first_from_csr32(text, at, f, row_ptr, col_idx, values),
-        51 => abtm_from_csr32(text, at, f, row_ptr, col_idx, values),
-        60 | 64 => csr32_masked(call, text, at, f, row_ptr, col_idx, values),
-        69 | 260 => csr32_blocks(call, text, at, f, row_ptr, col_idx, values),
-        _ => csr32_question(call, f, row_ptr, col_idx, values),
+        14 => csr32_apply(input, csr),
+        18 => topology_from_csr32(input, csr),
+        32 => metadata_first_from_csr32(input, csr),
+        51 => abtm_from_csr32(input, csr),
+        60 | 64 => csr32_masked(call, input, csr),
+        69 | 260 => csr32_blocks(call, input, csr),
+        _ => csr32_question(call, csr),
     }
 }
 
-fn csr32_question(call: u64, f: Frame, row_ptr: &[u32], col_idx: &[u32], values: &[f64]) {
-    let m = f.nrows;
-    let n = f.ncols;
+fn csr32_question(call: u64, csr: Csr32Matrix) {
     match call {
-        13 => verdict(denimrasp::denimrasp_csr32_check(m, n, row_ptr, col_idx, values)),
-        15 => count(denimrasp::denimrasp_csr32_metadata_bytes(m, n, row_ptr, col_idx, values)),
-        16 => count(denimrasp::denimrasp_csr32_storage_bytes(m, n, row_ptr, col_idx, values)),
-        31 => verdict(denimrasp::denimrasp_metadata_first_check_merge(
-            m, n, row_ptr, col_idx, values,
+        13 => verdict(denimrasp::denimrasp_csr32_check(
+            csr.nrows,
+            csr.ncols,
+            csr.row_ptr,
+            csr.col_idx,
+            csr.values,
         )),
-        _ => count(dense_block_counts::structural_slots(m, n, row_ptr, col_idx, values).into()),
+        15 => count(denimrasp::denimrasp_csr32_metadata_bytes(
+            csr.nrows,
+            csr.ncols,
+            csr.row_ptr,
+            csr.col_idx,
+            csr.values,
+        )),
+        16 => count(denimrasp::denimrasp_csr32_storage_bytes(
+            csr.nrows,
+            csr.ncols,
+            csr.row_ptr,
+            csr.col_idx,
+            csr.values,
+        )),
+        31 => verdict(denimrasp::denimrasp_metadata_first_check_merge(
+            csr.nrows,
+            csr.ncols,
+            csr.row_ptr,
+            csr.col_idx,
+            csr.values,
+        )),
+        _ => count(dense_block_counts::structural_slots(csr).into()),
     }
 }
 
-fn csr32_apply(
-    text: &[u8],
-    at: &mut usize,
-    f: Frame,
-    row_ptr: &[u32],
-    col_idx: &[u32],
-    values: &[f64],
-) {
+fn csr32_apply(input: &mut Input, csr: Csr32Matrix) {
     let mut x_room = [0.0f64; ROOM];
     let mut y_room = [0.0f64; ROOM];
-    let x = list(text, at, &mut x_room);
-    let y = read(text, at, &mut y_room);
-    verdict(denimrasp::denimrasp_csr32_apply(f.nrows, f.ncols, row_ptr, col_idx, values, x, y));
+    let x = input.list(&mut x_room);
+    let y = input.read(&mut y_room);
+    verdict(denimrasp::denimrasp_csr32_apply(
+        csr.nrows,
+        csr.ncols,
+        csr.row_ptr,
+        csr.col_idx,
+        csr.values,
+        x,
+        y,
+    ));
     show(y);
 }
 
-fn topology_from_csr32(
-    text: &[u8],
-    at: &mut usize,
-    f: Frame,
-    row_ptr: &[u32],
-    col_idx: &[u32],
-    values: &[f64],
-) {
+fn topology_from_csr32(input: &mut Input, csr: Csr32Matrix) {
     let mut ptr_room = [0u32; ROOM];
     let mut words_room = [0u32; ROOM];
     let mut masks_room = [0u64; ROOM];
-    let ptr = read(text, at, &mut ptr_room);
-    let words = read(text, at, &mut words_room);
-    let masks = read(text, at, &mut masks_room);
+    let ptr = input.read(&mut ptr_room);
+    let words = input.read(&mut words_room);
+    let masks = input.read(&mut masks_room);
     let r = denimrasp::denimrasp_topology_from_csr32(
-        f.nrows, f.ncols, row_ptr, col_idx, values, ptr, words, masks,
+        csr.nrows,
+        csr.ncols,
+        csr.row_ptr,
+        csr.col_idx,
+        csr.values,
+        ptr,
+        words,
+        masks,
     );
     built(r);
-    show_words(ptr, words, masks);
+    show_three(ptr, words, masks);
 }
 
-fn metadata_first_from_csr32(
-    text: &[u8],
-    at: &mut usize,
-    f: Frame,
-    row_ptr: &[u32],
-    col_idx: &[u32],
-    values: &[f64],
-) {
+fn metadata_first_from_csr32(input: &mut Input, csr: Csr32Matrix) {
     let mut ptr_room = [0u32; ROOM];
     let mut words_room = [0u32; ROOM];
     let mut masks_room = [0u64; ROOM];
     let mut value_ptr_room = [0u32; ROOM];
     let mut packed_room = [0.0f64; ROOM];
-    let ptr = read(text, at, &mut ptr_room);
-    let words = read(text, at, &mut words_room);
-    let masks = read(text, at, &mut masks_room);
-    let value_ptr = read(text, at, &mut value_ptr_room);
-    let packed = read(text, at, &mut packed_room);
-    pack(
-        f, row_ptr, col_idx, values, ptr, words, masks, value_ptr, packed,
-    );
+    let ptr = input.read(&mut ptr_room);
+    let words = input.read(&mut words_room);
+    let masks = input.read(&mut masks_room);
+    let value_ptr = input.read(&mut value_ptr_room);
+    let packed = input.read(&mut packed_room);
+    pack(csr, ptr, words, masks, value_ptr, packed);
 }
 
 fn pack(
-    f: Frame,
-    row_ptr: &[u32],
-    col_idx: &[u32],
-    values: &[f64],
+    csr: Csr32Matrix,
     ptr: &mut [u32],
     words: &mut [u32],
     masks: &mut [u64],
@@ -602,42 +614,39 @@ fn pack(
     packed: &mut [f64],
 ) {
     built(denimrasp::denimrasp_metadata_first_from_csr32(
-        f.nrows, f.ncols, row_ptr, col_idx, values, ptr, words, masks, value_ptr, packed,
+        csr.nrows,
+        csr.ncols,
+        csr.row_ptr,
+        csr.col_idx,
+        csr.values,
+        ptr,
+        words,
+        masks,
+        value_ptr,
+        packed,
     ));
-    show_words(ptr, words, masks);
+    show_three(ptr, words, masks);
     show(value_ptr);
     show(packed);
 }
 
-fn abtm_from_csr32(
-    text: &[u8],
-    at: &mut usize,
-    f: Frame,
-    row_ptr: &[u32],
-    col_idx: &[u32],
-    values: &[f64],
-) {
+fn abtm_from_csr32(input: &mut Input, csr: Csr32Matrix) {
     let mut ptr_room = [0u32; ROOM];
     let mut masks_room = [0u64; ROOM];
     let mut offsets_room = [0u32; ROOM];
     let mut metas_room = [0u32; ROOM];
     let mut slots_room = [0.0f64; ROOM];
-    let thresholds = thresholds(text, at);
-    let ptr = read(text, at, &mut ptr_room);
-    let masks = read(text, at, &mut masks_room);
-    let offsets = read(text, at, &mut offsets_room);
-    let metas = read(text, at, &mut metas_room);
-    let slots = read(text, at, &mut slots_room);
-    tile(
-        f, row_ptr, col_idx, values, thresholds, ptr, masks, offsets, metas, slots,
-    );
+    let thresholds = thresholds(input);
+    let ptr = input.read(&mut ptr_room);
+    let masks = input.read(&mut masks_room);
+    let offsets = input.read(&mut offsets_room);
+    let metas = input.read(&mut metas_room);
+    let slots = input.read(&mut slots_room);
+    tile(csr, thresholds, ptr, masks, offsets, metas, slots);
 }
 
 fn tile(
-    f: Frame,
-    row_ptr: &[u32],
-    col_idx: &[u32],
-    values: &[f64],
+    csr: Csr32Matrix,
     thresholds: AbtmConfig,
     ptr: &mut [u32],
     masks: &mut [u64],
@@ -646,11 +655,11 @@ fn tile(
     slots: &mut [f64],
 ) {
     tiles_built(denimrasp::denimrasp_abtm_from_csr32(
-        f.nrows,
-        f.ncols,
-        row_ptr,
-        col_idx,
-        values,
+        csr.nrows,
+        csr.ncols,
+        csr.row_ptr,
+        csr.col_idx,
+        csr.values,
         thresholds.sparse_max_nnz,
         thresholds.dense_min_nnz,
         ptr,
@@ -661,187 +670,118 @@ fn tile(
     ));
     show(ptr);
     show(masks);
-    show_list(offsets, metas, slots);
+    show_three(offsets, metas, slots);
 }
 
 // A plot list cut to the members of a mask.
-fn csr32_masked(
-    call: u64,
-    text: &[u8],
-    at: &mut usize,
-    f: Frame,
-    row_ptr: &[u32],
-    col_idx: &[u32],
-    values: &[f64],
-) {
+fn csr32_masked(call: u64, input: &mut Input, csr: Csr32Matrix) {
     let mut mask_room = [0u64; ROOM];
-    let len = index(text, at);
-    let mask = list(text, at, &mut mask_room);
+    let len = input.index();
+    let mask = input.list(&mut mask_room);
     if call == 60 {
-        restricted_from_csr32(text, at, f, row_ptr, col_idx, values, len, mask);
+        restricted_from_csr32(input, csr, DofMask { len, words: mask });
     } else {
-        local_from_csr32(text, at, f, row_ptr, col_idx, values, len, mask);
+        local_from_csr32(input, csr, DofMask { len, words: mask });
     }
 }
 
-fn restricted_from_csr32(
-    text: &[u8],
-    at: &mut usize,
-    f: Frame,
-    row_ptr: &[u32],
-    col_idx: &[u32],
-    values: &[f64],
-    len: usize,
-    mask: &[u64],
-) {
+fn restricted_from_csr32(input: &mut Input, csr: Csr32Matrix, mask: DofMask) {
     let mut out_row_ptr_room = [0u32; ROOM];
     let mut out_col_idx_room = [0u32; ROOM];
     let mut out_values_room = [0.0f64; ROOM];
-    let out_row_ptr = read(text, at, &mut out_row_ptr_room);
-    let out_col_idx = read(text, at, &mut out_col_idx_room);
-    let out_values = read(text, at, &mut out_values_room);
+    let out_row_ptr = input.read(&mut out_row_ptr_room);
+    let out_col_idx = input.read(&mut out_col_idx_room);
+    let out_values = input.read(&mut out_values_room);
     restriction(denimrasp::denimrasp_restricted_from_csr32(
-        f.nrows,
-        f.ncols,
-        row_ptr,
-        col_idx,
-        values,
-        len,
-        mask,
+        csr.nrows,
+        csr.ncols,
+        csr.row_ptr,
+        csr.col_idx,
+        csr.values,
+        mask.len,
+        mask.words,
         out_row_ptr,
         out_col_idx,
         out_values,
     ));
-    show_list(out_row_ptr, out_col_idx, out_values);
+    show_three(out_row_ptr, out_col_idx, out_values);
 }
 
-fn local_from_csr32(
-    text: &[u8],
-    at: &mut usize,
-    f: Frame,
-    row_ptr: &[u32],
-    col_idx: &[u32],
-    values: &[f64],
-    len: usize,
-    mask: &[u64],
-) {
+fn local_from_csr32(input: &mut Input, csr: Csr32Matrix, mask: DofMask) {
     let mut members_room = [0u32; ROOM];
     let mut out_row_ptr_room = [0u32; ROOM];
     let mut out_col_idx_room = [0u32; ROOM];
     let mut out_values_room = [0.0f64; ROOM];
-    let members = read(text, at, &mut members_room);
-    let out_row_ptr = read(text, at, &mut out_row_ptr_room);
-    let out_col_idx = read(text, at, &mut out_col_idx_room);
-    let out_values = read(text, at, &mut out_values_room);
-    gather_region(
-        f,
-        row_ptr,
-        col_idx,
-        values,
-        len,
-        mask,
-        members,
-        out_row_ptr,
-        out_col_idx,
-        out_values,
-    );
+    let members = input.read(&mut members_room);
+    let out_row_ptr = input.read(&mut out_row_ptr_room);
+    let out_col_idx = input.read(&mut out_col_idx_room);
+    let out_values = input.read(&mut out_values_room);
+    gather_region(csr, mask, members, out_row_ptr, out_col_idx, out_values);
 }
 
 fn gather_region(
-    f: Frame,
-    row_ptr: &[u32],
-    col_idx: &[u32],
-    values: &[f64],
-    len: usize,
-    mask: &[u64],
+    csr: Csr32Matrix,
+    mask: DofMask,
     members: &mut [u32],
     out_row_ptr: &mut [u32],
     out_col_idx: &mut [u32],
     out_values: &mut [f64],
 ) {
     region(denimrasp::denimrasp_local_from_csr32(
-        f.nrows,
-        f.ncols,
-        row_ptr,
-        col_idx,
-        values,
-        len,
-        mask,
+        csr.nrows,
+        csr.ncols,
+        csr.row_ptr,
+        csr.col_idx,
+        csr.values,
+        mask.len,
+        mask.words,
         members,
         out_row_ptr,
         out_col_idx,
         out_values,
     ));
     show(members);
-    show_list(out_row_ptr, out_col_idx, out_values);
+    show_three(out_row_ptr, out_col_idx, out_values);
 }
 
 // The builds of blocks, and of their places alone.
-fn csr32_blocks(
-    call: u64,
-    text: &[u8],
-    at: &mut usize,
-    f: Frame,
-    row_ptr: &[u32],
-    col_idx: &[u32],
-    values: &[f64],
-) {
-    let six = numeral(text, at) != 0;
+fn csr32_blocks(call: u64, input: &mut Input, csr: Csr32Matrix) {
+    let six = input.numeral() != 0;
     if call == 69 {
-        dense_block_from_csr32(text, at, f, row_ptr, col_idx, values, six);
+        dense_block_from_csr32(input, csr, six);
     } else {
-        block_columns(text, at, f, row_ptr, col_idx, values, six);
+        block_columns(input, csr, six);
     }
 }
 
-fn dense_block_from_csr32(
-    text: &[u8],
-    at: &mut usize,
-    f: Frame,
-    row_ptr: &[u32],
-    col_idx: &[u32],
-    values: &[f64],
-    six: bool,
-) {
+fn dense_block_from_csr32(input: &mut Input, csr: Csr32Matrix, six: bool) {
     let mut out_row_ptr_room = [0u32; ROOM];
     let mut out_col_idx_room = [0u32; ROOM];
     let mut out_values_room = [0.0f64; ROOM];
-    let out_row_ptr = read(text, at, &mut out_row_ptr_room);
-    let out_col_idx = read(text, at, &mut out_col_idx_room);
-    let out_values = read(text, at, &mut out_values_room);
+    let out_row_ptr = input.read(&mut out_row_ptr_room);
+    let out_col_idx = input.read(&mut out_col_idx_room);
+    let out_values = input.read(&mut out_values_room);
     blocks_built(denimrasp::denimrasp_dense_block_from_csr32(
-        f.nrows,
-        f.ncols,
-        row_ptr,
-        col_idx,
-        values,
+        csr.nrows,
+        csr.ncols,
+        csr.row_ptr,
+        csr.col_idx,
+        csr.values,
         six,
         out_row_ptr,
         out_col_idx,
         out_values,
     ));
-    show_list(out_row_ptr, out_col_idx, out_values);
+    show_three(out_row_ptr, out_col_idx, out_values);
 }
 
-fn block_columns(
-    text: &[u8],
-    at: &mut usize,
-    f: Frame,
-    row_ptr: &[u32],
-    col_idx: &[u32],
-    values: &[f64],
-    six: bool,
-) {
+fn block_columns(input: &mut Input, csr: Csr32Matrix, six: bool) {
     let mut out_row_ptr_room = [0u32; ROOM];
     let mut out_col_idx_room = [0u32; ROOM];
-    let out_row_ptr = read(text, at, &mut out_row_ptr_room);
-    let out_col_idx = read(text, at, &mut out_col_idx_room);
+    let out_row_ptr = input.read(&mut out_row_ptr_room);
+    let out_col_idx = input.read(&mut out_col_idx_room);
     count(dense_block_columns::from_csr32(
-        f.nrows,
-        f.ncols,
-        row_ptr,
-        col_idx,
-        values,
+        csr,
         denimrasp_answers::block_size(six),
         out_row_ptr,
         out_col_idx,
@@ -852,152 +792,157 @@ fn block_columns(
 }
 
 // The calls that are handed words first.
-fn words_calls(call: u64, text: &[u8], at: &mut usize) {
-    let mut ptr_room = [0u32; ROOM];
-    let mut words_room = [0u32; ROOM];
-    let mut masks_room = [0u64; ROOM];
-    let f = read_frame(text, at);
-    let ptr = list(text, at, &mut ptr_room);
-    let words = list(text, at, &mut words_room);
-    let masks = list(text, at, &mut masks_room);
-    words_call(call, text, at, f, ptr, words, masks);
-}
-
 // The total of words, which call 245 alone lacks.
-fn total(call: u64, text: &[u8], at: &mut usize) -> usize {
+fn total(call: u64, input: &mut Input) -> usize {
     if call == 245 {
         return 0;
     }
-    index(text, at)
+    input.index()
 }
 
-fn words_call(
-    call: u64,
-    text: &[u8],
-    at: &mut usize,
-    f: Frame,
-    ptr: &[u32],
-    words: &[u32],
-    masks: &[u64],
-) {
-    let nnz = total(call, text, at);
+fn words_calls(call: u64, input: &mut Input) {
+    let mut ptr_room = [0u32; ROOM];
+    let mut words_room = [0u32; ROOM];
+    let mut masks_room = [0u64; ROOM];
+    let f = input.frame();
+    let topology = AbtmTopology {
+        nrows: f.nrows,
+        ncols: f.ncols,
+        row_word_ptr: input.list(&mut ptr_room),
+        word_indices: input.list(&mut words_room),
+        masks: input.list(&mut masks_room),
+        structural_nnz: total(call, input),
+    };
+    words_call(call, input, topology);
+}
+
+fn words_call(call: u64, input: &mut Input, topology: AbtmTopology) {
     match call {
-        17 | 25 | 245 => topology_question(call, f, ptr, words, masks, nnz),
-        19 | 20 | 21 | 246 | 247 => topology_row(call, text, at, f, ptr, words, masks, nnz),
-        22 | 23 | 24 => topology_row_place(call, text, at, f, ptr, words, masks, nnz),
-        26 | 27 | 28 | 29 => topology_operation(call, text, at, f, ptr, words, masks, nnz),
-        _ => store_calls(call, text, at, f, ptr, words, masks, nnz),
+        17 | 25 | 245 => topology_question(call, topology),
+        19 | 20 | 21 | 246 | 247 => topology_row(call, input, topology),
+        22 | 23 | 24 => topology_row_place(call, input, topology),
+        26 | 27 | 28 | 29 => topology_operation(call, input, topology),
+        _ => store_calls(call, input, topology),
     }
 }
 
-fn topology_question(call: u64, f: Frame, ptr: &[u32], words: &[u32], masks: &[u64], nnz: usize) {
-    let m = f.nrows;
-    let n = f.ncols;
+fn topology_question(call: u64, topology: AbtmTopology) {
     match call {
-        17 => verdict(denimrasp::denimrasp_topology_check(m, n, ptr, words, masks, nnz)),
-        25 => word_figures(denimrasp::denimrasp_topology_stats(m, n, ptr, words, masks, nnz)),
-        _ => verdict(topology::check_lists(m, n, ptr, words, masks).into()),
+        17 => verdict(denimrasp::denimrasp_topology_check(
+            topology.nrows,
+            topology.ncols,
+            topology.row_word_ptr,
+            topology.word_indices,
+            topology.masks,
+            topology.structural_nnz,
+        )),
+        25 => word_figures(denimrasp::denimrasp_topology_stats(
+            topology.nrows,
+            topology.ncols,
+            topology.row_word_ptr,
+            topology.word_indices,
+            topology.masks,
+            topology.structural_nnz,
+        )),
+        _ => verdict(topology.check_lists().into()),
     }
 }
 
 // The questions to a row.
-fn topology_row(
-    call: u64,
-    text: &[u8],
-    at: &mut usize,
-    f: Frame,
-    ptr: &[u32],
-    words: &[u32],
-    masks: &[u64],
-    nnz: usize,
-) {
-    let m = f.nrows;
-    let n = f.ncols;
-    let row = index(text, at);
+fn topology_row(call: u64, input: &mut Input, topology: AbtmTopology) {
+    let row = input.index();
     match call {
-        19 => part(denimrasp::denimrasp_topology_row_words(m, n, ptr, words, masks, nnz, row)),
-        20 => count(denimrasp::denimrasp_topology_row_nonempty_words(
-            m, n, ptr, words, masks, nnz, row,
+        19 => part(denimrasp::denimrasp_topology_row_words(
+            topology.nrows,
+            topology.ncols,
+            topology.row_word_ptr,
+            topology.word_indices,
+            topology.masks,
+            topology.structural_nnz,
+            row,
         )),
-        21 => count(denimrasp::denimrasp_topology_row_popcount(m, n, ptr, words, masks, nnz, row)),
-        _ => topology_row_part(call, f, ptr, words, masks, nnz, row),
+        20 => count(denimrasp::denimrasp_topology_row_nonempty_words(
+            topology.nrows,
+            topology.ncols,
+            topology.row_word_ptr,
+            topology.word_indices,
+            topology.masks,
+            topology.structural_nnz,
+            row,
+        )),
+        21 => count(denimrasp::denimrasp_topology_row_popcount(
+            topology.nrows,
+            topology.ncols,
+            topology.row_word_ptr,
+            topology.word_indices,
+            topology.masks,
+            topology.structural_nnz,
+            row,
+        )),
+        _ => topology_row_part(call, topology, row),
     }
 }
 
 // The row's part of the word numbers or of the masks.
-fn topology_row_part(
-    call: u64,
-    f: Frame,
-    ptr: &[u32],
-    words: &[u32],
-    masks: &[u64],
-    nnz: usize,
-    row: usize,
-) {
-    let m = f.nrows;
-    let n = f.ncols;
+fn topology_row_part(call: u64, topology: AbtmTopology, row: usize) {
     if call == 246 {
-        show_part(topology_rows::row_word_indices(m, n, ptr, words, masks, nnz, row));
+        show_part(topology_rows::row_word_indices(topology, row));
     } else {
-        show_part(topology_rows::row_masks(m, n, ptr, words, masks, nnz, row));
+        show_part(topology_rows::row_masks(topology, row));
     }
 }
 
 // The questions to a row at a column or an ordinal.
-fn topology_row_place(
-    call: u64,
-    text: &[u8],
-    at: &mut usize,
-    f: Frame,
-    ptr: &[u32],
-    words: &[u32],
-    masks: &[u64],
-    nnz: usize,
-) {
-    let m = f.nrows;
-    let n = f.ncols;
-    let row = index(text, at);
-    let place = index(text, at);
+fn topology_row_place(call: u64, input: &mut Input, topology: AbtmTopology) {
+    let row = input.index();
+    let place = input.index();
     match call {
         22 => answer(denimrasp::denimrasp_topology_row_contains(
-            m, n, ptr, words, masks, nnz, row, place,
+            topology.nrows,
+            topology.ncols,
+            topology.row_word_ptr,
+            topology.word_indices,
+            topology.masks,
+            topology.structural_nnz,
+            row,
+            place,
         )),
         23 => count(denimrasp::denimrasp_topology_row_rank(
-            m, n, ptr, words, masks, nnz, row, place,
+            topology.nrows,
+            topology.ncols,
+            topology.row_word_ptr,
+            topology.word_indices,
+            topology.masks,
+            topology.structural_nnz,
+            row,
+            place,
         )),
         _ => selection(denimrasp::denimrasp_topology_row_select(
-            m, n, ptr, words, masks, nnz, row, place,
+            topology.nrows,
+            topology.ncols,
+            topology.row_word_ptr,
+            topology.word_indices,
+            topology.masks,
+            topology.structural_nnz,
+            row,
+            place,
         )),
     }
 }
 
 // The calls that are handed words and a second record of words.
-fn topology_operation(
-    call: u64,
-    text: &[u8],
-    at: &mut usize,
-    f: Frame,
-    ptr: &[u32],
-    words: &[u32],
-    masks: &[u64],
-    nnz: usize,
-) {
+fn topology_operation(call: u64, input: &mut Input, topology: AbtmTopology) {
     let mut ptr_room = [0u32; ROOM];
     let mut words_room = [0u32; ROOM];
     let mut masks_room = [0u64; ROOM];
-    let g = read_frame(text, at);
-    let other_ptr = list(text, at, &mut ptr_room);
-    let other_words = list(text, at, &mut words_room);
-    let other_masks = list(text, at, &mut masks_room);
+    let g = input.frame();
+    let other_ptr = input.list(&mut ptr_room);
+    let other_words = input.list(&mut words_room);
+    let other_masks = input.list(&mut masks_room);
     operation_to(
         call,
-        text,
-        at,
-        f,
-        ptr,
-        words,
-        masks,
-        nnz,
+        input,
+        topology,
         g,
         other_ptr,
         other_words,
@@ -1008,13 +953,8 @@ fn topology_operation(
 // The second record's total, and the words that are lent for the result.
 fn operation_to(
     call: u64,
-    text: &[u8],
-    at: &mut usize,
-    f: Frame,
-    ptr: &[u32],
-    words: &[u32],
-    masks: &[u64],
-    nnz: usize,
+    input: &mut Input,
+    topology: AbtmTopology,
     g: Frame,
     other_ptr: &[u32],
     other_words: &[u32],
@@ -1023,112 +963,103 @@ fn operation_to(
     let mut ptr_room = [0u32; ROOM];
     let mut words_room = [0u32; ROOM];
     let mut masks_room = [0u64; ROOM];
-    let other_nnz = index(text, at);
-    let out_ptr = read(text, at, &mut ptr_room);
-    let out_words = read(text, at, &mut words_room);
-    let out_masks = read(text, at, &mut masks_room);
+    let other_nnz = input.index();
+    let out_ptr = input.read(&mut ptr_room);
+    let out_words = input.read(&mut words_room);
+    let out_masks = input.read(&mut masks_room);
     let r = operation(
         call,
-        f,
-        ptr,
-        words,
-        masks,
-        nnz,
-        g,
-        other_ptr,
-        other_words,
-        other_masks,
-        other_nnz,
+        topology,
+        AbtmTopology {
+            nrows: g.nrows,
+            ncols: g.ncols,
+            row_word_ptr: other_ptr,
+            word_indices: other_words,
+            masks: other_masks,
+            structural_nnz: other_nnz,
+        },
         out_ptr,
         out_words,
         out_masks,
     );
     built(r);
-    show_words(out_ptr, out_words, out_masks);
+    show_three(out_ptr, out_words, out_masks);
 }
 
 // The set operation of that number.
 fn operation(
     call: u64,
-    f: Frame,
-    ptr: &[u32],
-    words: &[u32],
-    masks: &[u64],
-    nnz: usize,
-    g: Frame,
-    other_ptr: &[u32],
-    other_words: &[u32],
-    other_masks: &[u64],
-    other_nnz: usize,
+    topology: AbtmTopology,
+    other: AbtmTopology,
     out_ptr: &mut [u32],
     out_words: &mut [u32],
     out_masks: &mut [u64],
 ) -> DenimraspTopology {
     match call {
         26 => denimrasp::denimrasp_topology_union(
-            f.nrows,
-            f.ncols,
-            ptr,
-            words,
-            masks,
-            nnz,
-            g.nrows,
-            g.ncols,
-            other_ptr,
-            other_words,
-            other_masks,
-            other_nnz,
+            topology.nrows,
+            topology.ncols,
+            topology.row_word_ptr,
+            topology.word_indices,
+            topology.masks,
+            topology.structural_nnz,
+            other.nrows,
+            other.ncols,
+            other.row_word_ptr,
+            other.word_indices,
+            other.masks,
+            other.structural_nnz,
             out_ptr,
             out_words,
             out_masks,
         ),
         27 => denimrasp::denimrasp_topology_intersection(
-            f.nrows,
-            f.ncols,
-            ptr,
-            words,
-            masks,
-            nnz,
-            g.nrows,
-            g.ncols,
-            other_ptr,
-            other_words,
-            other_masks,
-            other_nnz,
+            topology.nrows,
+            topology.ncols,
+            topology.row_word_ptr,
+            topology.word_indices,
+            topology.masks,
+            topology.structural_nnz,
+            other.nrows,
+            other.ncols,
+            other.row_word_ptr,
+            other.word_indices,
+            other.masks,
+            other.structural_nnz,
             out_ptr,
             out_words,
             out_masks,
         ),
         28 => denimrasp::denimrasp_topology_and_not(
-            f.nrows,
-            f.ncols,
-            ptr,
-            words,
-            masks,
-            nnz,
-            g.nrows,
-            g.ncols,
-            other_ptr,
-            other_words,
-            other_masks,
-            other_nnz,
+            topology.nrows,
+            topology.ncols,
+            topology.row_word_ptr,
+            topology.word_indices,
+            topology.masks,
+            topology.structural_nnz,
+            other.nrows,
+            other.ncols,
+            other.row_word_ptr,
+            other.word_indices,
+            other.masks,
+            other.structural_nnz,
             out_ptr,
             out_words,
             out_masks,
         ),
         _ => denimrasp::denimrasp_topology_xor(
-            f.nrows,
-            f.ncols,
-            ptr,
-            words,
-            masks,
-            nnz,
-            g.nrows,
-            g.ncols,
-            other_ptr,
-            other_words,
-            other_masks,
-            other_nnz,
+            topology.nrows,
+            topology.ncols,
+            topology.row_word_ptr,
+            topology.word_indices,
+            topology.masks,
+            topology.structural_nnz,
+            other.nrows,
+            other.ncols,
+            other.row_word_ptr,
+            other.word_indices,
+            other.masks,
+            other.structural_nnz,
             out_ptr,
             out_words,
             out_masks,
@@ -1137,506 +1068,406 @@ fn operation(
 }
 
 // The calls that are handed a store first.
-fn store_calls(
-    call: u64,
-    text: &[u8],
-    at: &mut usize,
-    f: Frame,
-    ptr: &[u32],
-    words: &[u32],
-    masks: &[u64],
-    nnz: usize,
-) {
+fn store_calls(call: u64, input: &mut Input, topology: AbtmTopology) {
     let mut value_ptr_room = [0u32; ROOM];
     let mut values_room = [0.0f64; ROOM];
-    let value_ptr = list(text, at, &mut value_ptr_room);
-    let vals = list(text, at, &mut values_room);
-    store_call(call, text, at, f, ptr, words, masks, nnz, value_ptr, vals);
+    let value_ptr = input.list(&mut value_ptr_room);
+    let vals = input.list(&mut values_room);
+    store_call(
+        call,
+        input,
+        AbtmMetadataFirstMatrix {
+            topology,
+            row_value_ptr: value_ptr,
+            values: vals,
+        },
+    );
 }
 
-fn store_call(
-    call: u64,
-    text: &[u8],
-    at: &mut usize,
-    f: Frame,
-    ptr: &[u32],
-    words: &[u32],
-    masks: &[u64],
-    nnz: usize,
-    value_ptr: &[u32],
-    vals: &[f64],
-) {
+fn store_call(call: u64, input: &mut Input, packed: AbtmMetadataFirstMatrix) {
     if call == 36 {
-        sparse_dot_rows(text, at, f, ptr, words, masks, nnz, value_ptr, vals);
+        sparse_dot_rows(input, packed);
     } else if call == 30 || call == 34 {
-        store_question(call, f, ptr, words, masks, nnz, value_ptr, vals);
+        store_question(call, packed);
     } else {
-        store_row(call, text, at, f, ptr, words, masks, nnz, value_ptr, vals);
+        store_row(call, input, packed);
     }
 }
 
-fn store_question(
-    call: u64,
-    f: Frame,
-    ptr: &[u32],
-    words: &[u32],
-    masks: &[u64],
-    nnz: usize,
-    value_ptr: &[u32],
-    vals: &[f64],
-) {
-    let m = f.nrows;
-    let n = f.ncols;
+fn store_question(call: u64, packed: AbtmMetadataFirstMatrix) {
     if call == 30 {
         verdict(denimrasp::denimrasp_metadata_first_check(
-            m, n, ptr, words, masks, nnz, value_ptr, vals,
+            packed.topology.nrows,
+            packed.topology.ncols,
+            packed.topology.row_word_ptr,
+            packed.topology.word_indices,
+            packed.topology.masks,
+            packed.topology.structural_nnz,
+            packed.row_value_ptr,
+            packed.values,
         ));
     } else {
         store_figures(denimrasp::denimrasp_metadata_first_stats(
-            m, n, ptr, words, masks, nnz, value_ptr, vals,
+            packed.topology.nrows,
+            packed.topology.ncols,
+            packed.topology.row_word_ptr,
+            packed.topology.word_indices,
+            packed.topology.masks,
+            packed.topology.structural_nnz,
+            packed.row_value_ptr,
+            packed.values,
         ));
     }
 }
 
 // The questions to a row of a store.
-fn store_row(
-    call: u64,
-    text: &[u8],
-    at: &mut usize,
-    f: Frame,
-    ptr: &[u32],
-    words: &[u32],
-    masks: &[u64],
-    nnz: usize,
-    value_ptr: &[u32],
-    vals: &[f64],
-) {
-    let row = index(text, at);
+fn store_row(call: u64, input: &mut Input, packed: AbtmMetadataFirstMatrix) {
+    let row = input.index();
     if call == 33 {
         part(denimrasp::denimrasp_metadata_first_row_values(
-            f.nrows, f.ncols, ptr, words, masks, nnz, value_ptr, vals, row,
+            packed.topology.nrows,
+            packed.topology.ncols,
+            packed.topology.row_word_ptr,
+            packed.topology.word_indices,
+            packed.topology.masks,
+            packed.topology.structural_nnz,
+            packed.row_value_ptr,
+            packed.values,
+            row,
         ));
     } else if call == 35 {
-        sparse_dot_row(text, at, f, ptr, words, masks, nnz, value_ptr, vals, row);
+        sparse_dot_row(input, packed, row);
     } else {
-        store_row_part(f, ptr, words, masks, nnz, value_ptr, vals, row);
+        store_row_part(packed, row);
     }
 }
 
-fn store_row_part(
-    f: Frame,
-    ptr: &[u32],
-    words: &[u32],
-    masks: &[u64],
-    nnz: usize,
-    value_ptr: &[u32],
-    vals: &[f64],
-    row: usize,
-) {
-    show_part(metadata_first::row_values(
-        f.nrows, f.ncols, ptr, words, masks, nnz, value_ptr, vals, row,
-    ));
+fn store_row_part(packed: AbtmMetadataFirstMatrix, row: usize) {
+    show_part(packed.row_values(row));
 }
 
-fn sparse_dot_row(
-    text: &[u8],
-    at: &mut usize,
-    f: Frame,
-    ptr: &[u32],
-    words: &[u32],
-    masks: &[u64],
-    nnz: usize,
-    value_ptr: &[u32],
-    vals: &[f64],
-    row: usize,
-) {
+fn sparse_dot_row(input: &mut Input, packed: AbtmMetadataFirstMatrix, row: usize) {
     let mut mask_room = [0u64; ROOM];
     let mut x_room = [0.0f64; ROOM];
-    let len = index(text, at);
-    let mask = list(text, at, &mut mask_room);
-    let x = list(text, at, &mut x_room);
+    let len = input.index();
+    let mask = input.list(&mut mask_room);
+    let x = input.list(&mut x_room);
     dot(denimrasp::denimrasp_metadata_first_sparse_dot_row(
-        f.nrows, f.ncols, ptr, words, masks, nnz, value_ptr, vals, row, len, mask, x,
+        packed.topology.nrows,
+        packed.topology.ncols,
+        packed.topology.row_word_ptr,
+        packed.topology.word_indices,
+        packed.topology.masks,
+        packed.topology.structural_nnz,
+        packed.row_value_ptr,
+        packed.values,
+        row,
+        len,
+        mask,
+        x,
     ));
 }
 
-fn sparse_dot_rows(
-    text: &[u8],
-    at: &mut usize,
-    f: Frame,
-    ptr: &[u32],
-    words: &[u32],
-    masks: &[u64],
-    nnz: usize,
-    value_ptr: &[u32],
-    vals: &[f64],
-) {
+fn sparse_dot_rows(input: &mut Input, packed: AbtmMetadataFirstMatrix) {
     let mut mask_room = [0u64; ROOM];
     let mut x_room = [0.0f64; ROOM];
-    let len = index(text, at);
-    let mask = list(text, at, &mut mask_room);
-    let x = list(text, at, &mut x_room);
-    dot_rows_to(
-        text, at, f, ptr, words, masks, nnz, value_ptr, vals, len, mask, x,
-    );
+    let len = input.index();
+    let mask = input.list(&mut mask_room);
+    let x = input.list(&mut x_room);
+    dot_rows_to(input, packed, DofMask { len, words: mask }, x);
 }
 
-fn dot_rows_to(
-    text: &[u8],
-    at: &mut usize,
-    f: Frame,
-    ptr: &[u32],
-    words: &[u32],
-    masks: &[u64],
-    nnz: usize,
-    value_ptr: &[u32],
-    vals: &[f64],
-    len: usize,
-    mask: &[u64],
-    x: &[f64],
-) {
+fn dot_rows_to(input: &mut Input, packed: AbtmMetadataFirstMatrix, mask: DofMask, x: &[f64]) {
     let mut sums_room = [0.0f64; ROOM];
     let mut executed_room = [0u32; ROOM];
-    let sums = read(text, at, &mut sums_room);
-    let executed = read(text, at, &mut executed_room);
+    let sums = input.read(&mut sums_room);
+    let executed = input.read(&mut executed_room);
     verdict(denimrasp::denimrasp_metadata_first_sparse_dot_rows(
-        f.nrows, f.ncols, ptr, words, masks, nnz, value_ptr, vals, len, mask, x, sums, executed,
+        packed.topology.nrows,
+        packed.topology.ncols,
+        packed.topology.row_word_ptr,
+        packed.topology.word_indices,
+        packed.topology.masks,
+        packed.topology.structural_nnz,
+        packed.row_value_ptr,
+        packed.values,
+        mask.len,
+        mask.words,
+        x,
+        sums,
+        executed,
     ));
     show(sums);
     show(executed);
 }
 
 // The calls that are handed tiles first.
-fn tile_calls(call: u64, text: &[u8], at: &mut usize) {
+fn tile_calls(call: u64, input: &mut Input) {
     let mut ptr_room = [0u32; ROOM];
     let mut masks_room = [0u64; ROOM];
     let mut offsets_room = [0u32; ROOM];
-    let f = read_frame(text, at);
-    let ptr = list(text, at, &mut ptr_room);
-    let masks = list(text, at, &mut masks_room);
-    let offsets = list(text, at, &mut offsets_room);
-    tile_slots(call, text, at, f, ptr, masks, offsets);
+    let f = input.frame();
+    let ptr = input.list(&mut ptr_room);
+    let masks = input.list(&mut masks_room);
+    let offsets = input.list(&mut offsets_room);
+    tile_slots(call, input, f, ptr, masks, offsets);
 }
 
 // The metas, the values and the total of the tiles.
-fn tile_slots(
-    call: u64,
-    text: &[u8],
-    at: &mut usize,
-    f: Frame,
-    ptr: &[u32],
-    masks: &[u64],
-    offsets: &[u32],
-) {
+fn tile_slots(call: u64, input: &mut Input, f: Frame, ptr: &[u32], masks: &[u64], offsets: &[u32]) {
     let mut metas_room = [0u32; ROOM];
     let mut values_room = [0.0f64; ROOM];
-    let metas = list(text, at, &mut metas_room);
-    let values = list(text, at, &mut values_room);
-    let nnz = index(text, at);
-    tile_call(call, text, at, f, ptr, masks, offsets, metas, values, nnz);
-}
-
-fn tile_call(
-    call: u64,
-    text: &[u8],
-    at: &mut usize,
-    f: Frame,
-    ptr: &[u32],
-    masks: &[u64],
-    offsets: &[u32],
-    metas: &[u32],
-    values: &[f64],
-    nnz: usize,
-) {
-    match call {
-        50 | 55 => tile_question(call, f, ptr, masks, offsets, metas, values, nnz),
-        58 => abtm_apply(text, at, f, ptr, masks, offsets, metas, values, nnz),
-        59 | 61 => tiles_masked(call, text, at, f, ptr, masks, offsets, metas, values, nnz),
-        _ => tile_row(
-            call,
-            f,
-            ptr,
+    let metas = input.list(&mut metas_room);
+    let values = input.list(&mut values_room);
+    let nnz = input.index();
+    tile_call(
+        call,
+        input,
+        AbtmMatrix {
+            nrows: f.nrows,
+            ncols: f.ncols,
+            row_tile_ptr: ptr,
             masks,
-            offsets,
+            value_offsets: offsets,
             metas,
             values,
-            nnz,
-            index(text, at),
-        ),
+            matrix_nnz: nnz,
+        },
+    );
+}
+
+fn tile_call(call: u64, input: &mut Input, tiles: AbtmMatrix) {
+    match call {
+        50 | 55 => tile_question(call, tiles),
+        58 => abtm_apply(input, tiles),
+        59 | 61 => tiles_masked(call, input, tiles),
+        _ => tile_row(call, tiles, input.index()),
     }
 }
 
-fn tile_question(
-    call: u64,
-    f: Frame,
-    ptr: &[u32],
-    masks: &[u64],
-    offsets: &[u32],
-    metas: &[u32],
-    values: &[f64],
-    nnz: usize,
-) {
-    let m = f.nrows;
-    let n = f.ncols;
+fn tile_question(call: u64, tiles: AbtmMatrix) {
     if call == 50 {
-        verdict(denimrasp::denimrasp_abtm_check(m, n, ptr, masks, offsets, metas, values, nnz));
+        verdict(denimrasp::denimrasp_abtm_check(
+            tiles.nrows,
+            tiles.ncols,
+            tiles.row_tile_ptr,
+            tiles.masks,
+            tiles.value_offsets,
+            tiles.metas,
+            tiles.values,
+            tiles.matrix_nnz,
+        ));
     } else {
         tile_figures(denimrasp::denimrasp_abtm_stats(
-            m, n, ptr, masks, offsets, metas, values, nnz,
+            tiles.nrows,
+            tiles.ncols,
+            tiles.row_tile_ptr,
+            tiles.masks,
+            tiles.value_offsets,
+            tiles.metas,
+            tiles.values,
+            tiles.matrix_nnz,
         ));
     }
 }
 
 // The questions to a row of tiles.
-fn tile_row(
-    call: u64,
-    f: Frame,
-    ptr: &[u32],
-    masks: &[u64],
-    offsets: &[u32],
-    metas: &[u32],
-    values: &[f64],
-    nnz: usize,
-    row: usize,
-) {
+fn tile_row(call: u64, tiles: AbtmMatrix, row: usize) {
     if call == 54 {
         part(denimrasp::denimrasp_abtm_row_tiles(
-            f.nrows, f.ncols, ptr, masks, offsets, metas, values, nnz, row,
+            tiles.nrows,
+            tiles.ncols,
+            tiles.row_tile_ptr,
+            tiles.masks,
+            tiles.value_offsets,
+            tiles.metas,
+            tiles.values,
+            tiles.matrix_nnz,
+            row,
         ));
     } else if call == 251 {
-        tile_masks(f, ptr, masks, offsets, metas, values, nnz, row);
+        tile_masks(tiles, row);
     } else {
-        tile_part(call, f, ptr, masks, offsets, metas, values, nnz, row);
+        tile_part(call, tiles, row);
     }
 }
 
-fn tile_masks(
-    f: Frame,
-    ptr: &[u32],
-    masks: &[u64],
-    offsets: &[u32],
-    metas: &[u32],
-    values: &[f64],
-    nnz: usize,
-    row: usize,
-) {
-    show_part(abtm_rows::row_tile_masks(
-        f.nrows, f.ncols, ptr, masks, offsets, metas, values, nnz, row,
-    ));
+fn tile_masks(tiles: AbtmMatrix, row: usize) {
+    show_part(abtm_rows::row_tile_masks(tiles, row));
 }
 
 // The row's part of the offsets or of the metas.
-fn tile_part(
-    call: u64,
-    f: Frame,
-    ptr: &[u32],
-    masks: &[u64],
-    offsets: &[u32],
-    metas: &[u32],
-    values: &[f64],
-    nnz: usize,
-    row: usize,
-) {
-    let m = f.nrows;
-    let n = f.ncols;
+fn tile_part(call: u64, tiles: AbtmMatrix, row: usize) {
     if call == 252 {
-        show_part(abtm_rows::row_tile_value_offsets(
-            m, n, ptr, masks, offsets, metas, values, nnz, row,
-        ));
+        show_part(abtm_rows::row_tile_value_offsets(tiles, row));
     } else {
-        show_part(abtm_rows::row_tile_metas(m, n, ptr, masks, offsets, metas, values, nnz, row));
+        show_part(abtm_rows::row_tile_metas(tiles, row));
     }
 }
 
-fn abtm_apply(
-    text: &[u8],
-    at: &mut usize,
-    f: Frame,
-    ptr: &[u32],
-    masks: &[u64],
-    offsets: &[u32],
-    metas: &[u32],
-    values: &[f64],
-    nnz: usize,
-) {
+fn abtm_apply(input: &mut Input, tiles: AbtmMatrix) {
     let mut x_room = [0.0f64; ROOM];
     let mut y_room = [0.0f64; ROOM];
-    let x = list(text, at, &mut x_room);
-    let y = read(text, at, &mut y_room);
+    let x = input.list(&mut x_room);
+    let y = input.read(&mut y_room);
     verdict(denimrasp::denimrasp_abtm_apply(
-        f.nrows, f.ncols, ptr, masks, offsets, metas, values, nnz, x, y,
+        tiles.nrows,
+        tiles.ncols,
+        tiles.row_tile_ptr,
+        tiles.masks,
+        tiles.value_offsets,
+        tiles.metas,
+        tiles.values,
+        tiles.matrix_nnz,
+        x,
+        y,
     ));
     show(y);
 }
 
 // The calls that are handed tiles and a mask.
-fn tiles_masked(
-    call: u64,
-    text: &[u8],
-    at: &mut usize,
-    f: Frame,
-    ptr: &[u32],
-    masks: &[u64],
-    offsets: &[u32],
-    metas: &[u32],
-    values: &[f64],
-    nnz: usize,
-) {
+fn tiles_masked(call: u64, input: &mut Input, tiles: AbtmMatrix) {
     let mut mask_room = [0u64; ROOM];
-    let len = index(text, at);
-    let mask = list(text, at, &mut mask_room);
+    let len = input.index();
+    let mask = input.list(&mut mask_room);
     if call == 59 {
-        abtm_expand(
-            text, at, f, ptr, masks, offsets, metas, values, nnz, len, mask,
-        );
+        abtm_expand(input, tiles, DofMask { len, words: mask });
     } else {
-        restricted_from_abtm(
-            text, at, f, ptr, masks, offsets, metas, values, nnz, len, mask,
-        );
+        restricted_from_abtm(input, tiles, DofMask { len, words: mask });
     }
 }
 
-fn abtm_expand(
-    text: &[u8],
-    at: &mut usize,
-    f: Frame,
-    ptr: &[u32],
-    masks: &[u64],
-    offsets: &[u32],
-    metas: &[u32],
-    values: &[f64],
-    nnz: usize,
-    len: usize,
-    mask: &[u64],
-) {
+fn abtm_expand(input: &mut Input, tiles: AbtmMatrix, mask: DofMask) {
     let mut out_room = [0u64; ROOM];
-    let out = read(text, at, &mut out_room);
+    let out = input.read(&mut out_room);
     verdict(denimrasp::denimrasp_abtm_expand_mask_one_hop(
-        f.nrows, f.ncols, ptr, masks, offsets, metas, values, nnz, len, mask, out,
+        tiles.nrows,
+        tiles.ncols,
+        tiles.row_tile_ptr,
+        tiles.masks,
+        tiles.value_offsets,
+        tiles.metas,
+        tiles.values,
+        tiles.matrix_nnz,
+        mask.len,
+        mask.words,
+        out,
     ));
     show(out);
 }
 
-fn restricted_from_abtm(
-    text: &[u8],
-    at: &mut usize,
-    f: Frame,
-    ptr: &[u32],
-    masks: &[u64],
-    offsets: &[u32],
-    metas: &[u32],
-    values: &[f64],
-    nnz: usize,
-    len: usize,
-    mask: &[u64],
-) {
+fn restricted_from_abtm(input: &mut Input, tiles: AbtmMatrix, mask: DofMask) {
     let mut out_row_ptr_room = [0u32; ROOM];
     let mut out_col_idx_room = [0u32; ROOM];
     let mut out_values_room = [0.0f64; ROOM];
-    let out_row_ptr = read(text, at, &mut out_row_ptr_room);
-    let out_col_idx = read(text, at, &mut out_col_idx_room);
-    let out_values = read(text, at, &mut out_values_room);
+    let out_row_ptr = input.read(&mut out_row_ptr_room);
+    let out_col_idx = input.read(&mut out_col_idx_room);
+    let out_values = input.read(&mut out_values_room);
     restriction(denimrasp::denimrasp_restricted_from_abtm(
-        f.nrows,
-        f.ncols,
-        ptr,
-        masks,
-        offsets,
-        metas,
-        values,
-        nnz,
-        len,
-        mask,
+        tiles.nrows,
+        tiles.ncols,
+        tiles.row_tile_ptr,
+        tiles.masks,
+        tiles.value_offsets,
+        tiles.metas,
+        tiles.values,
+        tiles.matrix_nnz,
+        mask.len,
+        mask.words,
         out_row_ptr,
         out_col_idx,
         out_values,
     ));
-    show_list(out_row_ptr, out_col_idx, out_values);
+    show_three(out_row_ptr, out_col_idx, out_values);
 }
 
 // The calls that are handed blocks first.
-fn block_calls(call: u64, text: &[u8], at: &mut usize) {
+fn block_calls(call: u64, input: &mut Input) {
     let mut row_ptr_room = [0u32; ROOM];
     let mut col_idx_room = [0u32; ROOM];
     let mut values_room = [0.0f64; ROOM];
-    let f = read_frame(text, at);
-    let six = numeral(text, at) != 0;
-    let row_ptr = list(text, at, &mut row_ptr_room);
-    let col_idx = list(text, at, &mut col_idx_room);
-    let values = list(text, at, &mut values_room);
-    block_call(call, text, at, f, six, row_ptr, col_idx, values);
+    let f = input.frame();
+    let six = input.numeral() != 0;
+    let row_ptr = input.list(&mut row_ptr_room);
+    let col_idx = input.list(&mut col_idx_room);
+    let values = input.list(&mut values_room);
+    block_call(
+        call,
+        input,
+        Blocks {
+            nrows: f.nrows,
+            ncols: f.ncols,
+            six,
+            row_ptr,
+            col_idx,
+            values,
+        },
+    );
 }
 
-fn block_call(
-    call: u64,
-    text: &[u8],
-    at: &mut usize,
-    f: Frame,
-    six: bool,
-    row_ptr: &[u32],
-    col_idx: &[u32],
-    values: &[f64],
-) {
+fn block_call(call: u64, input: &mut Input, blocks: Blocks) {
     if call == 71 {
-        dense_block_apply(text, at, f, six, row_ptr, col_idx, values);
+        dense_block_apply(input, blocks);
     } else {
-        dense_block_question(call, f, six, row_ptr, col_idx, values);
+        dense_block_question(call, blocks);
     }
 }
 
-fn dense_block_question(
-    call: u64,
-    f: Frame,
-    six: bool,
-    row_ptr: &[u32],
-    col_idx: &[u32],
-    values: &[f64],
-) {
-    let m = f.nrows;
-    let n = f.ncols;
+fn dense_block_question(call: u64, blocks: Blocks) {
     if call == 70 {
-        verdict(denimrasp::denimrasp_dense_block_check(m, n, six, row_ptr, col_idx, values));
+        verdict(denimrasp::denimrasp_dense_block_check(
+            blocks.nrows,
+            blocks.ncols,
+            blocks.six,
+            blocks.row_ptr,
+            blocks.col_idx,
+            blocks.values,
+        ));
     } else {
         fraction(denimrasp::denimrasp_dense_block_fast_block_fraction(
-            m, n, six, row_ptr, col_idx, values,
+            blocks.nrows,
+            blocks.ncols,
+            blocks.six,
+            blocks.row_ptr,
+            blocks.col_idx,
+            blocks.values,
         ));
     }
 }
 
-fn dense_block_apply(
-    text: &[u8],
-    at: &mut usize,
-    f: Frame,
-    six: bool,
-    row_ptr: &[u32],
-    col_idx: &[u32],
-    values: &[f64],
-) {
+fn dense_block_apply(input: &mut Input, blocks: Blocks) {
     let mut x_room = [0.0f64; ROOM];
     let mut y_room = [0.0f64; ROOM];
-    let x = list(text, at, &mut x_room);
-    let y = read(text, at, &mut y_room);
+    let x = input.list(&mut x_room);
+    let y = input.read(&mut y_room);
     verdict(denimrasp::denimrasp_dense_block_apply(
-        f.nrows, f.ncols, six, row_ptr, col_idx, values, x, y,
+        blocks.nrows,
+        blocks.ncols,
+        blocks.six,
+        blocks.row_ptr,
+        blocks.col_idx,
+        blocks.values,
+        x,
+        y,
     ));
     show(y);
 }
 
-fn local_check(text: &[u8], at: &mut usize) {
+fn local_check(input: &mut Input) {
     let mut members_room = [0u32; ROOM];
-    let global_size = index(text, at);
-    let members = list(text, at, &mut members_room);
+    let global_size = input.index();
+    let members = input.list(&mut members_room);
     verdict(denimrasp::denimrasp_local_check(global_size, members));
 }
 
-fn local_gather_input(text: &[u8], at: &mut usize) {
+fn local_gather_input(input: &mut Input) {
     let mut members_room = [0u32; ROOM];
     let mut global_room = [0.0f64; ROOM];
     let mut local_room = [0.0f64; ROOM];
-    let global_size = index(text, at);
-    let members = list(text, at, &mut members_room);
-    let global = list(text, at, &mut global_room);
-    let local = read(text, at, &mut local_room);
+    let global_size = input.index();
+    let members = input.list(&mut members_room);
+    let global = input.list(&mut global_room);
+    let local = input.read(&mut local_room);
     let r = denimrasp::denimrasp_local_gather_input(global_size, members, global, local);
     verdict(r);
     show(local);
@@ -1653,21 +1484,21 @@ fn value_of(call: u64, n: u64) -> usize {
     }
 }
 
-fn value(call: u64, text: &[u8], at: &mut usize) {
-    let n = numeral(text, at);
+fn value(call: u64, input: &mut Input) {
+    let n = input.numeral();
     refusal(0, 0, 0);
     size(value_of(call, n));
 }
 
-fn abtm_tile_kind(text: &[u8], at: &mut usize) {
-    let meta = hybit_core::narrow(index(text, at));
+fn abtm_tile_kind(input: &mut Input) {
+    let meta = hybit_core::narrow(input.index());
     count(denimrasp::denimrasp_abtm_tile_kind(meta));
 }
 
 // The questions to a word at an offset or an ordinal.
-fn word_place(call: u64, text: &[u8], at: &mut usize) {
-    let mask = numeral(text, at);
-    let n = index(text, at);
+fn word_place(call: u64, input: &mut Input) {
+    let mask = input.numeral();
+    let n = input.index();
     match call {
         39 => {
             refusal(0, 0, 0);
@@ -1693,10 +1524,10 @@ fn ratio_of(call: u64, a: usize, b: usize) -> f64 {
     }
 }
 
-// The ratios of two counts.
-fn ratio(call: u64, text: &[u8], at: &mut usize) {
-    let a = index(text, at);
-    let b = index(text, at);
+// The ratios of two counts. Like word_call in its steps alone: that prints a word, this a float.
+fn ratio(call: u64, input: &mut Input) {
+    let a = input.index();
+    let b = input.index();
     refusal(0, 0, 0);
     float(ratio_of(call, a, b));
 }
@@ -1718,12 +1549,12 @@ fn bytes_of_three(call: u64, a: usize, b: usize, c: usize) -> usize {
 }
 
 // The bytes of two or three counts.
-fn bytes(call: u64, text: &[u8], at: &mut usize) {
-    let a = index(text, at);
-    let b = index(text, at);
+fn bytes(call: u64, input: &mut Input) {
+    let a = input.index();
+    let b = input.index();
     refusal(0, 0, 0);
     if call == 47 || call == 63 || call == 76 {
-        let c = index(text, at);
+        let c = input.index();
         size(bytes_of_three(call, a, b, c));
     } else {
         size(bytes_of_two(call, a, b));
@@ -1731,12 +1562,12 @@ fn bytes(call: u64, text: &[u8], at: &mut usize) {
 }
 
 // The counts of a row dot's report.
-fn counts(text: &[u8], at: &mut usize) -> AbtmProductPruningStats {
-    let candidate_products = index(text, at);
-    let executed_products = index(text, at);
-    let skipped_products = index(text, at);
-    let topology_words = index(text, at);
-    let active_words = index(text, at);
+fn counts(input: &mut Input) -> AbtmProductPruningStats {
+    let candidate_products = input.index();
+    let executed_products = input.index();
+    let skipped_products = input.index();
+    let topology_words = input.index();
+    let active_words = input.index();
     AbtmProductPruningStats {
         candidate_products,
         executed_products,
@@ -1746,9 +1577,9 @@ fn counts(text: &[u8], at: &mut usize) -> AbtmProductPruningStats {
     }
 }
 
-fn metadata_first_accumulate(text: &[u8], at: &mut usize) {
-    let a = counts(text, at);
-    let b = counts(text, at);
+fn metadata_first_accumulate(input: &mut Input) {
+    let a = counts(input);
+    let b = counts(input);
     totals(denimrasp::denimrasp_metadata_first_accumulate(
         a.candidate_products,
         a.executed_products,
@@ -1763,23 +1594,23 @@ fn metadata_first_accumulate(text: &[u8], at: &mut usize) {
     ));
 }
 
-fn thresholds(text: &[u8], at: &mut usize) -> AbtmConfig {
-    let sparse_max_nnz = byte(text, at);
-    let dense_min_nnz = byte(text, at);
+fn thresholds(input: &mut Input) -> AbtmConfig {
+    let sparse_max_nnz = input.byte();
+    let dense_min_nnz = input.byte();
     AbtmConfig {
         sparse_max_nnz,
         dense_min_nnz,
     }
 }
 
-fn abtm_validate(text: &[u8], at: &mut usize) {
-    let t = thresholds(text, at);
+fn abtm_validate(input: &mut Input) {
+    let t = thresholds(input);
     verdict(denimrasp::denimrasp_abtm_validate(t.sparse_max_nnz, t.dense_min_nnz));
 }
 
 // The calls from here on are those of the crates below that the C interface doesn't export.
 
-// Document 01's refusal of a number; its expected and actual under 6 alone.
+// Document 01's refusal of a number; its expected and actual under 6 alone: a TryFrom of the number would not have them.
 fn error_of(n: u64, expected: usize, actual: usize) -> HybitError {
     match n {
         1 => HybitError::SizeOverflow,
@@ -1798,21 +1629,21 @@ fn error_of(n: u64, expected: usize, actual: usize) -> HybitError {
     }
 }
 
-fn core_refusal(text: &[u8], at: &mut usize) {
-    let n = numeral(text, at);
-    let expected = index(text, at);
-    let actual = index(text, at);
+fn core_refusal(input: &mut Input) {
+    let n = input.numeral();
+    let expected = input.index();
+    let actual = input.index();
     let e = error_of(n, expected, actual);
     refused(e);
     number(e.number() as u64);
     number(0);
 }
 
-fn core_sizes(text: &[u8], at: &mut usize) {
-    let nrows = index(text, at);
-    let ncols = index(text, at);
-    let left = index(text, at);
-    let right = index(text, at);
+fn core_sizes(input: &mut Input) {
+    let nrows = input.index();
+    let ncols = input.index();
+    let left = input.index();
+    let right = input.index();
     refusal(0, 0, 0);
     truth(hybit_core::sizes_fit(nrows, ncols, left, right));
     truth(hybit_core::dimension_fits(nrows));
@@ -1821,37 +1652,37 @@ fn core_sizes(text: &[u8], at: &mut usize) {
     size(hybit_core::MAX_ENTRIES);
 }
 
-fn core_counts(text: &[u8], at: &mut usize) {
-    let part = numeral(text, at);
-    let whole = numeral(text, at);
+fn core_counts(input: &mut Input) {
+    let part = input.numeral();
+    let whole = input.numeral();
     refusal(0, 0, 0);
     float(hybit_core::count_as_f64(part));
     float(hybit_core::ratio(part, whole));
 }
 
-fn core_is_finite(text: &[u8], at: &mut usize) {
-    let x = float_of(numeral(text, at));
+fn core_is_finite(input: &mut Input) {
+    let x = float_of(input.numeral());
     refusal(0, 0, 0);
     truth(hybit_core::is_finite(x));
 }
 
-fn core_narrow(text: &[u8], at: &mut usize) {
-    let n = index(text, at);
+fn core_narrow(input: &mut Input) {
+    let n = input.index();
     refusal(0, 0, 0);
     size(hybit_core::narrow(n) as usize);
 }
 
-fn core_saturating(text: &[u8], at: &mut usize) {
-    let a = index(text, at);
-    let b = index(text, at);
+fn core_saturating(input: &mut Input) {
+    let a = input.index();
+    let b = input.index();
     refusal(0, 0, 0);
     size(a.saturating_add(b));
     size(a.saturating_mul(b));
 }
 
-fn clear_from<T: Recorded>(text: &[u8], at: &mut usize, room: &mut [T]) {
-    let list = read(text, at, room);
-    let from = index(text, at);
+fn clear_from<T: Recorded>(input: &mut Input, room: &mut [T]) {
+    let list = input.read(room);
+    let from = input.index();
     lent::clear_from(list, from);
     refusal(0, 0, 0);
     show(list);
@@ -1877,43 +1708,43 @@ fn word_answer(call: u64, a: u64, b: u64) -> u64 {
     }
 }
 
-fn word_call(call: u64, text: &[u8], at: &mut usize) {
-    let a = numeral(text, at);
-    let b = numeral(text, at);
+fn word_call(call: u64, input: &mut Input) {
+    let a = input.numeral();
+    let b = input.numeral();
     refusal(0, 0, 0);
     number(word_answer(call, a, b));
 }
 
-fn csr32_pointers(text: &[u8], at: &mut usize) {
+fn csr32_pointers(input: &mut Input) {
     let mut row_ptr_room = [0u32; ROOM];
-    let nrows = index(text, at);
-    let row_ptr = list(text, at, &mut row_ptr_room);
-    let left = index(text, at);
-    let right = index(text, at);
+    let nrows = input.index();
+    let row_ptr = input.list(&mut row_ptr_room);
+    let left = input.index();
+    let right = input.index();
     refusal(0, 0, 0);
     truth(csr32::pointers_hold(nrows, row_ptr, left));
     truth(csr32::lists_hold(nrows, row_ptr, left, right));
 }
 
-fn value_list(text: &[u8], at: &mut usize) {
+fn value_list(input: &mut Input) {
     let mut values_room = [0.0f64; ROOM];
-    let values = list(text, at, &mut values_room);
+    let values = input.list(&mut values_room);
     refusal(0, 0, 0);
     truth(csr32::all_finite(values));
     size(abtm_values::count_solid(values));
 }
 
-fn topology_count_bits(text: &[u8], at: &mut usize) {
+fn topology_count_bits(input: &mut Input) {
     let mut masks_room = [0u64; ROOM];
-    let masks = list(text, at, &mut masks_room);
+    let masks = input.list(&mut masks_room);
     refusal(0, 0, 0);
     size(topology::count_bits(masks));
 }
 
-fn topology_word(text: &[u8], at: &mut usize) {
-    let word_index = hybit_core::narrow(index(text, at));
-    let mask = numeral(text, at);
-    let n = index(text, at);
+fn topology_word(input: &mut Input) {
+    let word_index = hybit_core::narrow(input.index());
+    let mask = input.numeral();
+    let n = input.index();
     let w = AbtmTopologyWord { word_index, mask };
     count(w.rank(n).into());
     let s: DenimraspSelect = w.select(n).into();
@@ -1925,23 +1756,23 @@ fn topology_word(text: &[u8], at: &mut usize) {
 }
 
 // The lists past that many rows and words.
-fn topology_clear_past(text: &[u8], at: &mut usize) {
+fn topology_clear_past(input: &mut Input) {
     let mut ptr_room = [0u32; ROOM];
     let mut words_room = [0u32; ROOM];
     let mut masks_room = [0u64; ROOM];
-    let rows = index(text, at);
-    let used = index(text, at);
-    let ptr = read(text, at, &mut ptr_room);
-    let words = read(text, at, &mut words_room);
-    let masks = read(text, at, &mut masks_room);
+    let rows = input.index();
+    let used = input.index();
+    let ptr = input.read(&mut ptr_room);
+    let words = input.read(&mut words_room);
+    let masks = input.read(&mut masks_room);
     topology::clear_past(rows, used, ptr, words, masks);
     refusal(0, 0, 0);
-    show_words(ptr, words, masks);
+    show_three(ptr, words, masks);
 }
 
 // The counts and ratios of a row dot's report.
-fn metadata_first_report(text: &[u8], at: &mut usize) {
-    let a = counts(text, at);
+fn metadata_first_report(input: &mut Input) {
+    let a = counts(input);
     let report = AbtmRowDot {
         sum: 0.5,
         candidate_products: a.candidate_products,
@@ -1961,17 +1792,25 @@ fn metadata_first_report(text: &[u8], at: &mut usize) {
     float(report.empty_word_ratio());
 }
 
-fn tile_value(text: &[u8], at: &mut usize) {
-    let meta = hybit_core::narrow(index(text, at));
-    let mask = numeral(text, at);
-    let thresholds = thresholds(text, at);
-    let nnz = index(text, at);
-    let x = float_of(numeral(text, at));
+// A kind's number; 3 is that of none.
+fn kind(k: Option<TileKind>) {
+    match k {
+        Some(kind) => size(u32::from(kind) as usize),
+        None => size(3),
+    }
+}
+
+fn tile_value(input: &mut Input) {
+    let meta = hybit_core::narrow(input.index());
+    let mask = input.numeral();
+    let thresholds = thresholds(input);
+    let nnz = input.index();
+    let x = float_of(input.numeral());
     refusal(0, 0, 0);
     size(abtm::word_in(meta) as usize);
-    size(abtm::kind_in(meta) as usize);
+    kind(abtm::kind_in(meta));
     size(abtm::slot_count(mask, meta));
-    size(thresholds.kind_of(nnz) as usize);
+    kind(Some(thresholds.kind_of(nnz)));
     default_thresholds();
     truth(abtm_values::is_zero(x));
     truth(abtm_values::is_plus_zero(x));
@@ -1983,11 +1822,11 @@ fn default_thresholds() {
     number(default.dense_min_nnz as u64);
 }
 
-fn restriction_figures(text: &[u8], at: &mut usize) {
-    let nrows = index(text, at);
-    let ncols = index(text, at);
-    let source_nnz = index(text, at);
-    let retained_nnz = index(text, at);
+fn restriction_figures(input: &mut Input) {
+    let nrows = input.index();
+    let ncols = input.index();
+    let source_nnz = input.index();
+    let retained_nnz = input.index();
     let s = ColumnRestriction {
         nrows,
         ncols,
@@ -1999,11 +1838,11 @@ fn restriction_figures(text: &[u8], at: &mut usize) {
     size(s.storage_bytes());
 }
 
-fn region_figures(text: &[u8], at: &mut usize) {
-    let global_size = index(text, at);
-    let local_nodes = index(text, at);
-    let local_nnz = index(text, at);
-    let source_row_nnz = index(text, at);
+fn region_figures(input: &mut Input) {
+    let global_size = input.index();
+    let local_nodes = input.index();
+    let local_nnz = input.index();
+    let source_row_nnz = input.index();
     let s = LocalRegion {
         global_size,
         local_nodes,
@@ -2015,10 +1854,10 @@ fn region_figures(text: &[u8], at: &mut usize) {
     size(s.storage_bytes());
 }
 
-fn block_size(text: &[u8], at: &mut usize) {
-    let six = numeral(text, at) != 0;
-    let n = index(text, at);
-    let col = hybit_core::narrow(index(text, at));
+fn block_size(input: &mut Input) {
+    let six = input.numeral() != 0;
+    let n = input.index();
+    let col = hybit_core::narrow(input.index());
     refusal(0, 0, 0);
     size(denimrasp_answers::block_size(six).width());
     size(denimrasp_answers::block_size(six).blocks_for(n));
@@ -2028,14 +1867,14 @@ fn block_size(text: &[u8], at: &mut usize) {
 }
 
 // The numbers of blocks.
-fn read_blocks(text: &[u8], at: &mut usize) -> DenseBlocks {
-    let nrows = index(text, at);
-    let ncols = index(text, at);
-    let block_rows = index(text, at);
-    let unique_blocks = index(text, at);
-    let dense_value_slots = index(text, at);
-    let structural_slots = index(text, at);
-    let valid_dense_slots = index(text, at);
+fn read_blocks(input: &mut Input) -> DenseBlocks {
+    let nrows = input.index();
+    let ncols = input.index();
+    let block_rows = input.index();
+    let unique_blocks = input.index();
+    let dense_value_slots = input.index();
+    let structural_slots = input.index();
+    let valid_dense_slots = input.index();
     DenseBlocks {
         nrows,
         ncols,
@@ -2047,8 +1886,8 @@ fn read_blocks(text: &[u8], at: &mut usize) -> DenseBlocks {
     }
 }
 
-fn block_figures(text: &[u8], at: &mut usize) {
-    let s = read_blocks(text, at);
+fn block_figures(input: &mut Input) {
+    let s = read_blocks(input);
     refusal(0, 0, 0);
     float(s.block_fill());
     float(s.value_padding_ratio());
@@ -2057,65 +1896,65 @@ fn block_figures(text: &[u8], at: &mut usize) {
 }
 
 // The calls of refusals and numbers.
-fn core_calls(call: u64, text: &[u8], at: &mut usize) {
+fn core_calls(call: u64, input: &mut Input) {
     match call {
-        200 => core_refusal(text, at),
-        201 => core_sizes(text, at),
-        202 => core_counts(text, at),
-        203 => core_is_finite(text, at),
-        204 => core_narrow(text, at),
-        _ => core_saturating(text, at),
+        200 => core_refusal(input),
+        201 => core_sizes(input),
+        202 => core_counts(input),
+        203 => core_is_finite(input),
+        204 => core_narrow(input),
+        _ => core_saturating(input),
     }
 }
 
-// The calls of lists that stand alone.
-fn list_calls(call: u64, text: &[u8], at: &mut usize) {
+// The calls of lists that stand alone. Six arms, as core_calls has: alike in the text alone.
+fn list_calls(call: u64, input: &mut Input) {
     match call {
-        65 => local_check(text, at),
-        66 => local_gather_input(text, at),
-        241 => csr32_pointers(text, at),
-        242 => value_list(text, at),
-        243 => topology_count_bits(text, at),
-        _ => topology_clear_past(text, at),
+        65 => local_check(input),
+        66 => local_gather_input(input),
+        241 => csr32_pointers(input),
+        242 => value_list(input),
+        243 => topology_count_bits(input),
+        _ => topology_clear_past(input),
     }
 }
 
-fn clear_calls(call: u64, text: &[u8], at: &mut usize) {
+fn clear_calls(call: u64, input: &mut Input) {
     match call {
-        210 => clear_from(text, at, &mut [0u32; ROOM]),
-        211 => clear_from(text, at, &mut [0u64; ROOM]),
-        212 => clear_from(text, at, &mut [0usize; ROOM]),
-        _ => clear_from(text, at, &mut [0.0f64; ROOM]),
+        210 => clear_from(input, &mut [0u32; ROOM]),
+        211 => clear_from(input, &mut [0u64; ROOM]),
+        212 => clear_from(input, &mut [0usize; ROOM]),
+        _ => clear_from(input, &mut [0.0f64; ROOM]),
     }
 }
 
 // The calls that are handed numbers alone, and in the crates below what clears a list.
-fn number_calls(first: u8, call: u64, text: &[u8], at: &mut usize) {
+fn number_calls(first: u8, call: u64, input: &mut Input) {
     match first {
-        b'v' => value(call, text, at),
-        b'o' => word_place(call, text, at),
-        b'r' => ratio(call, text, at),
-        b's' => bytes(call, text, at),
-        b'a' => metadata_first_accumulate(text, at),
-        b'h' => abtm_validate(text, at),
-        b'k' => abtm_tile_kind(text, at),
-        b'c' => core_calls(call, text, at),
-        b'z' => clear_calls(call, text, at),
-        b'd' => word_call(call, text, at),
-        _ => struct_calls(call, text, at),
+        b'v' => value(call, input),
+        b'o' => word_place(call, input),
+        b'r' => ratio(call, input),
+        b's' => bytes(call, input),
+        b'a' => metadata_first_accumulate(input),
+        b'h' => abtm_validate(input),
+        b'k' => abtm_tile_kind(input),
+        b'c' => core_calls(call, input),
+        b'z' => clear_calls(call, input),
+        b'd' => word_call(call, input),
+        _ => struct_calls(call, input),
     }
 }
 
 // The calls of structs by value.
-fn struct_calls(call: u64, text: &[u8], at: &mut usize) {
+fn struct_calls(call: u64, input: &mut Input) {
     match call {
-        249 => metadata_first_report(text, at),
-        250 => topology_word(text, at),
-        254 => tile_value(text, at),
-        255 => restriction_figures(text, at),
-        256 => region_figures(text, at),
-        257 => block_size(text, at),
-        _ => block_figures(text, at),
+        249 => metadata_first_report(input),
+        250 => topology_word(input),
+        254 => tile_value(input),
+        255 => restriction_figures(input),
+        256 => region_figures(input),
+        257 => block_size(input),
+        _ => block_figures(input),
     }
 }
 
@@ -2139,29 +1978,29 @@ fn first_of(call: u64) -> u8 {
 }
 
 // One call, and what came of it.
-fn replay(call: u64, text: &[u8], at: &mut usize) {
+fn replay(call: u64, input: &mut Input) {
     let first = first_of(call);
     match first {
-        b'm' => mask_calls(call, text, at),
-        b'i' => mask_from_indices(text, at),
-        b'p' => csr32_calls(call, text, at),
-        b'w' => words_calls(call, text, at),
-        b't' => tile_calls(call, text, at),
-        b'b' => block_calls(call, text, at),
-        b'l' => list_calls(call, text, at),
-        _ => number_calls(first, call, text, at),
+        b'm' => mask_calls(call, input),
+        b'i' => mask_from_indices(input),
+        b'p' => csr32_calls(call, input),
+        b'w' => words_calls(call, input),
+        b't' => tile_calls(call, input),
+        b'b' => block_calls(call, input),
+        b'l' => list_calls(call, input),
+        _ => number_calls(first, call, input),
     }
 }
 
 // The calls of one block of the input; the number 999 ends them.
 fn replay_block(text: &[u8]) {
-    let mut at: usize = 0;
+    let mut input = Input { text, at: 0 };
     for _ in 0..65536 {
-        let call = numeral(text, &mut at);
+        let call = input.numeral();
         if call >= 999 {
             return;
         }
-        replay(call, text, &mut at);
+        replay(call, &mut input);
         end();
     }
 }

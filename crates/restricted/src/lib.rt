@@ -2,12 +2,14 @@
 // The builds are the crates restricted_csr32, restricted_abtm and restricted_local; the products are csr32's `apply`.
 #![tactic(auto)]
 
-ghost use Rattle.std.specs.Prelude.{◌≡◌};
-ghost use Rattle.word.specs.Bits.{ceil64};
+ghost use Rattle.std.specs.Prelude.{◌≡◌, length};
+ghost use Rattle.lent.specs.Lists.{only};
+ghost use Rattle.mask.specs.Mask.{active};
+ghost use Rattle.mask.specs.Dof.{lent_mask};
 ghost use Rattle.restricted.specs.Restricted.{retained_fraction, restriction_bytes};
 ghost use Rattle.restricted.specs.Local.{boundary_ratio, region_bytes};
 
-use hybit_core::HybitError;
+use mask::DofMask;
 
 // A list cut to the active columns: its frame, the entries of its source and those kept.
 #[derive(Clone, Copy)]
@@ -27,14 +29,15 @@ pub struct LocalRegion {
     pub source_row_nnz: usize,
 }
 
-// How many words a mask of n columns takes.
-fn words_for(n: usize) -> usize
-    ensures { result ≡ ceil64 n }
+// How many of the columns are active: added up without a branch.
+pub fn count_active(cols: &[u32], mask: DofMask) -> usize
+    ensures { result ≡ length (only (active (lent_mask mask.entry)) cols.now) }
 {
-    if n % 64 == 0 {
-        return n / 64;
+    let mut kept: usize = 0;
+    for column in cols {
+        kept += usize::from(mask.is_member(*column as usize));
     }
-    n / 64 + 1
+    kept
 }
 
 // The figures are of the numbers, whatever they are.
@@ -50,7 +53,7 @@ impl ColumnRestriction {
     {
         let pointers = 4usize.saturating_mul(self.nrows.saturating_add(1));
         let entries = 12usize.saturating_mul(self.retained_nnz);
-        let words = 8usize.saturating_mul(words_for(self.ncols));
+        let words = 8usize.saturating_mul(self.ncols.div_ceil(64));
         pointers.saturating_add(entries).saturating_add(words)
     }
 }

@@ -10,7 +10,6 @@ use lib.ListN.{length, get_or, drop, set, length-append}
 use lib.Ieee.{Float, nan}
 use borrow.Author.Tests.{ltb-true}
 use Rattle.hybit_core.specs.Floats.{finite}
-use Rattle.hybit_core.proofs.BoolLaws.{is_equal, is_unequal}
 use Rattle.lent.specs.Lists.{every}
 use Rattle.lent.specs.Lent.{Appended}
 use Rattle.lent.proofs.ListLaws.{every-get_or, every_drop, every_more, every_fails}
@@ -19,20 +18,20 @@ use Rattle.word.proofs.BelowLaws.{length-below-le}
 use Rattle.word.proofs.LowestLaws.{members-none}
 use Rattle.word.proofs.OpLaws.{members-count}
 use Rattle.word.proofs.WalkLaws.{some-members, lowest_small, walk_step}
-use Rattle.abtm.specs.Tiles.{word_in, kind_in}
+use Rattle.abtm.specs.Tiles.{word_in, is_dense}
 use Rattle.restricted_abtm.specs.Kept.{place_in, value_in, bits_inside}
 use Rattle.restricted_abtm.proofs.RoomLaws.{Fitting, fitting_more, fitting-past}
 
 -- ---- the place of a column among a tile's values
 
-module _ (meta mask i k : ℕ) (e : k ≡ kind_in meta) where
-  pub place_dense : k ≡ 2 → i ≡ place_in meta mask i
+module _ (meta mask i : ℕ) where
+  pub place_dense : is_dense meta ≡ true → i ≡ place_in meta mask i
   unfolding place_in
-  place_dense d = ap (λ (b : Bool). cond b i (count (has mask) i)) (is_equal (kind_in meta) 2 (sym e ∙ d))
+  place_dense d = ap (λ (b : Bool). cond b i (count (has mask) i)) (sym d)
 
-  pub place_packed : (r : ℕ) → (k ≡ 2 → ⊥) → r ≡ count (has mask) i → r ≡ place_in meta mask i
+  pub place_packed : (r : ℕ) → is_dense meta ≡ false → r ≡ count (has mask) i → r ≡ place_in meta mask i
   unfolding place_in
-  place_packed r d q = q ∙ ap (λ (b : Bool). cond b i (count (has mask) i)) (is_unequal (kind_in meta) 2 (λ f. d (e ∙ f)))
+  place_packed r d q = q ∙ ap (λ (b : Bool). cond b i (count (has mask) i)) (sym d)
 
 -- ---- the lowest column that is left, and the columns past it
 
@@ -98,9 +97,9 @@ module _ (vals : List Float) (bits mask offset meta from room : ℕ) (old_c : Li
         pub keeping_past : room ≤ at → Keeping r (at + 1) out_c out_v
         keeping_past h = step out_c out_v (fitting-past room _ from at old_c out_c inv.columns _ h) (fitting-past room _ from at old_v out_v inv.values _ h)
 
-        pub keeping_more : (w u p : ℕ) → at < room → room ≤ length old_c → room ≤ length old_v → w ≡ word_in meta → 64 * word_in meta ≤ 2 ^ 20 → u ≡ (64 * w + low) % 2 ^ 32 → p ≡ place_in meta mask low
+        pub keeping_more : (b u p : ℕ) → at < room → room ≤ length old_c → room ≤ length old_v → b ≡ 64 * word_in meta → 64 * word_in meta ≤ 2 ^ 20 → u ≡ (b + low) % 2 ^ 32 → p ≡ place_in meta mask low
             → Keeping r (at + 1) (set out_c at u) (set out_v at (get_or vals (offset + p) nan))
-        keeping_more w u p h hc hv ew small eu q =
+        keeping_more b u p h hc hv eb small eu q =
             let column : u ≡ 64 * word_in meta + low = omega (arith, keeping_low) in
             let value : get_or vals (offset + p) nan ≡ value_in vals mask offset meta low = value-at vals mask offset meta low p q in
             step (set out_c at u) (set out_v at (get_or vals (offset + p) nan))

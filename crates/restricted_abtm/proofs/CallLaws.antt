@@ -10,13 +10,13 @@ use lib.Dec.{leb}
 use lib.ListN.{length, get_or, take}
 use lib.Ieee.{Float}
 use borrow.Author.Tests.{leb-true}
-use Rattle.hybit_core.specs.Answer.{Answer, accepted, refused, plain, lengths_differ, demand, length_is, ◌and_then◌}
+use Rattle.hybit_core.specs.Answer.{Answer, accepted, refused, gives, refuses, answers, plain, lengths_differ, demand, length_is, ◌and_then◌}
 use Rattle.hybit_core.specs.Domain.{few, many}
 use Rattle.hybit_core.specs.Floats.{finite}
-use Rattle.hybit_core.specs.Table.{paper, told}
+use Rattle.hybit_core.specs.Table.{paper, told, given}
 use Rattle.hybit_core.specs.declared.HybitError.{HybitError}
 use Rattle.hybit_core.proofs.BoolLaws.{and_first, and-next, and_left, and_right, is_within, is_above}
-use Rattle.hybit_core.proofs.AnswerLaws.{demand_accepted, then_second, test_fails, test_passes, last_fails, last_passes, last_length_wrong, last_length_right, call_refused, call_accepted, by_records}
+use Rattle.hybit_core.proofs.AnswerLaws.{demand_accepted, accepted_by, then_second, test_fails, test_passes, last_fails, last_passes, last_length_wrong, last_length_right, call_refused, call_accepted, by_records}
 use Rattle.lent.specs.Lists.{joined, every}
 use Rattle.lent.specs.Lent.{Appended, padded}
 use Rattle.lent.proofs.ListLaws.{every_map}
@@ -213,8 +213,24 @@ module _ (t : Tiles) (a : Mask) (room : CsrRoom) where
   pub records_refuse : (v : Result Unit HybitError) (e : HybitError) → told v ≡ records_answer t a → v ≡ Err e → told v ≡ restrict_tiles_answer t a room
   records_refuse v e h k = ap told k ∙ call_refused (records_answer t a) (last_answer t a room) v e h k ∙ sym whole_is
 
-  pub last_decides : (v w : Result Unit HybitError) → told v ≡ records_answer t a → v ≡ Ok tt → told w ≡ last_answer t a room → told w ≡ restrict_tiles_answer t a room
-  last_decides v w h k l = call_accepted (records_answer t a) (last_answer t a room) (told w) v h k l ∙ sym whole_is
+  -- the records are accepted: what writing the entries answers decides
+  module _ (v : Result Unit HybitError) (h : told v ≡ records_answer t a) (good : v ≡ Ok tt) (f : Result ℕ HybitError) (n : ℕ) (l : given f ≡ answers (last_answer t a room) n) where
+    rest_is : restrict_tiles_answer t a room ≡ last_answer t a room
+    rest_is = whole_is ∙ ap (λ (r : Answer). r and_then last_answer t a room) (accepted_by (records_answer t a) v h good)
+
+    pub fill_refuses : (e : HybitError) → f ≡ Err e → restrict_tiles_answer t a room ≡ refused (paper e)
+    fill_refuses e k = rest_is ∙ go (last_answer t a room) (sym (ap given k) ∙ l)
+      where
+        go : (b : Answer) → refuses (paper e) ≡ answers b n → b ≡ refused (paper e)
+        go accepted q = absurd (cc q)
+        go (refused d) q = ap refused (cc q)
+
+    pub fill_accepts : (k : ℕ) → f ≡ Ok k → restrict_tiles_answer t a room ≡ accepted
+    fill_accepts k q = rest_is ∙ go (last_answer t a room) (sym (ap given q) ∙ l)
+      where
+        go : (b : Answer) → gives k ≡ answers b n → b ≡ accepted
+        go accepted q = refl
+        go (refused d) q = absurd (cc q)
 
 -- lists that a refused call has written to, cleared
 pub wiped : {A : Type 0} (z : A) (m n : ℕ) (last : List A) → m ≡ n → last ≡ padded z m [] → last ≡ padded z n []

@@ -1,8 +1,10 @@
 // restricted.rs: `PreparedColumnRestrictedCsrOperator::from_abtm`. The entries are written while there is room for them, and counted
 // on; the tests of what is kept come after that, and a refused call clears its lists.
+// A place past `room` is the answer that the lists are too short: the count is wanted to the end (4 and 1 come before 13).
+// Lists that are written stay apart in all functions, and facts of them too: a struct would have to name each in every contract.
 #![tactic(auto)]
 
-ghost use Rattle.std.specs.Prelude.{◌≡◌, true, ◌+◌, ◌*◌, ◌≤◌, ◌<◌, ◌^◌, ltb, length, take};
+ghost use Rattle.std.specs.Prelude.{ℕ, Ok, ◌≡◌, true, ◌+◌, ◌*◌, ◌≤◌, ◌<◌, ◌^◌, length, take};
 ghost use mathlib.Core.List.{map, zip};
 ghost use Rattle.hybit_core.specs.Answer.{accepted, answers, demand, ◌and_then◌};
 ghost use Rattle.hybit_core.specs.Domain.{many};
@@ -11,21 +13,36 @@ ghost use Rattle.hybit_core.specs.Table.{told, given};
 ghost use Rattle.lent.specs.Lists.{every};
 ghost use Rattle.lent.specs.Lent.{Appended, built, padded};
 ghost use Rattle.word.specs.Bits.{members};
-ghost use Rattle.mask.specs.Mask.{as_mask};
 ghost use Rattle.csr32.specs.Csr.{Entry};
 ghost use Rattle.csr32.specs.Made.{as_csr_room};
-ghost use Rattle.abtm.specs.Tiles.{as_tiles, word_in};
+ghost use Rattle.abtm.specs.Tiles.{word_in};
 ghost use Rattle.restricted.specs.Restricted.{restricted_tiles, restrict_tiles_answer, tile_restriction_of};
 ghost use Rattle.restricted_abtm.specs.Kept.{place_in, value_in, kept_all, kept_count, kept_answer, bits_inside, tile_ready, records_answer, last_answer, Restriction};
+ghost use Rattle.abtm.specs.Matrix.{lent_tiles};
+ghost use Rattle.abtm.specs.Row.{listed_of};
+ghost use Rattle.mask.specs.Dof.{lent_mask};
 
+use abtm::{AbtmMatrix, TileDesc, TileRow};
 use hybit_core::HybitError;
+use mask::DofMask;
 use restricted::ColumnRestriction;
 
+// What a restriction reads of tiles, a row's or all of them: their lists, the values, and the words of the mask. The values of each
+// tile and its word lie in them.
+#[derive(Clone, Copy)]
+struct ReadyTiles<'a> {
+    tiles: TileRow<'a>,
+    values: &'a [f64],
+    mask: &'a [u64],
+    ghost ready: { every (tile_ready (length values.now) (length mask.now)) (listed_of tiles) ≡ true },
+}
+
 // The place of a tile's column among its values: the column's own in a Dense tile, its rank among the tile's columns in any other.
+// Two of a tile's three numbers, so no `TileDesc`.
 fn place_in(meta: u32, mask: u64, bit: usize) -> usize
     ensures { result ≡ place_in meta mask bit }
 {
-    if abtm::kind_in(meta) == 2 {
+    if abtm::is_dense(meta) {
         return bit;
     }
     word::ones_below(mask, bit)
@@ -35,34 +52,32 @@ fn place_in(meta: u32, mask: u64, bit: usize) -> usize
 // place.
 fn keep_tile(
     bits: u64,
-    mask: u64,
-    offset: usize,
-    meta: u32,
+    tile: TileDesc,
     values: &[f64],
     from: usize,
     room: usize,
     out_col_idx: &mut [u32],
     out_values: &mut [f64],
 ) -> usize
-    requires fact_1 { 64 * word_in meta ≤ 2 ^ 20 }
-    requires fact_2 { bits_inside (length values.now) bits mask offset meta ≡ true }
-    requires fact_3 { (room ≤ length out_col_idx.old) × (room ≤ length out_values.old) }
-    requires fact_4 { from ≤ 2 ^ 40 }
+    requires base { 64 * word_in tile.meta ≤ 2 ^ 20 }
+    requires inside { bits_inside (length values.now) bits tile.mask tile.value_offset tile.meta ≡ true }
+    requires room { (room ≤ length out_col_idx.old) × (room ≤ length out_values.old) }
+    requires few { from ≤ 2 ^ 40 }
     ensures next { result ≡ from + length (members bits) }
-    ensures columns { result ≤ room → Appended (map (λ i. 64 * word_in meta + i) (members bits)) from result out_col_idx.old out_col_idx.new }
-    ensures values { result ≤ room → Appended (map (value_in values.now mask offset meta) (members bits)) from result out_values.old out_values.new }
+    ensures columns { result ≤ room → Appended (map (λ i. 64 * word_in tile.meta + i) (members bits)) from result out_col_idx.old out_col_idx.new }
+    ensures values { result ≤ room → Appended (map (value_in values.now tile.mask tile.value_offset tile.meta) (members bits)) from result out_values.old out_values.new }
 {
-    let base = 64 * abtm::word_in(meta) as usize;
+    let base = tile.base_col();
     let mut next = from;
     let mut rest = bits;
-    // A walk over the set bits of a word, which no range and no slice lists: each turn takes the lowest that is left.
+    // The set bits of a word, lowest first: an iterator of our own would be a type more, for two lines.
     while rest != 0 {
         let at = next;
         let bit = word::lowest(rest);
         next += 1;
         rest = word::without_lowest(rest);
         if at < room {
-            let place = offset + place_in(meta, mask, bit);
+            let place = tile.value_offset as usize + place_in(tile.meta, tile.mask, bit);
             out_col_idx[at] = hybit_core::narrow(base + bit);
             out_values[at] = values[place];
         }
@@ -73,97 +88,88 @@ fn keep_tile(
 // Appends the entries of a row's tiles in active columns, those that lie below `room`. Most tiles have none where few columns are
 // active.
 fn keep_row(
-    masks: &[u64],
-    value_offsets: &[u32],
-    metas: &[u32],
-    values: &[f64],
-    mask: &[u64],
+    listed: ReadyTiles,
     from: usize,
     room: usize,
     out_col_idx: &mut [u32],
     out_values: &mut [f64],
 ) -> usize
-    requires fact_1 { (length value_offsets.now ≡ length masks.now) × (length metas.now ≡ length masks.now) }
-    requires fact_2 { every (tile_ready (length values.now) (length mask.now)) (zip masks.now (zip value_offsets.now metas.now)) ≡ true }
-    requires fact_3 { length mask.now ≤ 2 ^ 14 }
-    requires fact_4 { (room ≤ length out_col_idx.old) × (room ≤ length out_values.old) }
-    requires fact_5 { from + 64 * length masks.now ≤ 2 ^ 31 }
-    ensures next { result ≡ from + length (kept_all values.now mask.now (zip masks.now (zip value_offsets.now metas.now))) }
-    ensures columns { result ≤ room → Appended (map (λ (e : Entry). e.0) (kept_all values.now mask.now (zip masks.now (zip value_offsets.now metas.now)))) from result out_col_idx.old out_col_idx.new }
-    ensures values { result ≤ room → Appended (map (λ (e : Entry). e.1) (kept_all values.now mask.now (zip masks.now (zip value_offsets.now metas.now)))) from result out_values.old out_values.new }
+    requires words { length listed.mask.now ≤ 2 ^ 14 }
+    requires room { (room ≤ length out_col_idx.old) × (room ≤ length out_values.old) }
+    requires few { from + 64 * length listed.tiles.masks.now ≤ 2 ^ 31 }
+    ensures next { result ≡ from + length (kept_all listed.entry.values.now listed.entry.mask.now (listed_of listed.entry.tiles)) }
+    ensures columns { result ≤ room → Appended (map (λ (e : Entry). e.0) (kept_all listed.entry.values.now listed.entry.mask.now (listed_of listed.entry.tiles))) from result out_col_idx.old out_col_idx.new }
+    ensures values { result ≤ room → Appended (map (λ (e : Entry). e.1) (kept_all listed.entry.values.now listed.entry.mask.now (listed_of listed.entry.tiles))) from result out_values.old out_values.new }
 {
     let mut at = from;
-    for (k, columns) in masks.iter().enumerate() {
-        let word = abtm::word_in(metas[k]) as usize;
-        let bits = word::intersection(*columns, mask[word]);
-        at = keep_tile(
-            bits,
-            *columns,
-            value_offsets[k] as usize,
-            metas[k],
-            values,
-            at,
-            room,
-            out_col_idx,
-            out_values,
-        );
+    for (k, columns) in listed.tiles.masks.iter().enumerate() {
+        let tile = TileDesc {
+            mask: *columns,
+            value_offset: listed.tiles.value_offsets[k],
+            meta: listed.tiles.metas[k],
+        };
+        let word = abtm::word_in(tile.meta) as usize;
+        let bits = word::intersection(tile.mask, listed.mask[word]);
+        at = keep_tile(bits, tile, listed.values, at, room, out_col_idx, out_values);
     }
     at
 }
 
+// The proofs know of a list that a call answers that its numbers have 64 bits, as they know it of a parameter, but not of a field.
+fn masks_of<'a>(tiles: AbtmMatrix<'a>) -> &'a [u64]
+    ensures { result.now ≡ tiles.entry.masks.now }
+{
+    tiles.masks
+}
+
 // The rows of accepted tiles and mask, the entries that lie below `room`; answers how many are kept.
-fn fill_rows(
-    nrows: usize,
-    ncols: usize,
-    row_tile_ptr: &[u32],
-    masks: &[u64],
-    value_offsets: &[u32],
-    metas: &[u32],
-    values: &[f64],
-    matrix_nnz: usize,
-    mask_len: usize,
-    mask: &[u64],
+// A row's pointers are read once for its three parts: lent::part would read and compare them for each.
+fn fill_rows<'a>(
+    tiles: AbtmMatrix<'a>,
+    mask: DofMask<'a>,
     room: usize,
     out_row_ptr: &mut [u32],
     out_col_idx: &mut [u32],
     out_values: &mut [f64],
 ) -> usize
-    requires fact_1 { records_answer (as_tiles nrows ncols row_tile_ptr.now masks.now value_offsets.now metas.now values.now matrix_nnz) (as_mask mask_len mask.now) ≡ accepted }
-    requires fact_2 { nrows < length out_row_ptr.old }
-    requires fact_3 { (room ≤ length out_col_idx.old) × (room ≤ length out_values.old) }
-    ensures kept { result ≡ length (restricted_tiles (as_tiles nrows ncols row_tile_ptr.now masks.now value_offsets.now metas.now values.now matrix_nnz) (as_mask mask_len mask.now)).val }
-    ensures pointers { Appended (restricted_tiles (as_tiles nrows ncols row_tile_ptr.now masks.now value_offsets.now metas.now values.now matrix_nnz) (as_mask mask_len mask.now)).ptr 0 (nrows + 1) out_row_ptr.old out_row_ptr.new }
-    ensures columns { result ≤ room → Appended (restricted_tiles (as_tiles nrows ncols row_tile_ptr.now masks.now value_offsets.now metas.now values.now matrix_nnz) (as_mask mask_len mask.now)).col 0 result out_col_idx.old out_col_idx.new }
-    ensures values { result ≤ room → Appended (restricted_tiles (as_tiles nrows ncols row_tile_ptr.now masks.now value_offsets.now metas.now values.now matrix_nnz) (as_mask mask_len mask.now)).val 0 result out_values.old out_values.new }
+    requires accepted { records_answer (lent_tiles tiles) (lent_mask mask) ≡ accepted }
+    requires pointers { tiles.nrows < length out_row_ptr.old }
+    requires room { (room ≤ length out_col_idx.old) × (room ≤ length out_values.old) }
+    ensures kept { result ≡ length (restricted_tiles (lent_tiles tiles.entry) (lent_mask mask.entry)).val }
+    ensures pointers { Appended (restricted_tiles (lent_tiles tiles.entry) (lent_mask mask.entry)).ptr 0 (tiles.entry.nrows + 1) out_row_ptr.old out_row_ptr.new }
+    ensures columns { result ≤ room → Appended (restricted_tiles (lent_tiles tiles.entry) (lent_mask mask.entry)).col 0 result out_col_idx.old out_col_idx.new }
+    ensures values { result ≤ room → Appended (restricted_tiles (lent_tiles tiles.entry) (lent_mask mask.entry)).val 0 result out_values.old out_values.new }
 {
+    let masks = masks_of(tiles);
     let mut at: usize = 0;
-    for row in 0..nrows {
+    for row in 0..tiles.nrows {
         out_row_ptr[row] = hybit_core::narrow(at);
-        at = keep_row(
-            lent::part(row_tile_ptr, masks, row),
-            lent::part(row_tile_ptr, value_offsets, row),
-            lent::part(row_tile_ptr, metas, row),
-            values,
-            mask,
-            at,
-            room,
-            out_col_idx,
-            out_values,
-        );
+        let start = tiles.row_tile_ptr[row] as usize;
+        let end = tiles.row_tile_ptr[row + 1] as usize;
+        let listed = ReadyTiles {
+            tiles: TileRow {
+                masks: &masks[start..end],
+                value_offsets: &tiles.value_offsets[start..end],
+                metas: &tiles.metas[start..end],
+            },
+            values: tiles.values,
+            mask: mask.words,
+        };
+        at = keep_row(listed, at, room, out_col_idx, out_values);
     }
-    out_row_ptr[nrows] = hybit_core::narrow(at);
+    out_row_ptr[tiles.nrows] = hybit_core::narrow(at);
     at
 }
 
 // Whether a tile's values in the columns of `bits` are finite.
-fn tile_finite(bits: u64, mask: u64, offset: usize, meta: u32, values: &[f64]) -> bool
-    requires { bits_inside (length values.now) bits mask offset meta ≡ true }
-    ensures { result ≡ every (λ i. finite (value_in values.now mask offset meta i)) (members bits) }
+fn tile_finite(bits: u64, tile: TileDesc, values: &[f64]) -> bool
+    requires { bits_inside (length values.now) bits tile.mask tile.value_offset tile.meta ≡ true }
+    ensures { result ≡ every (λ i. finite (value_in values.now tile.mask tile.value_offset tile.meta i)) (members bits) }
 {
     let mut rest = bits;
-    // A walk over the set bits of a word, which no range and no slice lists: each turn takes the lowest that is left.
+    // The set bits of a word, lowest first: an iterator of our own would be a type more, for two lines.
     while rest != 0 {
-        let place = offset + place_in(meta, mask, word::lowest(rest));
+        let place = tile.value_offset as usize + place_in(tile.meta, tile.mask, word::lowest(rest));
         if !hybit_core::is_finite(values[place]) {
             return false;
         }
@@ -173,27 +179,18 @@ fn tile_finite(bits: u64, mask: u64, offset: usize, meta: u32, values: &[f64]) -
 }
 
 // Whether the values of tiles in active columns are finite.
-fn active_finite(
-    masks: &[u64],
-    value_offsets: &[u32],
-    metas: &[u32],
-    values: &[f64],
-    mask: &[u64],
-) -> bool
-    requires fact_1 { (length value_offsets.now ≡ length masks.now) × (length metas.now ≡ length masks.now) }
-    requires fact_2 { every (tile_ready (length values.now) (length mask.now)) (zip masks.now (zip value_offsets.now metas.now)) ≡ true }
-    ensures { result ≡ every (λ (e : Entry). finite e.1) (kept_all values.now mask.now (zip masks.now (zip value_offsets.now metas.now))) }
+fn active_finite(listed: ReadyTiles) -> bool
+    ensures { result ≡ every (λ (e : Entry). finite e.1) (kept_all listed.entry.values.now listed.entry.mask.now (listed_of listed.entry.tiles)) }
 {
-    for (k, columns) in masks.iter().enumerate() {
-        let word = abtm::word_in(metas[k]) as usize;
-        let tested = word::intersection(*columns, mask[word]);
-        if !tile_finite(
-            tested,
-            *columns,
-            value_offsets[k] as usize,
-            metas[k],
-            values,
-        ) {
+    for (k, columns) in listed.tiles.masks.iter().enumerate() {
+        let tile = TileDesc {
+            mask: *columns,
+            value_offset: listed.tiles.value_offsets[k],
+            meta: listed.tiles.metas[k],
+        };
+        let word = abtm::word_in(tile.meta) as usize;
+        let tested = word::intersection(tile.mask, listed.mask[word]);
+        if !tile_finite(tested, tile, listed.values) {
             return false;
         }
     }
@@ -201,59 +198,43 @@ fn active_finite(
 }
 
 // The same: where all values are finite, the active ones are.
-fn kept_finite(
-    masks: &[u64],
-    value_offsets: &[u32],
-    metas: &[u32],
-    values: &[f64],
-    mask: &[u64],
-) -> bool
-    requires fact_1 { (length value_offsets.now ≡ length masks.now) × (length metas.now ≡ length masks.now) }
-    requires fact_2 { every (tile_ready (length values.now) (length mask.now)) (zip masks.now (zip value_offsets.now metas.now)) ≡ true }
-    ensures { result ≡ every (λ (e : Entry). finite e.1) (kept_all values.now mask.now (zip masks.now (zip value_offsets.now metas.now))) }
+fn kept_finite(listed: ReadyTiles) -> bool
+    ensures { result ≡ every (λ (e : Entry). finite e.1) (kept_all listed.entry.values.now listed.entry.mask.now (listed_of listed.entry.tiles)) }
 {
-    if csr32::all_finite(values) {
+    if csr32::all_finite(listed.values) {
         return true;
     }
-    active_finite(masks, value_offsets, metas, values, mask)
+    active_finite(listed)
 }
 
 // How many present columns of the tiles are active.
-fn count_kept(masks: &[u64], metas: &[u32], mask: &[u64]) -> usize
-    requires fact_1 { length masks.now ≤ 2 ^ 24 }
-    requires fact_2 { length metas.now ≡ length masks.now }
-    requires fact_3 { every (λ m. ltb (word_in m) (length mask.now)) metas.now ≡ true }
-    ensures { result ≡ kept_count mask.now (zip masks.now metas.now) }
+fn count_kept(listed: ReadyTiles) -> usize
+    requires { length listed.tiles.masks.now ≤ 2 ^ 24 }
+    ensures { result ≡ kept_count listed.entry.mask.now (zip listed.entry.tiles.masks.now listed.entry.tiles.metas.now) }
 {
     let mut kept: usize = 0;
-    for (k, columns) in masks.iter().enumerate() {
-        let word = abtm::word_in(metas[k]) as usize;
-        kept += word::popcount(word::intersection(*columns, mask[word]));
+    for (k, columns) in listed.tiles.masks.iter().enumerate() {
+        let word = abtm::word_in(listed.tiles.metas[k]) as usize;
+        kept += word::popcount(word::intersection(*columns, listed.mask[word]));
     }
     kept
 }
 
-// The tests of what is kept: 4, 1, 13.
+// The tests of what is kept: 4, 1, 13. The rooms are three numbers of this call alone: a struct of them would be no plainer.
 fn examine_kept(
     nrows: usize,
-    masks: &[u64],
-    value_offsets: &[u32],
-    metas: &[u32],
-    values: &[f64],
-    mask: &[u64],
+    listed: ReadyTiles,
     pointer_room: usize,
     column_room: usize,
     value_room: usize,
 ) -> Result<(), HybitError>
-    requires fact_1 { (length value_offsets.now ≡ length masks.now) × (length metas.now ≡ length masks.now) }
-    requires fact_2 { every (tile_ready (length values.now) (length mask.now)) (zip masks.now (zip value_offsets.now metas.now)) ≡ true }
-    requires fact_3 { length masks.now ≤ 2 ^ 24 }
-    ensures { told result ≡ kept_answer nrows (kept_all values.now mask.now (zip masks.now (zip value_offsets.now metas.now))) (as_csr_room pointer_room column_room value_room) }
+    requires { length listed.tiles.masks.now ≤ 2 ^ 24 }
+    ensures { told result ≡ kept_answer nrows (kept_all listed.entry.values.now listed.entry.mask.now (listed_of listed.entry.tiles)) (as_csr_room pointer_room column_room value_room) }
 {
-    if !kept_finite(masks, value_offsets, metas, values, mask) {
+    if !kept_finite(listed) {
         return Err(HybitError::NotFinite);
     }
-    let kept = count_kept(masks, metas, mask);
+    let kept = count_kept(listed);
     if !hybit_core::entries_fit(kept) {
         return Err(HybitError::SizeOverflow);
     }
@@ -270,48 +251,22 @@ fn examine_kept(
 }
 
 // The checks of the records and of their lengths: 1; 12; 5; 6.
-fn examine(
-    nrows: usize,
-    ncols: usize,
-    row_tile_ptr: &[u32],
-    masks: &[u64],
-    value_offsets: &[u32],
-    metas: &[u32],
-    values: &[f64],
-    matrix_nnz: usize,
-    mask_len: usize,
-    mask: &[u64],
-) -> Result<(), HybitError>
-    ensures { told result ≡ records_answer (as_tiles nrows ncols row_tile_ptr.now masks.now value_offsets.now metas.now values.now matrix_nnz) (as_mask mask_len mask.now) }
+// restricted_csr32 asks the same of another record. The mismatch stands beside its test: a function for it would be no plainer.
+fn examine(tiles: AbtmMatrix, mask: DofMask) -> Result<(), HybitError>
+    ensures { told result ≡ records_answer (lent_tiles tiles.entry) (lent_mask mask.entry) }
 {
-    if !hybit_core::dimension_fits(mask_len) {
+    if !hybit_core::dimension_fits(mask.len) {
         return Err(HybitError::SizeOverflow);
     }
-    abtm_check::check(
-        nrows,
-        ncols,
-        row_tile_ptr,
-        masks,
-        value_offsets,
-        metas,
-        values,
-        matrix_nnz,
-    )?;
-    mask::check(mask_len, mask)?;
-    if mask_len != ncols {
+    abtm_check::check(tiles)?;
+    mask.check()?;
+    if mask.len != tiles.ncols {
         return Err(HybitError::DimensionMismatch {
-            expected: ncols,
-            actual: mask_len,
+            expected: tiles.ncols,
+            actual: mask.len,
         });
     }
     Ok(())
-}
-
-// What a build leaves, and how many entries it keeps.
-#[derive(Clone, Copy)]
-struct Filled {
-    verdict: Result<(), HybitError>,
-    kept: usize,
 }
 
 // The tests of entries that have all been written: 4, 1.
@@ -329,83 +284,54 @@ fn examine_written(written: &[f64]) -> Result<(), HybitError>
 
 // Writes the entries of accepted tiles and mask. Where all of them fit, the values that were written are tested; where they don't, the
 // active ones are, since an infinite one is refused before a list that is too short.
-fn fill(
-    nrows: usize,
-    ncols: usize,
-    row_tile_ptr: &[u32],
-    masks: &[u64],
-    value_offsets: &[u32],
-    metas: &[u32],
-    values: &[f64],
-    matrix_nnz: usize,
-    mask_len: usize,
-    mask: &[u64],
+fn fill<'a>(
+    tiles: AbtmMatrix<'a>,
+    mask: DofMask<'a>,
     out_row_ptr: &mut [u32],
     out_col_idx: &mut [u32],
     out_values: &mut [f64],
-) -> Filled
-    requires { records_answer (as_tiles nrows ncols row_tile_ptr.now masks.now value_offsets.now metas.now values.now matrix_nnz) (as_mask mask_len mask.now) ≡ accepted }
-    ensures answer { told result.verdict ≡ last_answer (as_tiles nrows ncols row_tile_ptr.now masks.now value_offsets.now metas.now values.now matrix_nnz) (as_mask mask_len mask.now) (as_csr_room (length out_row_ptr.old) (length out_col_idx.old) (length out_values.old)) }
-    ensures lists { told result.verdict ≡ accepted → Restriction (as_tiles nrows ncols row_tile_ptr.now masks.now value_offsets.now metas.now values.now matrix_nnz) (as_mask mask_len mask.now) result.kept out_row_ptr.old out_row_ptr.new out_col_idx.old out_col_idx.new out_values.old out_values.new }
+) -> Result<usize, HybitError>
+    requires { records_answer (lent_tiles tiles) (lent_mask mask) ≡ accepted }
+    ensures answer { given result ≡ answers (last_answer (lent_tiles tiles.entry) (lent_mask mask.entry) (as_csr_room (length out_row_ptr.old) (length out_col_idx.old) (length out_values.old))) (length (restricted_tiles (lent_tiles tiles.entry) (lent_mask mask.entry)).val) }
+    ensures lists { (kept : ℕ) → result ≡ Ok kept → Restriction (lent_tiles tiles.entry) (lent_mask mask.entry) kept out_row_ptr.old out_row_ptr.new out_col_idx.old out_col_idx.new out_values.old out_values.new }
 {
-    if out_row_ptr.len() <= nrows {
-        let short = examine_kept(
-            nrows,
+    let masks = masks_of(tiles);
+    let listed = ReadyTiles {
+        tiles: TileRow {
             masks,
-            value_offsets,
-            metas,
-            values,
-            mask,
+            value_offsets: tiles.value_offsets,
+            metas: tiles.metas,
+        },
+        values: tiles.values,
+        mask: mask.words,
+    };
+    if out_row_ptr.len() <= tiles.nrows {
+        examine_kept(
+            tiles.nrows,
+            listed,
             out_row_ptr.len(),
             out_col_idx.len(),
             out_values.len(),
-        );
-        return Filled {
-            verdict: short,
-            kept: 0,
-        };
+        )?;
+        return Err(HybitError::ShortList);
     }
     let room = out_col_idx.len().min(out_values.len());
-    let kept = fill_rows(
-        nrows,
-        ncols,
-        row_tile_ptr,
-        masks,
-        value_offsets,
-        metas,
-        values,
-        matrix_nnz,
-        mask_len,
-        mask,
-        room,
-        out_row_ptr,
-        out_col_idx,
-        out_values,
-    );
+    let kept = fill_rows(tiles, mask, room, out_row_ptr, out_col_idx, out_values);
     if room < kept {
-        let short = examine_kept(
-            nrows,
-            masks,
-            value_offsets,
-            metas,
-            values,
-            mask,
+        examine_kept(
+            tiles.nrows,
+            listed,
             out_row_ptr.len(),
             out_col_idx.len(),
             out_values.len(),
-        );
-        return Filled {
-            verdict: short,
-            kept: 0,
-        };
+        )?;
+        return Err(HybitError::ShortList);
     }
-    Filled {
-        verdict: examine_written(&out_values[..kept]),
-        kept: kept,
-    }
+    examine_written(&out_values[..kept])?;
+    Ok(kept)
 }
 
-// Zeros in the lists from these places on.
+// Zeros in the lists from these places on. topology clears lists of words so, of other types; restricted_csr32 its own in place.
 fn clear_lists(
     out_row_ptr: &mut [u32],
     out_col_idx: &mut [u32],
@@ -425,66 +351,35 @@ fn clear_lists(
 // The entries of accepted tiles in active columns, in `out_row_ptr`, `out_col_idx` and `out_values`: the used parts are nrows + 1
 // pointers and as many columns and values as are kept.
 pub fn from_abtm(
-    nrows: usize,
-    ncols: usize,
-    row_tile_ptr: &[u32],
-    masks: &[u64],
-    value_offsets: &[u32],
-    metas: &[u32],
-    values: &[f64],
-    matrix_nnz: usize,
-    mask_len: usize,
-    mask: &[u64],
+    tiles: AbtmMatrix,
+    mask: DofMask,
     out_row_ptr: &mut [u32],
     out_col_idx: &mut [u32],
     out_values: &mut [f64],
 ) -> Result<ColumnRestriction, HybitError>
-    ensures answer { given result ≡ answers (restrict_tiles_answer (as_tiles nrows ncols row_tile_ptr.now masks.now value_offsets.now metas.now values.now matrix_nnz) (as_mask mask_len mask.now) (as_csr_room (length out_row_ptr.old) (length out_col_idx.old) (length out_values.old))) (tile_restriction_of (as_tiles nrows ncols row_tile_ptr.now masks.now value_offsets.now metas.now values.now matrix_nnz) (as_mask mask_len mask.now)) }
-    ensures pointers { out_row_ptr.new ≡ built 0 (length out_row_ptr.old) (restrict_tiles_answer (as_tiles nrows ncols row_tile_ptr.now masks.now value_offsets.now metas.now values.now matrix_nnz) (as_mask mask_len mask.now) (as_csr_room (length out_row_ptr.old) (length out_col_idx.old) (length out_values.old))) (restricted_tiles (as_tiles nrows ncols row_tile_ptr.now masks.now value_offsets.now metas.now values.now matrix_nnz) (as_mask mask_len mask.now)).ptr }
-    ensures columns { out_col_idx.new ≡ built 0 (length out_col_idx.old) (restrict_tiles_answer (as_tiles nrows ncols row_tile_ptr.now masks.now value_offsets.now metas.now values.now matrix_nnz) (as_mask mask_len mask.now) (as_csr_room (length out_row_ptr.old) (length out_col_idx.old) (length out_values.old))) (restricted_tiles (as_tiles nrows ncols row_tile_ptr.now masks.now value_offsets.now metas.now values.now matrix_nnz) (as_mask mask_len mask.now)).col }
-    ensures values { out_values.new ≡ built zero64 (length out_values.old) (restrict_tiles_answer (as_tiles nrows ncols row_tile_ptr.now masks.now value_offsets.now metas.now values.now matrix_nnz) (as_mask mask_len mask.now) (as_csr_room (length out_row_ptr.old) (length out_col_idx.old) (length out_values.old))) (restricted_tiles (as_tiles nrows ncols row_tile_ptr.now masks.now value_offsets.now metas.now values.now matrix_nnz) (as_mask mask_len mask.now)).val }
+    ensures answer { given result ≡ answers (restrict_tiles_answer (lent_tiles tiles.entry) (lent_mask mask.entry) (as_csr_room (length out_row_ptr.old) (length out_col_idx.old) (length out_values.old))) (tile_restriction_of (lent_tiles tiles.entry) (lent_mask mask.entry)) }
+    ensures pointers { out_row_ptr.new ≡ built 0 (length out_row_ptr.old) (restrict_tiles_answer (lent_tiles tiles.entry) (lent_mask mask.entry) (as_csr_room (length out_row_ptr.old) (length out_col_idx.old) (length out_values.old))) (restricted_tiles (lent_tiles tiles.entry) (lent_mask mask.entry)).ptr }
+    ensures columns { out_col_idx.new ≡ built 0 (length out_col_idx.old) (restrict_tiles_answer (lent_tiles tiles.entry) (lent_mask mask.entry) (as_csr_room (length out_row_ptr.old) (length out_col_idx.old) (length out_values.old))) (restricted_tiles (lent_tiles tiles.entry) (lent_mask mask.entry)).col }
+    ensures values { out_values.new ≡ built zero64 (length out_values.old) (restrict_tiles_answer (lent_tiles tiles.entry) (lent_mask mask.entry) (as_csr_room (length out_row_ptr.old) (length out_col_idx.old) (length out_values.old))) (restricted_tiles (lent_tiles tiles.entry) (lent_mask mask.entry)).val }
 {
-    let v = examine(
-        nrows,
-        ncols,
-        row_tile_ptr,
-        masks,
-        value_offsets,
-        metas,
-        values,
-        matrix_nnz,
-        mask_len,
-        mask,
-    );
+    let v = examine(tiles, mask);
     if let Err(e) = v {
         clear_lists(out_row_ptr, out_col_idx, out_values, 0, 0);
         return Err(e);
     }
-    let f = fill(
-        nrows,
-        ncols,
-        row_tile_ptr,
-        masks,
-        value_offsets,
-        metas,
-        values,
-        matrix_nnz,
-        mask_len,
-        mask,
-        out_row_ptr,
-        out_col_idx,
-        out_values,
-    );
-    let w = f.verdict;
-    if let Err(e) = w {
-        clear_lists(out_row_ptr, out_col_idx, out_values, 0, 0);
-        return Err(e);
+    match fill(tiles, mask, out_row_ptr, out_col_idx, out_values) {
+        Err(e) => {
+            clear_lists(out_row_ptr, out_col_idx, out_values, 0, 0);
+            Err(e)
+        }
+        Ok(kept) => {
+            clear_lists(out_row_ptr, out_col_idx, out_values, tiles.nrows + 1, kept);
+            Ok(ColumnRestriction {
+                nrows: tiles.nrows,
+                ncols: tiles.ncols,
+                source_nnz: tiles.matrix_nnz,
+                retained_nnz: kept,
+            })
+        }
     }
-    clear_lists(out_row_ptr, out_col_idx, out_values, nrows + 1, f.kept);
-    Ok(ColumnRestriction {
-        nrows: nrows,
-        ncols: ncols,
-        source_nnz: matrix_nnz,
-        retained_nnz: f.kept,
-    })
 }

@@ -1,5 +1,5 @@
 -- The rows of a restricted list, one after another: what an accepted call says, and what the code holds row after row. Assumes nothing.
-use mathlib.Core.Bool.{Bool, true, false, cond, ◌&&◌}
+use mathlib.Core.Bool.{Bool, true, ◌&&◌}
 use mathlib.Core.List.{List, map, map-append, zip}
 use mathlib.Core.Path.{◌≡◌, refl, sym, ap, ap₂, subst, ◌∙◌}
 use Prim.Native.Nat.{ℕ, suc, ◌+◌, ◌%◌, ◌^◌, ◌≤◌, ◌<◌}
@@ -9,13 +9,11 @@ use lib.Dec.{leb}
 use lib.ListN.{length, set, length-map, length-set}
 use lib.Ieee.{Float}
 use borrow.Author.Tests.{leb-true}
-use Rattle.std.specs.Prelude.{count_by}
-use Rattle.std.proofs.lemmas.List.Recursion.{is_count_by}
 use Rattle.hybit_core.specs.Answer.{Answer, accepted, demand, length_is, ◌and_then◌}
 use Rattle.hybit_core.specs.Domain.{few}
 use Rattle.hybit_core.proofs.BoolLaws.{and_left, and_right}
 use Rattle.hybit_core.proofs.AnswerLaws.{demand_accepted, then_first, then_second, length_accepted}
-use Rattle.lent.specs.Lists.{joined, each, starts, part, cons_if, only}
+use Rattle.lent.specs.Lists.{joined, each, starts, part, only}
 use Rattle.lent.specs.Lent.{Appended}
 use Rattle.lent.proofs.ListLaws.{joined_lengths, length-joined-suc, length-joined-le, length-only, only-joined, each-suc, joined-suc}
 use Rattle.lent.proofs.LentLaws.{appended_none, appended_join, appended_snoc}
@@ -32,16 +30,6 @@ use Rattle.restricted.proofs.KeepLaws.{length-kept}
 -- row r of the result
 abbrev pub kept_row : Csr → Mask → ℕ → List Entry
 kept_row m a r = entries_in (active a) (entries m r)
-
--- ---- columns, counted
-
-pub only_count : (t : ℕ → Bool) (cs : List ℕ) → length (only t cs) ≡ count_by t cs
-unfolding only
-only_count t = is_count_by (λ (l : List ℕ). length (only t l)) t refl (λ c cs. one (t c) c (only t cs))
-  where
-    one : (b : Bool) (c : ℕ) (l : List ℕ) → length (cons_if b c l) ≡ cond b (1 + length l) (length l)
-    one true c l = omega arith
-    one false c l = refl
 
 -- ---- how many entries are kept: the active ones among all columns, since the rows are all of them
 
@@ -63,6 +51,7 @@ module _ (m : Csr) (a : Mask) where
 -- ---- what an accepted call says
 
 pub record Restrictable (m : Csr) (a : Mask) (room : CsrRoom) : Type 0 where
+  pub accepted_list : csr_answer m ≡ accepted
   pub list : Valid m
   pub mask : masks.Valid a.size a.bits
   pub size : a.size ≡ m.cols
@@ -85,8 +74,10 @@ restrict_facts m a room e =
     let c : Bool = leb (length (restricted m a).col) room.col in
     let v : Bool = leb (length (restricted m a).val) room.val in
     let fits : (p && c && v) ≡ true = demand_accepted (fits_csr (restricted m a) room) 13 (then_second a6 a13 e6) in
+    let whole : csr_answer m ≡ accepted = ap₂ (λ (s : Bool) (t : Answer). demand s 1 and_then t) (and_right (few a.size) (csr_sizes m) sizes) (then_first (csr_rules m) (a5 and_then a6 and_then a13) e2) in
     record {
-      list = valid m (ap₂ (λ (s : Bool) (t : Answer). demand s 1 and_then t) (and_right (few a.size) (csr_sizes m) sizes) (then_first (csr_rules m) (a5 and_then a6 and_then a13) e2));
+      accepted_list = whole;
+      list = valid m whole;
       mask = masks.rules_valid a.size a.bits (leb-true a.size (2 ^ 20) (and_left (few a.size) (csr_sizes m) sizes)) (demand_accepted (mask_rules a) 5 (then_first a5 (a6 and_then a13) e5));
       size = length_accepted m.cols a.size (then_first a6 a13 e6);
       pointers = omega (arith, made_pointers m.rows m.cols (kept_row m a), leb-true (length (restricted m a).ptr) room.ptr (and_left p c (and_left (p && c) v fits)));
@@ -134,9 +125,6 @@ module _ (m : Csr) (a : Mask) (op oc : List ℕ) (ov : List Float) (r at : ℕ) 
     lent : entries_in (active a) (zip cs vs) ≡ kept_row m a r
     unfolding entries
     lent = ap₂ (λ (c : List ℕ) (v : List Float). entries_in (active a) (zip c v)) ec ev
-
-    pub row_sides_lent : length vs ≡ length cs
-    row_sides_lent = ap length ev ∙ sym (row_sides ok.list r) ∙ ap length (sym ec)
 
     next : at + length (kept_row m a r) ≤ length (joined (kept_row m a) m.rows)
     next = omega (arith, filling_at, length-joined-suc (kept_row m a) r, length-joined-le (kept_row m a) (suc r) m.rows (omega arith))

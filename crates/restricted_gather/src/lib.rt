@@ -10,17 +10,24 @@ ghost use Rattle.restricted.specs.Local.{member_rules, members_answer, gather_an
 
 use hybit_core::HybitError;
 
+// The members of a region of `global_size` rows, as a caller hands them in.
+#[derive(Clone, Copy)]
+pub struct RegionMembers<'a> {
+    pub global_size: usize,
+    pub members: &'a [u32],
+}
+
 // Whether the members rise and lie below the global size.
-fn members_hold(global_size: usize, members: &[u32]) -> bool
-    ensures { result ≡ member_rules global_size members.now }
+fn members_hold(region: RegionMembers) -> bool
+    ensures { result ≡ member_rules region.entry.global_size region.entry.members.now }
 {
     let mut least: usize = 0;
-    for member in members {
+    for member in region.members {
         let g = *member as usize;
         if g < least {
             return false;
         }
-        if g >= global_size {
+        if g >= region.global_size {
             return false;
         }
         least = g + 1;
@@ -28,37 +35,20 @@ fn members_hold(global_size: usize, members: &[u32]) -> bool
     true
 }
 
-// Whether these are members of a region of `global_size` rows: rising, and below that size.
-pub fn check(global_size: usize, members: &[u32]) -> Result<(), HybitError>
-    ensures { told result ≡ members_answer global_size members.now }
+// The two mismatches stand beside their tests: a function that takes both numbers and answers them would be no plainer.
+fn examine_gather(region: RegionMembers, global: &[f64], local_len: usize) -> Result<(), HybitError>
+    ensures { told result ≡ gather_answer region.entry.global_size region.entry.members.now global.now local_len }
 {
-    if !hybit_core::dimension_fits(global_size) {
-        return Err(HybitError::SizeOverflow);
-    }
-    if !members_hold(global_size, members) {
-        return Err(HybitError::BadStore);
-    }
-    Ok(())
-}
-
-fn examine_gather(
-    global_size: usize,
-    members: &[u32],
-    global: &[f64],
-    local_len: usize,
-) -> Result<(), HybitError>
-    ensures { told result ≡ gather_answer global_size members.now global.now local_len }
-{
-    check(global_size, members)?;
-    if global.len() != global_size {
+    region.check()?;
+    if global.len() != region.global_size {
         return Err(HybitError::DimensionMismatch {
-            expected: global_size,
+            expected: region.global_size,
             actual: global.len(),
         });
     }
-    if local_len != members.len() {
+    if local_len != region.members.len() {
         return Err(HybitError::DimensionMismatch {
-            expected: members.len(),
+            expected: region.members.len(),
             actual: local_len,
         });
     }
@@ -75,17 +65,27 @@ fn gather(members: &[u32], global: &[f64], local: &mut [f64])
     }
 }
 
-// The region's numbers of a vector, in `local`.
-pub fn gather_input(
-    global_size: usize,
-    members: &[u32],
-    global: &[f64],
-    local: &mut [f64],
-) -> Result<(), HybitError>
-    ensures answer { told result ≡ gather_answer global_size members.now global.now (length local.old) }
-    ensures list { local.new ≡ kept (gather_answer global_size members.now global.now (length local.old)) (gathered members.now global.now) local.old }
-{
-    examine_gather(global_size, members, global, local.len())?;
-    gather(members, global, local);
-    Ok(())
+impl<'a> RegionMembers<'a> {
+    // Whether these are members of a region of `global_size` rows: rising, and below that size.
+    pub fn check(self) -> Result<(), HybitError>
+        ensures { told result ≡ members_answer self.entry.global_size self.entry.members.now }
+    {
+        if !hybit_core::dimension_fits(self.global_size) {
+            return Err(HybitError::SizeOverflow);
+        }
+        if !members_hold(self) {
+            return Err(HybitError::BadStore);
+        }
+        Ok(())
+    }
+
+    // The region's numbers of a vector, in `local`.
+    pub fn gather_input(self, global: &[f64], local: &mut [f64]) -> Result<(), HybitError>
+        ensures answer { told result ≡ gather_answer self.entry.global_size self.entry.members.now global.now (length local.old) }
+        ensures list { local.new ≡ kept (gather_answer self.entry.global_size self.entry.members.now global.now (length local.old)) (gathered self.entry.members.now global.now) local.old }
+    {
+        examine_gather(self, global, local.len())?;
+        gather(self.members, global, local);
+        Ok(())
+    }
 }

@@ -1,6 +1,6 @@
 -- The numbers of a region: counted row by row, what they are of the local list, and that a count of entries stays below 2^24.
 -- Assumes nothing.
-use mathlib.Core.Bool.{Bool, true, false, cond, ◌&&◌}
+use mathlib.Core.Bool.{Bool, true, false, ◌&&◌}
 use mathlib.Core.List.{List, [], ◌∷◌, ◌++◌, append-nil, append_assoc, map}
 use mathlib.Core.Path.{◌≡◌, refl, sym, ap, ◌∙◌}
 use Prim.Native.Nat.{ℕ, zero, suc, ◌+◌, ◌*◌, ◌^◌, ◌≤◌, ◌<◌}
@@ -9,8 +9,6 @@ use lib.Dec.{leb, ltb}
 use lib.ListN.{length, get_or, length-append, length-map}
 use lib.Ieee.{Float}
 use borrow.Author.Tests.{leb-true, le-leb}
-use Rattle.std.specs.Prelude.{count_by}
-use Rattle.std.proofs.lemmas.List.Recursion.{is_count_by}
 use Rattle.hybit_core.proofs.BoolLaws.{and_left, and_right, and_both}
 use Rattle.lent.specs.Lists.{cons_if, every, joined, only, part, spread}
 use Rattle.lent.proofs.ListLaws.{joined_lengths, joined-le, length-only, length-joined-suc, spread-append}
@@ -65,16 +63,6 @@ module _ {B : Type 0} where
         go : (t : Bool) → length (spread f (below p (suc r))) ≡ length (spread f (below p r ++ cons_if t r [])) → length (spread f (below p r)) ≤ length (joined f r) → length (spread f (below p (suc r))) ≤ length (joined f (suc r))
         go true e h = omega (arith, spread-one (below p r) r, length-joined-suc f r)
         go false e h = omega (arith, ap (λ (l : List ℕ). length (spread f l)) (append-nil (below p r)), length-joined-suc f r)
-
--- ---- columns, counted
-
-pub only_count : (t : ℕ → Bool) (cs : List ℕ) → length (only t cs) ≡ count_by t cs
-unfolding only
-only_count t = is_count_by (λ (l : List ℕ). length (only t l)) t refl (λ c cs. one (t c) c (only t cs))
-  where
-    one : (b : Bool) (c : ℕ) (l : List ℕ) → length (cons_if b c l) ≡ cond b (1 + length l) (length l)
-    one true c l = omega arith
-    one false c l = refl
 
 -- ---- a row, whose columns are lent as cs
 

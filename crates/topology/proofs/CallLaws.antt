@@ -1,6 +1,6 @@
 -- What the calls on words know once their checks have accepted, and what their answers then are. Assumes nothing but masks of 64 bits.
 use Rattle.std.specs.Prelude.{Result, Ok, Err, Option}
-use Rattle.std.proofs.Common.{◌≡◌, ℕ, ◌*◌, ◌%◌, ◌^◌, ◌<◌, ◌≤◌, Bool, true, false, ◌&&◌, eqb, ltb, leb, List, [], ◌∷◌, length, sym, refl, ap, ◌∙◌, ap₂, arith, ltb-true, le-ltb, eq-eqb, leb-true}
+use Rattle.std.proofs.Common.{◌≡◌, ℕ, ◌*◌, ◌%◌, ◌^◌, ◌<◌, ◌≤◌, Bool, true, false, ◌&&◌, eqb, ltb, List, [], ◌∷◌, length, sym, refl, ap, ◌∙◌, ap₂, arith, ltb-true, le-ltb, eq-eqb}
 use mathlib.Core.Bool.{and-true}
 use Rattle.hybit_core.specs.Answer.{accepted, refused, plain, demand, ◌and_then◌}
 use Rattle.hybit_core.specs.Table.{told, paper}
@@ -15,9 +15,9 @@ use Rattle.csr32.specs.Csr.{framed_lists}
 use Rattle.csr32.proofs.FrameLaws.{RowIn, row_left, row_right, lists_sides, part_lengths}
 use Rattle.topology.specs.Words.{Words, as_words, row_member, member, row_rule, row_rules, set_bits, word_sizes, word_rules, word_answer}
 use Rattle.topology.specs.Calls.{row_answer}
-use Rattle.topology.proofs.RowLaws.{small}
+use Rattle.topology.proofs.RowLaws.{small, Row, row_is}
 use Rattle.topology.proofs.ScanLaws.{bits_append, bits_one}
-use Rattle.topology.proofs.TopologyLaws.{Accepted, accepted_facts, row_of, row_bits}
+use Rattle.topology.proofs.TopologyLaws.{Accepted, accepted_facts, row_bits}
 
 -- ---- the bits of some masks
 
@@ -104,14 +104,6 @@ module _ (t : Words) (r : ℕ) where
   pub row_checked : (v : Result Unit HybitError) → told v ≡ row_answer t r → v ≡ Ok tt → RowOk
   row_checked v e a = row_ok (accepted_by (row_answer t r) v e a)
 
-  -- a rank asks for its column too
-  module _ (c : ℕ) (v : Result Unit HybitError) (e : told v ≡ (row_answer t r and_then demand (leb c t.cols) 7)) (a : v ≡ Ok tt) where
-    pub rank_checked : RowOk
-    rank_checked = row_ok (then_first (row_answer t r) (demand (leb c t.cols) 7) (accepted_by (row_answer t r and_then demand (leb c t.cols) 7) v e a))
-
-    pub rank_low : c ≤ t.cols
-    rank_low = leb-true c t.cols (demand_accepted _ _ (then_second (row_answer t r) (demand (leb c t.cols) 7) (accepted_by (row_answer t r and_then demand (leb c t.cols) 7) v e a)))
-
   module _ (k : RowOk) where
     -- ws and ms are the row's parts
     module _ (ws ms : List ℕ) (a : ws ≡ part t.ptr t.word r) (b : ms ≡ part t.ptr t.mask r) where
@@ -126,6 +118,21 @@ module _ (t : Words) (r : ℕ) where
       unfolding member
       member_lent = ap₂ (λ (s m : List ℕ). row_member s m) a b
 
+      -- as the row of its own test, where its masks are words
+      module _ (s : small ms ≡ true) where
+        same_row : Row (member t r) t.cols ws ms
+        same_row = rw (← member_lent) (row_is t.cols ws ms rule_lent (sym sides_lent) s)
+
+        pub nonempty_is : length ws ≡ length (words_of (member t r) t.cols)
+        nonempty_is = ap length same_row.words
+
+        pub popcount_is : (n : ℕ) → n ≡ set_bits ms % 2 ^ 64 → n ≡ count (member t r) t.cols
+        popcount_is n e =
+            let q : set_bits ms ≡ count (member t r) t.cols = ap set_bits same_row.masks ∙ row_bits (member t r) t.cols in
+            let l : count (member t r) t.cols ≤ t.cols = length-below-le (member t r) t.cols in
+            let c : t.cols ≤ 2 ^ 20 = k.facts.cols_in in
+            omega arith
+
       pub contains_is : (c : ℕ) (x : Bool) → c < t.cols → x ≡ row_member ws ms c → x ≡ within t.cols (member t r) c
       contains_is c x l e = e ∙ ap (λ (f : ℕ → Bool). f c) member_lent ∙ sym (within_in t.cols (member t r) c l)
 
@@ -137,13 +144,3 @@ module _ (t : Words) (r : ℕ) where
 
     pub contains_past : (c : ℕ) → t.cols ≤ c → false ≡ within t.cols (member t r) c
     contains_past c h = sym (ap (λ (x : Bool). x && member t r c) (le-ltb c t.cols h))
-
-    pub nonempty_is : small t.mask ≡ true → (ws : List ℕ) → ws ≡ part t.ptr t.word r → length ws ≡ length (words_of (member t r) t.cols)
-    nonempty_is s ws a = ap length (a ∙ (row_of t k.facts s r k.here).words)
-
-    pub popcount_is : small t.mask ≡ true → (ms : List ℕ) (n : ℕ) → ms ≡ part t.ptr t.mask r → n ≡ set_bits ms % 2 ^ 64 → n ≡ count (member t r) t.cols
-    popcount_is s ms n b e =
-        let q : set_bits ms ≡ count (member t r) t.cols = ap set_bits (b ∙ (row_of t k.facts s r k.here).masks) ∙ row_bits (member t r) t.cols in
-        let l : count (member t r) t.cols ≤ t.cols = length-below-le (member t r) t.cols in
-        let c : t.cols ≤ 2 ^ 20 = k.facts.cols_in in
-        omega arith

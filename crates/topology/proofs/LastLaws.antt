@@ -1,6 +1,6 @@
 -- What the tests of a row find that run to its end: its numbers climb, no mask is 0, and the last word keeps its rule. Assumes nothing.
 use Rattle.std.proofs.Common.{◌≡◌, ℕ, suc, ◌+◌, ◌-◌, ◌*◌, ◌^◌, ◌<◌, ◌≤◌, Bool, true, false, not, ◌&&◌, eqb, ltb, leb, List, [], ◌∷◌, length, get_or, drop, sym, refl, ap, ◌∙◌, ap₂, add-one, arith, drop_of_length-le, drop-cons, lt-ltb, le-leb, leb-true}
-use mathlib.Core.Bool.{and-true, and-false, and_assoc}
+use mathlib.Core.Bool.{and-true, and_assoc}
 use mathlib.Core.List.{zip, zip_with}
 use native.Mathlib.Decide.{dec_lt}
 use borrow.Author.Tests.{eqb-false, not-true}
@@ -10,14 +10,6 @@ use Rattle.word.specs.Bits.{has, members}
 use Rattle.word.proofs.BitLaws.{every-below}
 use Rattle.topology.specs.Words.{word_rule, row_rule}
 use Rattle.topology.proofs.ScanLaws.{rule_outside}
-
--- ---- one test more
-
-pub keeps : (h t : Bool) → t ≡ true → h ≡ (h && t)
-keeps h t e = sym (ap (λ (s : Bool). h && s) e ∙ and-true h)
-
-pub drops : (h t : Bool) → t ≡ false → false ≡ (h && t)
-drops h t e = sym (ap (λ (s : Bool). h && s) e ∙ and-false h)
 
 -- ---- the numbers: those from place i on are still to be tested
 

@@ -45,6 +45,14 @@ row_member ws ms c = has (mask_in ws ms (c / 64)) (c % 64)
 unfoldable pub member : Words → ℕ → ℕ → Bool
 member t r = row_member (part t.ptr t.word r) (part t.ptr t.mask r)
 
+-- the set bits of all masks
+unfoldable pub set_bits : List ℕ → ℕ
+set_bits ms = length (spread members ms)
+
+-- the same words, with the set bits of their masks as the total
+abbrev pub counted : Words → Words
+counted t = as_words t.rows t.cols t.ptr t.word t.mask (set_bits t.mask)
+
 -- ---- its rules
 
 -- 1 finds nothing
@@ -62,10 +70,6 @@ row_rule cols ws ms = climbs 0 ws && every (word_rule cols) (zip ws ms)
 -- every row of a record keeps its rule
 unfoldable pub row_rules : Words → Bool
 row_rules t = every (λ r. row_rule t.cols (part t.ptr t.word r) (part t.ptr t.mask r)) (below (λ r. true) t.rows)
-
--- the set bits of all masks
-unfoldable pub set_bits : List ℕ → ℕ
-set_bits ms = length (spread members ms)
 
 -- 11 finds nothing: lists of one length, the pointer rules of CSR, the rules of each row, the total of set bits
 unfoldable pub word_rules : Words → Bool

@@ -3,18 +3,26 @@
 // topology_build, the set operations are topology_combine.
 #![tactic(auto)]
 
-ghost use Rattle.std.specs.Prelude.{◌≡◌, ◌*◌, ◌%◌, ◌^◌, ◌<◌, true, not, ◌&&◌, length, take, ◌==◌, nat_lt};
+ghost use Rattle.std.specs.Prelude.{◌≡◌, ◌*◌, ◌%◌, ◌^◌, not, length, take, ◌==◌};
 ghost use Rattle.hybit_core.specs.Answer.{answers};
 ghost use Rattle.hybit_core.specs.Table.{told, given};
 ghost use Rattle.lent.specs.Lists.{part, every, climbs};
 ghost use Rattle.lent.specs.Lent.{padded};
 ghost use Rattle.word.specs.Bits.{has, count, selected};
 ghost use Rattle.word.specs.Word.{rank_answer as word_rank_answer};
-ghost use Rattle.csr32.specs.Csr.{framed_lists};
-ghost use Rattle.topology.specs.Words.{as_words, word_rule, row_rule, row_rules, set_bits, word_rules, word_answer};
+ghost use Rattle.topology.specs.Words.{counted, word_rule, row_rule, row_rules, set_bits, word_rules, word_answer};
 ghost use Rattle.topology.specs.Calls.{stats_of, average_word, word_fill, bytes_per_one};
+ghost use Rattle.topology.specs.Matrix.{lent_topology};
 
 use hybit_core::HybitError;
+
+mod framed;
+mod matrix;
+mod row;
+
+pub use framed::FramedTopology;
+pub use matrix::AbtmTopology;
+pub use row::AbtmTopologyRow;
 
 // A word of a row by value.
 #[derive(Clone, Copy)]
@@ -95,14 +103,14 @@ impl AbtmTopologyStats {
     }
 }
 
-fn word_holds(ncols: usize, index: usize, mask: u64) -> bool
-    requires { index < 2 ^ 32 }
+// Whether a row of so many columns may hold this word.
+pub fn word_holds(ncols: usize, index: u32, mask: u64) -> bool
     ensures { result ≡ word_rule ncols (index, mask) }
 {
     if mask == 0 {
         return false;
     }
-    let base = 64 * index;
+    let base = 64 * index as usize;
     if base >= ncols {
         return false;
     }
@@ -110,32 +118,15 @@ fn word_holds(ncols: usize, index: usize, mask: u64) -> bool
 }
 
 // The two tests below run to the end of a row, without a branch on what they find, so that several places are tested at a time.
-fn also_above(holds: bool, before: u32, number: u32) -> bool
-    ensures { result ≡ (holds && nat_lt before number) }
-{
-    if before < number {
-        return holds;
-    }
-    false
-}
-
+// abtm_check has such tests of its own: there a word's number stands in its tile's meta.
 fn numbers_climb(words: &[u32]) -> bool
     ensures { result ≡ climbs 0 words.now }
 {
     let mut holds = true;
     for i in 1..words.len() {
-        holds = also_above(holds, words[i - 1], words[i]);
+        holds &= words[i - 1] < words[i];
     }
     holds
-}
-
-fn also_some(holds: bool, mask: u64) -> bool
-    ensures { result ≡ (holds && not (mask == 0)) }
-{
-    if mask != 0 {
-        return holds;
-    }
-    false
 }
 
 fn masks_hold(masks: &[u64]) -> bool
@@ -143,16 +134,17 @@ fn masks_hold(masks: &[u64]) -> bool
 {
     let mut holds = true;
     for mask in masks {
-        holds = also_some(holds, *mask);
+        holds &= *mask != 0;
     }
     holds
 }
 
-// A row's part of the word numbers and of the masks. Where the numbers climb, no word before the last reaches the column count.
-fn row_holds(ncols: usize, words: &[u32], masks: &[u64]) -> bool
-    requires { length masks.now ≡ length words.now }
-    ensures { result ≡ row_rule ncols words.now masks.now }
+// Where the numbers climb, no word before the last reaches the column count.
+fn row_holds(ncols: usize, row: AbtmTopologyRow) -> bool
+    ensures { result ≡ row_rule ncols row.entry.words.now row.entry.masks.now }
 {
+    let words = row.words;
+    let masks = row.masks;
     if words.len() == 0 {
         return true;
     }
@@ -163,23 +155,15 @@ fn row_holds(ncols: usize, words: &[u32], masks: &[u64]) -> bool
         return false;
     }
     let last = words.len() - 1;
-    word_holds(ncols, words[last] as usize, masks[last])
+    word_holds(ncols, words[last], masks[last])
 }
 
-fn rows_hold(
-    nrows: usize,
-    ncols: usize,
-    row_word_ptr: &[u32],
-    word_indices: &[u32],
-    masks: &[u64],
-    structural_nnz: usize,
-) -> bool
-    requires { framed_lists nrows row_word_ptr.now (length word_indices.now) (length masks.now) ≡ true }
-    ensures { result ≡ row_rules (as_words nrows ncols row_word_ptr.now word_indices.now masks.now structural_nnz) }
+// A loop and no `all`: that promises something of the run of its closure, where here each row's number counts.
+fn rows_hold(framed: FramedTopology) -> bool
+    ensures { result ≡ row_rules (lent_topology framed.entry.topology) }
 {
-    for row in 0..nrows {
-        let words = lent::part(row_word_ptr, word_indices, row);
-        if !row_holds(ncols, words, lent::part(row_word_ptr, masks, row)) {
+    for row in 0..framed.topology.nrows {
+        if !row_holds(framed.topology.ncols, framed.row(row)) {
             return false;
         }
     }
@@ -192,12 +176,14 @@ pub fn count_bits(masks: &[u64]) -> usize
 {
     let mut ones: usize = 0;
     for mask in masks {
-        ones = std::num::wrapping_add_usize(ones, word::popcount(*mask));
+        ones = ones.wrapping_add(word::popcount(*mask));
     }
     ones
 }
 
+// restricted_abtm has its own for a plot list: there the third list is of f64.
 // Zeros in the pointers from place `rows` on, and in the words and masks from place `words` on: the end of every build.
+// Lists that are written stay apart: a struct of them would have to name each in every contract.
 pub fn clear_past(
     rows: usize,
     words: usize,
@@ -214,82 +200,73 @@ pub fn clear_past(
     lent::clear_from(masks, words);
 }
 
-fn lists_hold(
-    nrows: usize,
-    ncols: usize,
-    row_word_ptr: &[u32],
-    word_indices: &[u32],
-    masks: &[u64],
-) -> bool
-    ensures { result ≡ word_rules (as_words nrows ncols row_word_ptr.now word_indices.now masks.now (set_bits masks.now)) }
+fn lists_hold(topology: AbtmTopology) -> bool
+    ensures { result ≡ word_rules (counted (lent_topology topology.entry)) }
 {
-    if !csr32::lists_hold(nrows, row_word_ptr, word_indices.len(), masks.len()) {
+    if !csr32::lists_hold(
+        topology.nrows,
+        topology.row_word_ptr,
+        topology.word_indices.len(),
+        topology.masks.len(),
+    ) {
         return false;
     }
-    rows_hold(nrows, ncols, row_word_ptr, word_indices, masks, 0)
+    rows_hold(FramedTopology { topology })
 }
 
-// `check` of all but the total: of words whose total is the set bits of their masks.
-pub fn check_lists(
-    nrows: usize,
-    ncols: usize,
-    row_word_ptr: &[u32],
-    word_indices: &[u32],
-    masks: &[u64],
-) -> Result<(), HybitError>
-    ensures { told result ≡ word_answer (as_words nrows ncols row_word_ptr.now word_indices.now masks.now (set_bits masks.now)) }
-{
-    if !hybit_core::sizes_fit(nrows, ncols, word_indices.len(), masks.len()) {
-        return Err(HybitError::SizeOverflow);
+impl<'a> FramedTopology<'a> {
+    // The words and masks of a row.
+    pub fn row(self, row: usize) -> AbtmTopologyRow<'a>
+        ensures words { result.words.now ≡ part self.entry.topology.row_word_ptr.now self.entry.topology.word_indices.now row }
+        ensures masks { result.masks.now ≡ part self.entry.topology.row_word_ptr.now self.entry.topology.masks.now row }
+    {
+        let words = lent::part(self.topology.row_word_ptr, self.topology.word_indices, row);
+        let masks = lent::part(self.topology.row_word_ptr, self.topology.masks, row);
+        AbtmTopologyRow { words, masks }
     }
-    if !lists_hold(nrows, ncols, row_word_ptr, word_indices, masks) {
-        return Err(HybitError::BadWords);
-    }
-    Ok(())
 }
 
-// The Rust's `validate`.
-pub fn check(
-    nrows: usize,
-    ncols: usize,
-    row_word_ptr: &[u32],
-    word_indices: &[u32],
-    masks: &[u64],
-    structural_nnz: usize,
-) -> Result<(), HybitError>
-    ensures { told result ≡ word_answer (as_words nrows ncols row_word_ptr.now word_indices.now masks.now structural_nnz) }
-{
-    check_lists(nrows, ncols, row_word_ptr, word_indices, masks)?;
-    if structural_nnz != count_bits(masks) {
-        return Err(HybitError::BadWords);
+impl<'a> AbtmTopology<'a> {
+    // `check` of all but the total.
+    pub fn check_lists(self) -> Result<(), HybitError>
+        ensures { told result ≡ word_answer (counted (lent_topology self.entry)) }
+    {
+        if !hybit_core::sizes_fit(
+            self.nrows,
+            self.ncols,
+            self.word_indices.len(),
+            self.masks.len(),
+        ) {
+            return Err(HybitError::SizeOverflow);
+        }
+        if !lists_hold(self) {
+            return Err(HybitError::BadWords);
+        }
+        Ok(())
     }
-    Ok(())
-}
 
-pub fn stats(
-    nrows: usize,
-    ncols: usize,
-    row_word_ptr: &[u32],
-    word_indices: &[u32],
-    masks: &[u64],
-    structural_nnz: usize,
-) -> Result<AbtmTopologyStats, HybitError>
-    ensures { given result ≡ answers (word_answer (as_words nrows ncols row_word_ptr.now word_indices.now masks.now structural_nnz)) (stats_of (as_words nrows ncols row_word_ptr.now word_indices.now masks.now structural_nnz)) }
-{
-    check(
-        nrows,
-        ncols,
-        row_word_ptr,
-        word_indices,
-        masks,
-        structural_nnz,
-    )?;
-    let words = word_indices.len();
-    Ok(AbtmTopologyStats {
-        nrows: nrows,
-        ncols: ncols,
-        structural_nnz: structural_nnz,
-        nonempty_words: words,
-        metadata_bytes: 4 * (nrows + 1) + 12 * words,
-    })
+    // The Rust's `validate`.
+    pub fn check(self) -> Result<(), HybitError>
+        ensures { told result ≡ word_answer (lent_topology self.entry) }
+    {
+        self.check_lists()?;
+        if self.structural_nnz != count_bits(self.masks) {
+            return Err(HybitError::BadWords);
+        }
+        Ok(())
+    }
+
+    pub fn stats(self) -> Result<AbtmTopologyStats, HybitError>
+        ensures { given result ≡ answers (word_answer (lent_topology self.entry)) (stats_of (lent_topology self.entry)) }
+    {
+        self.check()?;
+        let words = self.word_indices.len();
+        Ok(AbtmTopologyStats {
+            nrows: self.nrows,
+            ncols: self.ncols,
+            structural_nnz: self.structural_nnz,
+            nonempty_words: words,
+            metadata_bytes: 4 * (self.nrows + 1) + 12 * words,
+        })
+    }
 }

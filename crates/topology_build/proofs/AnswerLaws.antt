@@ -25,7 +25,7 @@ use Rattle.lent.proofs.ListLaws.{joined-le}
 use Rattle.word.specs.Bits.{below}
 use Rattle.mask.specs.Calls.{listed}
 use Rattle.csr32.specs.Csr.{Csr, as_csr, csr_answer, entries, present}
-use Rattle.csr32.proofs.FrameLaws.{Framed, parts_all}
+use Rattle.csr32.proofs.FrameLaws.{parts_all}
 use Rattle.csr32.proofs.CsrLaws.{Valid, checked, present_row}
 use Rattle.topology.specs.Words.{Words, topology_of, set_bits, word_answer}
 use Rattle.topology.specs.declared.TopologySize.{TopologySize}
@@ -33,7 +33,8 @@ use Rattle.topology.specs.Calls.{as_room, fits_words, as_size, used_of}
 use Rattle.topology.proofs.TopologyLaws.{total_bits, topology_pointers, topology_sides, topology_checked}
 use Rattle.levels.proofs.LevelLaws.{listed-few, columns_few}
 use Rattle.topology_build.specs.Build.{topology_from, build_answer}
-use Rattle.topology_build.specs.Making.{Source, row_test, row_words, Rows, Ended}
+use Rattle.topology_build.specs.Making.{row_test, row_words, Rows, Ended}
+use Rattle.topology_build.proofs.RowsLaws.{Source, source_of}
 
 -- what the call answers, and what its lists of np, nw and nm places hold
 abbrev Outcome : Answer → Given TopologySize → Words → ℕ → ℕ → ℕ → List ℕ → List ℕ → List ℕ → Type 0
@@ -98,8 +99,8 @@ module _ (rows cols : ℕ) (ptr col : List ℕ) (val : List Float) (v : Result U
     ok : Valid m
     ok = checked m v t k
 
-    pub source_by : Source rows cols ptr col
-    source_by = record { cols_in = ok.cols_in; entries_in = ok.entries_in; frame = subst (λ (n : ℕ). Framed rows ptr n) (sym ok.sides) ok.frame; columns = ok.columns }
+    source_by : Source rows cols ptr col
+    source_by = source_of m (accepted_by (csr_answer m) v t k)
 
     tests : row_test ptr col ≡ (λ r. present (entries m r))
     unfolding listed

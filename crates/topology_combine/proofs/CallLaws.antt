@@ -17,43 +17,21 @@ use Rattle.hybit_core.specs.Table.{paper, told}
 use Rattle.hybit_core.specs.declared.HybitError.{HybitError}
 use Rattle.hybit_core.proofs.BoolLaws.{and_left, and_right, and_both}
 use Rattle.hybit_core.proofs.AnswerLaws.{demand_accepted, then_first, then_second, call_refused, call_accepted, accepted_by}
-use Rattle.lent.specs.Lists.{joined, each}
+use Rattle.lent.specs.Lists.{each}
 use Rattle.lent.specs.Lent.{padded, Appended}
 use Rattle.lent.proofs.ListLaws.{each_is, length-each}
 use Rattle.lent.proofs.LentLaws.{Filled, filled_more, filled_length, appended_cleared, handed_used}
-use Rattle.csr32.specs.Csr.{framed_lists}
 use Rattle.word.specs.Word.{combined}
 use Rattle.word.specs.declared.Operation.{Operation}
-use Rattle.topology.specs.Words.{Words, as_words, member, row_rules, set_bits, word_answer}
+use Rattle.topology.specs.Words.{Words, member, set_bits, word_answer}
 use Rattle.topology.specs.Calls.{Room, as_room, fits_words, as_size, used_of}
-use Rattle.topology.proofs.RowLaws.{small}
 use Rattle.topology.proofs.TopologyLaws.{total_bits, topology_checked}
 use Rattle.topology.proofs.CallLaws.{bits_whole}
 use Rattle.topology_pair.specs.Pair.{pair_answer, room_answer}
 use Rattle.topology_pair.proofs.PairLaws.{Pair, pair_of}
 use Rattle.topology_combine.specs.Combine.{combined_words, combine_answer}
-use Rattle.topology_combine.specs.Merge.{TwoRecords}
-use Rattle.topology_combine.proofs.RowsLaws.{words_at, combined-words, combined_masks, words_most}
+use Rattle.topology_combine.proofs.RowsLaws.{combined-words, combined_masks, words_most}
 use Rattle.topology_combine.proofs.FillLaws.{masks_total, pointers_long, pointer_at, Filling, filling_none}
-
--- ---- two accepted records
-
-module _ (a b : Words) (p : Pair a b) where
-  -- as the functions that run over the rows ask for it
-  pub pair_records : TwoRecords a.rows a.cols a.ptr a.word a.mask b.ptr b.word b.mask
-  unfolding row_rules
-  pair_records = record {
-    one = record { lists = p.one.lists; rules = p.one_rules };
-    two = record {
-      lists = ap (λ (n : ℕ). framed_lists n b.ptr (length b.word) (length b.mask)) p.same_rows ∙ p.two.lists;
-      rules = ap₂ (λ (n m : ℕ). row_rules (as_words n m b.ptr b.word b.mask 0)) p.same_rows p.same_cols ∙ p.two_rules;
-    };
-  }
-
--- the totals, and the second record's frame, don't matter
-pub combined_same : (op : Operation) (a b : Words) → combined_words op a b ≡ combined_words op (as_words a.rows a.cols a.ptr a.word a.mask 0) (as_words a.rows a.cols b.ptr b.word b.mask 0)
-unfolding member
-combined_same op a b = refl
 
 -- ---- room
 
@@ -97,44 +75,28 @@ module _ (op : Operation) (a b : Words) (room : Room) (pv : Result Unit HybitErr
     the_pair : Pair a b
     the_pair = pair_of a b (accepted_by (pair_answer a b) pv hp k)
 
-    pub pair_checked : TwoRecords a.rows a.cols a.ptr a.word a.mask b.ptr b.word b.mask
-    pair_checked = pair_records a b the_pair
-
     pub pair_few : length a.word + length b.word ≤ 2 ^ 25
     pair_few = omega (arith, the_pair.one.words_in, the_pair.two.words_in)
 
     -- the words are counted
-    pub combine_counted : (x : Result Unit HybitError) (n : ℕ)
-        → n ≡ length (combined_words op (as_words a.rows a.cols a.ptr a.word a.mask 0) (as_words a.rows a.cols b.ptr b.word b.mask 0)).word
-        → told x ≡ room_answer a.rows n room → told x ≡ combine_answer op a b room
-    combine_counted x n e h =
-        combine_rest (told x) (h ∙ ap (λ (i : ℕ). room_answer a.rows i room) (e ∙ sym (ap (λ (t : Words). length t.word) (combined_same op a b))))
+    pub combine_counted : (x : Result Unit HybitError) (n : ℕ) → n ≡ length (combined_words op a b).word → told x ≡ room_answer a.rows n room → told x ≡ combine_answer op a b room
+    combine_counted x n e h = combine_rest (told x) (h ∙ ap (λ (i : ℕ). room_answer a.rows i room) e)
 
     -- the words of both records together would fit
-    pub combine_most : (x : Result Unit HybitError) → small a.mask ≡ true → small b.mask ≡ true → told x ≡ room_answer a.rows (length a.word + length b.word) room → x ≡ Ok tt → accepted ≡ combine_answer op a b room
-    combine_most x sa sb h l =
-        let c : (combined_words op a b).word ≡ joined (words_at op (as_words a.rows a.cols a.ptr a.word a.mask 0) (as_words a.rows a.cols b.ptr b.word b.mask 0)) a.rows =
-        ap (λ (t : Words). t.word) (combined_same op a b) ∙ combined-words op (as_words a.rows a.cols a.ptr a.word a.mask 0) (as_words a.rows a.cols b.ptr b.word b.mask 0) in
-        let m : length (combined_words op a b).word ≤ length a.word + length b.word =
-        omega (arith, ap length c, words_most a.rows a.cols a.ptr a.word a.mask b.ptr b.word b.mask pair_checked op sa sb) in
-        combine_rest accepted (sym (room_less a.rows (length (combined_words op a b).word) (length a.word + length b.word) room m (accepted_by (room_answer a.rows (length a.word + length b.word) room) x h l)))
+    pub combine_most : (x : Result Unit HybitError) → told x ≡ room_answer a.rows (length a.word + length b.word) room → x ≡ Ok tt → accepted ≡ combine_answer op a b room
+    combine_most x h l =
+        combine_rest accepted
+        (sym (room_less a.rows (length (combined_words op a b).word) (length a.word + length b.word) room (words_most op a b the_pair) (accepted_by (room_answer a.rows (length a.word + length b.word) room) x h l)))
 
 -- ---- an accepted call: what the rows are written with, and what the lists hold at the end
 
-module _ (op : Operation) (a b : Words) (ptr₀ words₀ masks₀ : List ℕ) (v : Result Unit HybitError) (h : told v ≡ combine_answer op a b (as_room (length ptr₀) (length words₀) (length masks₀))) (k : v ≡ Ok tt) where
-  -- the two records as the rows are read from them
-  abbrev bare : Words
-  bare = combined_words op (as_words a.rows a.cols a.ptr a.word a.mask 0) (as_words a.rows a.cols b.ptr b.word b.mask 0)
-
-  taken : combine_answer op a b (as_room (length ptr₀) (length words₀) (length masks₀)) ≡ accepted
-  taken = accepted_by (combine_answer op a b (as_room (length ptr₀) (length words₀) (length masks₀))) v h k
-
+module _ (op : Operation) (a b : Words) (ptr₀ words₀ masks₀ : List ℕ) (taken : combine_answer op a b (as_room (length ptr₀) (length words₀) (length masks₀)) ≡ accepted) where
   abbrev rest : Answer
   rest = demand (many (length (combined_words op a b).word)) 1 and_then demand (fits_words (combined_words op a b) (as_room (length ptr₀) (length words₀) (length masks₀))) 13
 
-  pair : Pair a b
+  pub taken_pair : Pair a b
   unfolding combine_answer
-  pair = pair_of a b (then_first (pair_answer a b) rest taken)
+  taken_pair = pair_of a b (then_first (pair_answer a b) rest taken)
 
   room-left : (many (length (combined_words op a b).word) ≡ true) × (fits_words (combined_words op a b) (as_room (length ptr₀) (length words₀) (length masks₀)) ≡ true)
   unfolding combine_answer
@@ -144,68 +106,60 @@ module _ (op : Operation) (a b : Words) (ptr₀ words₀ masks₀ : List ℕ) (v
       let f : Answer = demand (fits_words (combined_words op a b) (as_room (length ptr₀) (length words₀) (length masks₀))) 13 in
       (demand_accepted (many (length (combined_words op a b).word)) 1 (then_first m f x), demand_accepted (fits_words (combined_words op a b) (as_room (length ptr₀) (length words₀) (length masks₀))) 13 (then_second m f x))
 
-  pub ready : TwoRecords a.rows a.cols a.ptr a.word a.mask b.ptr b.word b.mask
-      × ((many (length bare.word) ≡ true) × (fits_words bare (as_room (length ptr₀) (length words₀) (length masks₀)) ≡ true))
-  ready = (pair_records a b pair, rw (← combined_same op a b) room-left)
+  pub start : Filling op a b ptr₀ words₀ masks₀ 0 0 ptr₀ words₀ masks₀
+  start = filling_none op a b ptr₀ words₀ masks₀ room-left.0 room-left.1
 
-  pub ready_rows : a.rows ≤ 2 ^ 20
-  ready_rows = pair.one.rows_in
+  module _ (n : ℕ) (ptr words masks : List ℕ) (f : Filled (λ k. get_or (combined_words op a b).ptr k 0) ptr₀ a.rows ptr) (w : Appended (combined_words op a b).word 0 n words₀ words) (m : Appended (combined_words op a b).mask 0 n masks₀ masks) where
+    many-words : n ≡ length (combined_words op a b).word
+    many-words = w.next ∙ zero-add (length (combined_words op a b).word)
 
-  module _ (n : ℕ) (ptr words masks : List ℕ) (f : Filled (λ k. get_or bare.ptr k 0) ptr₀ a.rows ptr) (w : Appended bare.word 0 n words₀ words) (m : Appended bare.mask 0 n masks₀ masks) where
-    start : Filling op (as_words a.rows a.cols a.ptr a.word a.mask 0) (as_words a.rows a.cols b.ptr b.word b.mask 0) ptr₀ words₀ masks₀ 0 0 ptr₀ words₀ masks₀
-    start =
-        filling_none op (as_words a.rows a.cols a.ptr a.word a.mask 0) (as_words a.rows a.cols b.ptr b.word b.mask 0) ptr₀ words₀ masks₀ ready.1.0 ready.1.1
+    many_masks : n ≡ length (combined_words op a b).mask
+    many_masks = m.next ∙ zero-add (length (combined_words op a b).mask)
 
-    many-words : n ≡ length bare.word
-    many-words = w.next ∙ zero-add (length bare.word)
-
-    many_masks : n ≡ length bare.mask
-    many_masks = m.next ∙ zero-add (length bare.mask)
-
-    last_pointer : n ≡ get_or bare.ptr a.rows 0
+    last_pointer : n ≡ get_or (combined_words op a b).ptr a.rows 0
     last_pointer =
-        many-words ∙ ap length (combined-words op (as_words a.rows a.cols a.ptr a.word a.mask 0) (as_words a.rows a.cols b.ptr b.word b.mask 0))
-        ∙ sym (pointer_at op (as_words a.rows a.cols a.ptr a.word a.mask 0) (as_words a.rows a.cols b.ptr b.word b.mask 0) a.rows (le_refl a.rows))
+        many-words ∙ ap length (combined-words op a b)
+        ∙ sym (pointer_at op a b a.rows (le_refl a.rows))
 
     pub end_few : n ≤ 2 ^ 24
-    end_few = omega (arith, many-words, leb-true (length bare.word) (2 ^ 24) ready.1.0)
+    end_few = omega (arith, many-words, leb-true (length (combined_words op a b).word) (2 ^ 24) room-left.0)
 
     pub end_frame : (a.rows < length ptr) × (length ptr ≡ length ptr₀)
     end_frame =
-        let e : length ptr ≡ length ptr₀ = filled_length (λ k. get_or bare.ptr k 0) ptr₀ a.rows ptr f (omega (arith, start.ptr_room)) in
+        let e : length ptr ≡ length ptr₀ = filled_length (λ k. get_or (combined_words op a b).ptr k 0) ptr₀ a.rows ptr f (omega (arith, start.ptr_room)) in
         (omega (arith, e, start.ptr_room), e)
 
     pub end_long : (x : ℕ) → length (set ptr a.rows x) ≡ length ptr₀
     end_long x = length-set ptr a.rows x ∙ end_frame.1
 
     pub end_masks_room : length masks ≡ length masks₀ → n ≤ length masks
-    end_masks_room e = omega (arith, many-words, ap length (combined-words op (as_words a.rows a.cols a.ptr a.word a.mask 0) (as_words a.rows a.cols b.ptr b.word b.mask 0)), start.mask_room)
+    end_masks_room e = omega (arith, many-words, ap length (combined-words op a b), start.mask_room)
 
     pub end_pointers : (x : ℕ) (last : List ℕ) → x ≡ n % 2 ^ 32 → last ≡ padded 0 (length (set ptr a.rows x)) (take (a.rows + 1) (set ptr a.rows x)) → last ≡ padded 0 (length ptr₀) (combined_words op a b).ptr
     end_pointers x last e z =
-        let g : ℕ → ℕ = λ k. get_or bare.ptr k 0 in
+        let g : ℕ → ℕ = λ k. get_or (combined_words op a b).ptr k 0 in
         let whole : x ≡ n = omega (arith, end_few) in
         let filled : Filled g ptr₀ (a.rows + 1) (set ptr a.rows x) = filled_more g ptr₀ a.rows ptr f x (whole ∙ last_pointer) start.ptr_room in
         let same : length (set ptr a.rows x) ≡ length ptr₀ = filled_length g ptr₀ (a.rows + 1) (set ptr a.rows x) filled (omega (arith, start.ptr_room)) in
-        let long : length bare.ptr ≡ a.rows + 1 = pointers_long op (as_words a.rows a.cols a.ptr a.word a.mask 0) (as_words a.rows a.cols b.ptr b.word b.mask 0) ∙ sym (add-one a.rows) in
-        let used : take (a.rows + 1) (set ptr a.rows x) ≡ bare.ptr =
-        ap (take (a.rows + 1)) filled.is ∙ take_at (each g (a.rows + 1)) (drop (a.rows + 1) ptr₀) (a.rows + 1) (length-each g (a.rows + 1)) ∙ sym (each_is 0 g (a.rows + 1) bare.ptr long (λ k l. refl)) in
-        z ∙ ap₂ (λ (i : ℕ) (l : List ℕ). padded 0 i l) same used ∙ ap (λ (t : Words). padded 0 (length ptr₀) t.ptr) (sym (combined_same op a b))
+        let long : length (combined_words op a b).ptr ≡ a.rows + 1 = pointers_long op a b ∙ sym (add-one a.rows) in
+        let used : take (a.rows + 1) (set ptr a.rows x) ≡ (combined_words op a b).ptr =
+        ap (take (a.rows + 1)) filled.is ∙ take_at (each g (a.rows + 1)) (drop (a.rows + 1) ptr₀) (a.rows + 1) (length-each g (a.rows + 1)) ∙ sym (each_is 0 g (a.rows + 1) (combined_words op a b).ptr long (λ k l. refl)) in
+        z ∙ ap₂ (λ (i : ℕ) (l : List ℕ). padded 0 i l) same used
 
     pub end_words : (last : List ℕ) → length words ≡ length words₀ → last ≡ padded 0 (length words) (take n words) → last ≡ padded 0 (length words₀) (combined_words op a b).word
-    end_words last s z = appended_cleared 0 bare.word n words₀ words last w s z ∙ ap (λ (t : Words). padded 0 (length words₀) t.word) (sym (combined_same op a b))
+    end_words last s z = appended_cleared 0 (combined_words op a b).word n words₀ words last w s z
 
     pub end_masks : (last : List ℕ) → length masks ≡ length masks₀ → last ≡ padded 0 (length masks) (take n masks) → last ≡ padded 0 (length masks₀) (combined_words op a b).mask
-    end_masks last s z = appended_cleared 0 bare.mask n masks₀ masks last m s z ∙ ap (λ (t : Words). padded 0 (length masks₀) t.mask) (sym (combined_same op a b))
+    end_masks last s z = appended_cleared 0 (combined_words op a b).mask n masks₀ masks last m s z
 
     -- the number of words, and of their set bits
     pub end_used : (last : List ℕ) (t : ℕ) → length masks ≡ length masks₀ → last ≡ padded 0 (length masks) (take n masks) → t ≡ set_bits (take n last) % 2 ^ 64 → as_size n t ≡ used_of (combined_words op a b)
     end_used last t s z e =
-        let long : length (combined_words op a b).mask ≡ n = ap (λ (x : Words). length x.mask) (combined_same op a b) ∙ sym many_masks in
+        let long : length (combined_words op a b).mask ≡ n = sym many_masks in
         let used : take n last ≡ (combined_words op a b).mask = ap (take n) (end_masks last s z) ∙ handed_used 0 (length masks₀) accepted n (combined_words op a b).mask refl long in
         let bits : t ≡ (combined_words op a b).total =
         bits_whole (combined_words op a b).mask t (omega (arith, end_few)) (e ∙ ap (λ (l : List ℕ). set_bits l % 2 ^ 64) used) ∙ total_bits a.rows a.cols (λ r c. combined op (member a r c) (member b r c)) in
-        ap₂ as_size (many-words ∙ ap (λ (x : Words). length x.word) (sym (combined_same op a b))) bits
+        ap₂ as_size many-words bits
 
 -- ---- what an accepted set operation left is accepted by `topology::check`
 

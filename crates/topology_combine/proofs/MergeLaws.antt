@@ -18,10 +18,10 @@ use Rattle.word.proofs.BelowLaws.{below_trim, below-at-rank, length-below-suc, l
 use Rattle.word.proofs.BitLaws.{has-mask_of, has-none}
 use Rattle.word.proofs.OpLaws.{word_is_lem, word_cong, combined-none}
 use Rattle.word.proofs.WordLaws.{mask-none}
-use Rattle.topology.specs.Words.{row_member}
+use Rattle.topology.specs.Words.{row_member, row_rule}
 use Rattle.topology.proofs.RowLaws.{Row, row_is, small_is}
 use Rattle.topology.proofs.FrontLaws.{Front, front-none, Next, next, ended, Placed, placed, at_end}
-use Rattle.topology_combine.specs.Merge.{TwoRows, Side, taken, waits, Stepped}
+use Rattle.topology_combine.specs.Merge.{Side, taken, waits, Stepped}
 
 -- ---- masks of the combined test
 
@@ -61,7 +61,7 @@ module _ (p : ℕ → Bool) (n : ℕ) where
   front_skip i f w h a b g = record { ranked = h.ranked ∙ sym (ap length (below_trim (hit p n) f w a g)); inside = b }
 
   -- no more words than the frame has
-  words-few : length (words_of p n) ≤ ceil64 n
+  pub words-few : length (words_of p n) ≤ ceil64 n
   unfolding words_of
   words-few = length-below-le (hit p n) (ceil64 n)
 
@@ -121,22 +121,20 @@ pub record Merging (op : Operation) (n : ℕ) (ws ms vs ns : List ℕ) (at other
   pub there : Front (row_member vs ns) n other front
   pub done : Front (joint op (row_member ws ms) (row_member vs ns)) n k front
 
-module _ (n : ℕ) (ws ms vs ns : List ℕ) where
-  row_of : TwoRows n ws ms vs ns → ((k : ℕ) → get_or ms k 0 < 2 ^ 64) → Row (row_member ws ms) n ws ms
-  row_of r s = row_is n ws ms r.rule (sym r.sides) (small_is ms s)
-
-  other_row_of : TwoRows n ws ms vs ns → ((k : ℕ) → get_or ns k 0 < 2 ^ 64) → Row (row_member vs ns) n vs ns
-  other_row_of r s = row_is n vs ns r.other_rule (sym r.other_sides) (small_is ns s)
-
-  -- both rows together are no longer than two frames
-  pub rows_few : TwoRows n ws ms vs ns → ((k : ℕ) → get_or ms k 0 < 2 ^ 64) → ((k : ℕ) → get_or ns k 0 < 2 ^ 64) → length ws + length vs ≤ ceil64 n + ceil64 n
-  rows_few r s t = omega (arith, ap length (row_of r s).words, ap length (other_row_of r t).words, words-few (row_member ws ms) n, words-few (row_member vs ns) n)
+-- two rows of words and masks that keep the rule
+pub record TwoRows (n : ℕ) (ws ms vs ns : List ℕ) : Type 0 where
+  pub sides : length ms ≡ length ws
+  pub rule : row_rule n ws ms ≡ true
+  pub fit : (k : ℕ) → get_or ms k 0 < 2 ^ 64
+  pub other_sides : length ns ≡ length vs
+  pub other_rule : row_rule n vs ns ≡ true
+  pub other_fit : (k : ℕ) → get_or ns k 0 < 2 ^ 64
 
 module _ (op : Operation) (n : ℕ) (ws ms vs ns : List ℕ) where
-  pub merging_none : TwoRows n ws ms vs ns → ((k : ℕ) → get_or ms k 0 < 2 ^ 64) → ((k : ℕ) → get_or ns k 0 < 2 ^ 64) → Merging op n ws ms vs ns 0 0 0
-  merging_none r s t = record {
-    one = row_of n ws ms vs ns r s;
-    two = other_row_of n ws ms vs ns r t;
+  pub merging_none : TwoRows n ws ms vs ns → Merging op n ws ms vs ns 0 0 0
+  merging_none r = record {
+    one = row_is n ws ms r.rule (sym r.sides) (small_is ms r.fit);
+    two = row_is n vs ns r.other_rule (sym r.other_sides) (small_is ns r.other_fit);
     front = 0;
     here = front-none (row_member ws ms) n;
     there = front-none (row_member vs ns) n;
@@ -242,11 +240,11 @@ data Head (ws : List ℕ) (i r : ℕ) : Type 0 where
   stands : i < length ws → r ≡ get_or ws i 0 → r < 2 ^ 32 → Head ws i r
   none : length ws ≤ i → r ≡ 2 ^ 32 → Head ws i r
 
-head_is : (ws : List ℕ) (i r : ℕ) → ((k : ℕ) → get_or ws k 0 < 2 ^ 32) → r ≡ head_of ws i → Head ws i r
-head_is ws i r s e = go (dec_lt i (length ws))
+head_is : (ws : List ℕ) (i r : ℕ) → r ≡ head_of ws i → (i < length ws → r < 2 ^ 32) → Head ws i r
+head_is ws i r e s = go (dec_lt i (length ws))
   where
     go : Dec (i < length ws) → Head ws i r
-    go (yes l) = let x : r ≡ get_or ws i 0 = e ∙ sym (head_at ws i (get_or ws i 0) l refl) in stands l x (omega (arith, s i))
+    go (yes l) = stands l (e ∙ sym (head_at ws i (get_or ws i 0) l refl)) (s l)
     go (no l) = none (omega arith) (e ∙ sym (head_end ws i (omega arith)))
 
 -- a row whose next word is above the one that is taken
@@ -254,12 +252,12 @@ waits_here : (ws ms : List ℕ) (i r w : ℕ) → Head ws i r → w < r → Side
 waits_here ws ms i r w (stands l e s) h = waits (λ x. omega arith) refl refl
 waits_here ws ms i r w (none l e) h = waits (λ x. absurd (omega arith)) refl refl
 
-module _ (ws vs : List ℕ) (at other left right : ℕ) (sw : (k : ℕ) → get_or ws k 0 < 2 ^ 32) (sv : (k : ℕ) → get_or vs k 0 < 2 ^ 32) (el : left ≡ head_of ws at) (er : right ≡ head_of vs other) where
+module _ (ws vs : List ℕ) (at other left right : ℕ) (el : left ≡ head_of ws at) (er : right ≡ head_of vs other) (sl : at < length ws → left < 2 ^ 32) (sr : other < length vs → right < 2 ^ 32) where
   one_head : Head ws at left
-  one_head = head_is ws at left sw el
+  one_head = head_is ws at left el sl
 
   two_head : Head vs other right
-  two_head = head_is vs other right sv er
+  two_head = head_is vs other right er sr
 
   most : (ws : List ℕ) (i r : ℕ) → Head ws i r → r ≤ 2 ^ 32
   most ws i r (stands l e s) = omega arith
@@ -319,6 +317,6 @@ module _ (ws vs : List ℕ) (at other left right : ℕ) (sw : (k : ℕ) → get_
           here = taken b.0 x refl refl;
           there = taken b.1 (z ∙ y) refl refl;
           is = e;
-          small = omega (arith, sw at);
+          small = sl b.0;
           onward = omega arith;
         }

@@ -1,27 +1,30 @@
--- Two records of one frame, row by row: what the rows ask, what they are as the code lends them, and how many words they have. Assumes nothing.
-use mathlib.Core.Bool.{Bool, true, false}
-use mathlib.Core.List.{List, map}
+-- Two records of one frame, row by row: what the rows are as the code hands them out, and how many words they have. Assumes nothing.
+use mathlib.Core.Bool.{Bool, true, false, not, ◌&&◌, and-false}
+use mathlib.Core.List.{List, [], ◌∷◌, map}
 use mathlib.Core.Path.{◌≡◌, refl, sym, ap, ap₂, ◌∙◌}
-use Prim.Native.Nat.{ℕ, zero, suc, ◌+◌, ◌^◌, ◌≤◌, ◌<◌}
+use Prim.Native.Nat.{ℕ, zero, suc, ◌+◌, ◌*◌, ◌/◌, ◌%◌, ◌^◌, ◌≤◌, ◌<◌}
 use native.Mathlib.Nat.{le_refl}
 use native.Mathlib.Numerals.{add-one}
 use native.Mathlib.Omega.{arith}
-use lib.Dec.{ltb}
-use lib.ListN.{length, get_or, length-map}
+use lib.Dec.{eqb, ltb}
+use lib.ListN.{length, length-map}
+use lib.Pow.{pow_pos}
 use mir.Val.{bool_byte}
+use borrow.Author.Tests.{eq-eqb, ne_eqb, eqb-true, eqb-false}
 use Rattle.lent.specs.Lists.{joined, starts, part}
-use Rattle.lent.proofs.ListLaws.{length-joined-suc, every-part}
-use Rattle.csr32.proofs.FrameLaws.{Framed, RowIn, lists_sides, lists_frame, row_left, row_right, part_lengths, parts-length}
-use Rattle.word.specs.Bits.{count, mask_of, hit, ceil64, words_of}
+use Rattle.lent.proofs.ListLaws.{length-joined-suc}
+use Rattle.csr32.proofs.FrameLaws.{Framed, lists_sides, lists_frame, parts-length}
+use Rattle.word.specs.Bits.{has, count, within, mask_of, hit, ceil64, words_of}
 use Rattle.word.specs.Word.{combined}
 use Rattle.word.specs.declared.Operation.{Operation}
-use Rattle.word.proofs.BelowLaws.{below-zero, length-below-suc, byte_le}
-use Rattle.word.proofs.BitLaws.{every-below-at}
-use Rattle.topology.specs.Words.{Words, as_words, topology_of, member, row_member, row_rule, row_rules}
-use Rattle.topology.proofs.RowLaws.{Row, row_is, small}
+use Rattle.word.proofs.BelowLaws.{below-zero, length-below-suc, none-counted, byte_le}
+use Rattle.word.proofs.BitLaws.{has-none}
+use Rattle.word.proofs.OpLaws.{word_is_lem, word_cong}
+use Rattle.topology.specs.Words.{Words, topology_of, member, mask_in, row_member, row_rule}
+use Rattle.topology.proofs.RowLaws.{mask_in_none, mask_in_short, mask_in_cons}
+use Rattle.topology_pair.proofs.PairLaws.{Pair}
 use Rattle.topology_combine.specs.Combine.{combined_words, combined_row}
-use Rattle.topology_combine.specs.Merge.{TwoRows, Keeps, TwoRecords}
-use Rattle.topology_combine.proofs.MergeLaws.{joint, hit-none}
+use Rattle.topology_combine.proofs.MergeLaws.{joint, hit-none, words-few}
 
 -- ---- the combined record by its rows
 
@@ -47,26 +50,6 @@ module _ (op : Operation) (a b : Words) where
   pub masks_long : (r : ℕ) → length (masks_at op a b r) ≡ length (words_at op a b r)
   masks_long r = length-map (words_at op a b r) (mask_of (λ c. combined op (member a r c) (member b r c)) a.cols)
 
--- ---- counting the words, row after row
-
-pub counting_done : (op : Operation) (a b : Words) (k r : ℕ) → r ≡ a.rows → k ≡ length (joined (words_at op a b) r) → k ≡ length (combined_words op a b).word
-counting_done op a b k r e h = h ∙ ap (λ (i : ℕ). length (joined (words_at op a b) i)) e ∙ sym (ap length (combined-words op a b))
-
--- ---- what 11 says of one record
-
-record Kept (rows cols : ℕ) (ptr ws ms : List ℕ) : Type 0 where
-  pub sides : length ws ≡ length ms
-  pub frame : Framed rows ptr (length ms)
-  pub rule : (r : ℕ) → r < rows → row_rule cols (part ptr ws r) (part ptr ms r) ≡ true
-
-kept_of_lem : (rows cols : ℕ) (ptr ws ms : List ℕ) → Keeps rows cols ptr ws ms → Kept rows cols ptr ws ms
-unfolding row_rules
-kept_of_lem rows cols ptr ws ms k = record {
-  sides = lists_sides rows ptr (length ws) (length ms) k.lists;
-  frame = lists_frame rows ptr (length ws) (length ms) k.lists;
-  rule = λ r h. every-below-at (λ r. row_rule cols (part ptr ws r) (part ptr ms r)) (λ r. true) rows r k.rules h refl;
-}
-
 -- ---- no more words than both rows have
 
 count-or : (f g h : ℕ → Bool) (n : ℕ) → ((w : ℕ) → g w ≡ false → h w ≡ false → f w ≡ false) → count f n ≤ count g n + count h n
@@ -83,106 +66,123 @@ words-or : (op : Operation) (p q : ℕ → Bool) (n : ℕ) → length (words_of 
 unfolding words_of
 words-or op p q n = count-or (hit (joint op p q) n) (hit p n) (hit q n) (ceil64 n) (hit-none op p q n)
 
--- ---- two records
+count-one : (v n : ℕ) → count (λ w. eqb w v) n ≤ 1
+count-one v zero = omega (arith, ap length (below-zero (λ w. eqb w v)))
+count-one v (suc n) = go (eqb n v) refl (count-one v n)
+  where
+    go : (t : Bool) → eqb n v ≡ t → count (λ w. eqb w v) n ≤ 1 → count (λ w. eqb w v) (suc n) ≤ 1
+    go true e h = omega (arith, length-below-suc (λ w. eqb w v) n, byte_le (eqb n v), none-counted (λ w. eqb w v) n (λ i l. ne_eqb i v (λ d. omega (arith, eqb-true n v e))))
+    go false e h = omega (arith, length-below-suc (λ w. eqb w v) n, ap bool_byte e)
 
--- row r of either can be read
-pub record RowsIn (ptr ws ms otr vs ns : List ℕ) (r : ℕ) : Type 0 where
-  pub one : RowIn ptr (length ws) r
-  pub one_masks : RowIn ptr (length ms) r
-  pub two : RowIn otr (length vs) r
-  pub two_masks : RowIn otr (length ns) r
+-- a word where two tests are one
+module _ (p q : ℕ → Bool) (n w : ℕ) (same : (i : ℕ) → i < 64 → p (64 * w + i) ≡ q (64 * w + i)) where
+  hit_same : hit p n w ≡ hit q n w
+  unfolding mask_of
+  hit_same = ap (λ (m : ℕ). not (eqb m 0)) (word_cong (λ i. within n p (64 * w + i)) (λ i. within n q (64 * w + i)) (λ i l. ap (λ (t : Bool). ltb (64 * w + i) n && t) (same i l)))
 
-module _ (rows cols : ℕ) (ptr ws ms otr vs ns : List ℕ) (t : TwoRecords rows cols ptr ws ms otr vs ns) where
-  left : Kept rows cols ptr ws ms
-  left = kept_of_lem rows cols ptr ws ms t.one
+hit-never : (n w : ℕ) → hit (λ c. false) n w ≡ false
+unfolding mask_of
+hit-never n w = ap not (eq-eqb (mask_of (λ c. false) n w) 0 (sym (word_is_lem 0 (λ i. within n (λ c. false) (64 * w + i)) (pow_pos 64) (λ i l. has-none i ∙ sym (and-false (ltb (64 * w + i) n))))))
 
-  right : Kept rows cols otr vs ns
-  right = kept_of_lem rows cols otr vs ns t.two
+-- a row's test holds no word but those that the row lists
+unlisted : (n w : ℕ) (ws ms : List ℕ) → mask_in ws ms w ≡ 0 → hit (row_member ws ms) n w ≡ false
+unfolding row_member
+unlisted n w ws ms e =
+    hit_same (row_member ws ms) (λ c. false) n w
+    (λ i l. let a : (64 * w + i) / 64 ≡ w = omega arith in
+    ap (λ (v : ℕ). has (mask_in ws ms v) ((64 * w + i) % 64)) a ∙ ap (λ (k : ℕ). has k ((64 * w + i) % 64)) e ∙ has-none ((64 * w + i) % 64))
+    ∙ hit-never n w
 
-  pub rows_in : (r : ℕ) → r < rows → RowsIn ptr ws ms otr vs ns r
-  rows_in r h = record {
-    one = row_left rows ptr (length ws) (length ms) t.one.lists r h;
-    one_masks = row_right rows ptr (length ws) (length ms) t.one.lists r h;
-    two = row_left rows otr (length vs) (length ns) t.two.lists r h;
-    two_masks = row_right rows otr (length vs) (length ns) t.two.lists r h;
-  }
+words-bound : (n : ℕ) (ws ms : List ℕ) → length (words_of (row_member ws ms) n) ≤ length ws
+unfolding words_of row_member
+words-bound n [] ms = omega (arith, none-counted (hit (row_member [] ms) n) (ceil64 n) (λ w l. unlisted n w [] ms (mask_in_none ms w)))
+words-bound n (v ∷ ws) [] = omega (arith, none-counted (hit (row_member (v ∷ ws) []) n) (ceil64 n) (λ w l. unlisted n w (v ∷ ws) [] (mask_in_short v ws w)))
+words-bound n (v ∷ ws) (m ∷ ms) =
+    omega (arith, count-or (hit (row_member (v ∷ ws) (m ∷ ms)) n) (λ w. eqb w v) (hit (row_member ws ms) n) (ceil64 n) step, count-one v (ceil64 n), words-bound n ws ms)
+  where
+    step : (w : ℕ) → eqb w v ≡ false → hit (row_member ws ms) n w ≡ false → hit (row_member (v ∷ ws) (m ∷ ms)) n w ≡ false
+    step w e h =
+        hit_same (row_member (v ∷ ws) (m ∷ ms)) (row_member ws ms) n w
+        (λ i l. let a : (64 * w + i) / 64 ≡ w = omega arith in
+        let b : mask_in (v ∷ ws) (m ∷ ms) w ≡ mask_in ws ms w = mask_in_cons v m ws ms w ∙ rw (ne_eqb v w (λ d. eqb-false w v e (sym d))) in
+        ap (λ (k : ℕ). has (mask_in (v ∷ ws) (m ∷ ms) k) ((64 * w + i) % 64)) a ∙ ap (λ (k : ℕ). has k ((64 * w + i) % 64)) b ∙ ap (λ (k : ℕ). has (mask_in ws ms k) ((64 * w + i) % 64)) (sym a))
+        ∙ h
 
-  two-rows : (r : ℕ) → r < rows → TwoRows cols (part ptr ws r) (part ptr ms r) (part otr vs r) (part otr ns r)
-  two-rows r h = record {
-    sides = sym (part_lengths ptr ws ms r left.sides);
-    rule = left.rule r h;
-    other_sides = sym (part_lengths otr vs ns r right.sides);
-    other_rule = right.rule r h;
-  }
+-- ---- row r of two records, as the code hands it out: lists that are its parts
 
-  -- as the code lends them: lists that are the rows' parts
-  module _ (r : ℕ) (ws' ms' vs' ns' : List ℕ) (ew : ws' ≡ part ptr ws r) (em : ms' ≡ part ptr ms r) (ev : vs' ≡ part otr vs r) (en : ns' ≡ part otr ns r) where
-    pub lent_rows : r < rows → TwoRows cols ws' ms' vs' ns'
-    lent_rows h = rw (ew, em, ev, en) (two-rows r h)
+module _ (a b : Words) (r : ℕ) (ws ms vs ns : List ℕ) (ew : ws ≡ part a.ptr a.word r) (em : ms ≡ part a.ptr a.mask r) (ev : vs ≡ part b.ptr b.word r) (en : ns ≡ part b.ptr b.mask r) where
+  module _ (p : Pair a b) (h : r < a.rows) where
+    pub lent_rule : row_rule a.cols ws ms ≡ true
+    lent_rule = rw (ew, em) (p.one.each_row r h)
 
-    lent_test : (op : Operation)
-        → combined_row op ws' ms' vs' ns'
-        ≡ (λ c. combined op (member (as_words rows cols ptr ws ms 0) r c) (member (as_words rows cols otr vs ns 0) r c))
-    unfolding member
-    lent_test op =
-        ap₂ (λ (x y : List ℕ). combined_row op x y vs' ns') ew em
-        ∙ ap₂ (λ (x y : List ℕ). combined_row op (part ptr ws r) (part ptr ms r) x y) ev en
+    pub lent_other : row_rule a.cols vs ns ≡ true
+    lent_other = rw (ev, en, p.same_cols) (p.two.each_row r (omega (arith, p.same_rows)))
 
-    pub lent_words : (op : Operation) → words_of (combined_row op ws' ms' vs' ns') cols ≡ words_at op (as_words rows cols ptr ws ms 0) (as_words rows cols otr vs ns 0) r
-    lent_words op = ap (λ (p : ℕ → Bool). words_of p cols) (lent_test op)
+  lent_test : (op : Operation) → combined_row op ws ms vs ns ≡ (λ c. combined op (member a r c) (member b r c))
+  unfolding member
+  lent_test op =
+      ap₂ (λ (x y : List ℕ). combined_row op x y vs ns) ew em
+      ∙ ap₂ (λ (x y : List ℕ). combined_row op (part a.ptr a.word r) (part a.ptr a.mask r) x y) ev en
 
-    pub lent_masks : (op : Operation)
-        → map (mask_of (combined_row op ws' ms' vs' ns') cols) (words_of (combined_row op ws' ms' vs' ns') cols)
-        ≡ masks_at op (as_words rows cols ptr ws ms 0) (as_words rows cols otr vs ns 0) r
-    lent_masks op = ap (λ (p : ℕ → Bool). map (mask_of p cols) (words_of p cols)) (lent_test op)
+  pub lent_words : (op : Operation) → words_of (combined_row op ws ms vs ns) a.cols ≡ words_at op a b r
+  lent_words op = ap (λ (p : ℕ → Bool). words_of p a.cols) (lent_test op)
 
-    -- one row more is counted
-    pub counting_more : (op : Operation) (k m : ℕ)
-        → k ≡ length (joined (words_at op (as_words rows cols ptr ws ms 0) (as_words rows cols otr vs ns 0)) r)
-        → m ≡ length (words_of (combined_row op ws' ms' vs' ns') cols)
-        → k + m ≡ length (joined (words_at op (as_words rows cols ptr ws ms 0) (as_words rows cols otr vs ns 0)) (r + 1))
-    counting_more op k m x y =
-        ap₂ (λ (i j : ℕ). i + j) x (y ∙ ap length (lent_words op))
-        ∙ sym (ap (λ (i : ℕ). length (joined (words_at op (as_words rows cols ptr ws ms 0) (as_words rows cols otr vs ns 0)) i)) (add-one r) ∙ length-joined-suc (words_at op (as_words rows cols ptr ws ms 0) (as_words rows cols otr vs ns 0)) r)
+  pub lent_masks : (op : Operation) → map (mask_of (combined_row op ws ms vs ns) a.cols) (words_of (combined_row op ws ms vs ns) a.cols) ≡ masks_at op a b r
+  lent_masks op = ap (λ (p : ℕ → Bool). map (mask_of p a.cols) (words_of p a.cols)) (lent_test op)
 
-  module _ (op : Operation) (sm : small ms ≡ true) (sn : small ns ≡ true) where
-    row_le : (r : ℕ) → r < rows → length (words_at op (as_words rows cols ptr ws ms 0) (as_words rows cols otr vs ns 0) r) ≤ length (part ptr ws r) + length (part otr vs r)
-    unfolding member
-    row_le r h =
-        let x : Row (row_member (part ptr ws r) (part ptr ms r)) cols (part ptr ws r) (part ptr ms r) =
-        row_is cols (part ptr ws r) (part ptr ms r) (left.rule r h) (part_lengths ptr ws ms r left.sides) (every-part (λ m. ltb m (2 ^ 64)) ptr ms r sm) in
-        let y : Row (row_member (part otr vs r) (part otr ns r)) cols (part otr vs r) (part otr ns r) =
-        row_is cols (part otr vs r) (part otr ns r) (right.rule r h) (part_lengths otr vs ns r right.sides) (every-part (λ m. ltb m (2 ^ 64)) otr ns r sn) in
-        omega (
-          arith,
-          words-or op (row_member (part ptr ws r) (part ptr ms r)) (row_member (part otr vs r) (part otr ns r)) cols,
-          ap length x.words,
-          ap length y.words,
-        )
+  -- one row more is counted
+  pub counting_more : (op : Operation) (k m : ℕ) → k ≡ length (joined (words_at op a b) r) → m ≡ length (words_of (combined_row op ws ms vs ns) a.cols) → k + m ≡ length (joined (words_at op a b) (r + 1))
+  counting_more op k m x y =
+      ap₂ (λ (i j : ℕ). i + j) x (y ∙ ap length (lent_words op))
+      ∙ sym (ap (λ (i : ℕ). length (joined (words_at op a b) i)) (add-one r) ∙ length-joined-suc (words_at op a b) r)
 
-    rows-sum : (r : ℕ) → r ≤ rows → length (joined (words_at op (as_words rows cols ptr ws ms 0) (as_words rows cols otr vs ns 0)) r) ≤ length (joined (part ptr ws) r) + length (joined (part otr vs) r)
+-- ---- how many words there are
+
+module _ (op : Operation) (a b : Words) where
+  pub counting_done : (k r : ℕ) → r ≡ a.rows → k ≡ length (joined (words_at op a b) r) → k ≡ length (combined_words op a b).word
+  counting_done k r e h = h ∙ ap (λ (i : ℕ). length (joined (words_at op a b) i)) e ∙ sym (ap length (combined-words op a b))
+
+  module _ (p : Pair a b) where
+    counted-le : (r : ℕ) → length (joined (words_at op a b) r) ≤ r * 2 ^ 14
     unfolding joined
-    rows-sum zero h = omega arith
-    rows-sum (suc r) h =
+    counted-le zero = omega arith
+    counted-le (suc r) = omega (arith, counted-le r, length-joined-suc (words_at op a b) r, words-few (λ c. combined op (member a r c) (member b r c)) a.cols, p.one.cols_in)
+
+    -- what is counted never wraps
+    pub counted_few : (r : ℕ) → r ≤ a.rows → length (joined (words_at op a b) r) ≤ 2 ^ 34
+    counted_few r h = omega (arith, counted-le r, p.one.rows_in)
+
+    row_le : (r : ℕ) → length (words_at op a b r) ≤ length (part a.ptr a.word r) + length (part b.ptr b.word r)
+    unfolding member
+    row_le r =
         omega (
           arith,
-          rows-sum r (omega arith),
-          row_le r h,
-          length-joined-suc (words_at op (as_words rows cols ptr ws ms 0) (as_words rows cols otr vs ns 0)) r,
-          length-joined-suc (part ptr ws) r,
-          length-joined-suc (part otr vs) r,
+          words-or op (row_member (part a.ptr a.word r) (part a.ptr a.mask r)) (row_member (part b.ptr b.word r) (part b.ptr b.mask r)) a.cols,
+          words-bound a.cols (part a.ptr a.word r) (part a.ptr a.mask r),
+          words-bound a.cols (part b.ptr b.word r) (part b.ptr b.mask r),
         )
 
-    frame_words : Framed rows ptr (length ws)
-    frame_words = rw left.sides left.frame
+    rows-sum : (r : ℕ) → length (joined (words_at op a b) r) ≤ length (joined (part a.ptr a.word) r) + length (joined (part b.ptr b.word) r)
+    unfolding joined
+    rows-sum zero = omega arith
+    rows-sum (suc r) =
+        omega (arith, rows-sum r, row_le r, length-joined-suc (words_at op a b) r, length-joined-suc (part a.ptr a.word) r, length-joined-suc (part b.ptr b.word) r)
 
-    frame_others : Framed rows otr (length vs)
-    frame_others = rw right.sides right.frame
+    frame_words : Framed a.rows a.ptr (length a.word)
+    frame_words = rw (lists_sides a.rows a.ptr (length a.word) (length a.mask) p.one.lists) (lists_frame a.rows a.ptr (length a.word) (length a.mask) p.one.lists)
 
-    -- the first r rows have no more words than the pointers say
-    pub words_upto : (r : ℕ) → r ≤ rows → length (joined (words_at op (as_words rows cols ptr ws ms 0) (as_words rows cols otr vs ns 0)) r) ≤ get_or ptr r 0 + get_or otr r 0
-    words_upto r h = omega (arith, rows-sum r h, parts-length rows ptr ws frame_words r h, parts-length rows otr vs frame_others r h)
+    frame_others : Framed a.rows b.ptr (length b.word)
+    frame_others = rw (p.same_rows, lists_sides b.rows b.ptr (length b.word) (length b.mask) p.two.lists) (lists_frame b.rows b.ptr (length b.word) (length b.mask) p.two.lists)
 
     -- the combined record has no more words than both together
-    pub words_most : length (joined (words_at op (as_words rows cols ptr ws ms 0) (as_words rows cols otr vs ns 0)) rows) ≤ length ws + length vs
-    words_most = omega (arith, words_upto rows (le_refl rows), frame_words.last, frame_others.last)
+    pub words_most : length (combined_words op a b).word ≤ length a.word + length b.word
+    words_most =
+        omega (
+          arith,
+          ap length (combined-words op a b),
+          rows-sum a.rows,
+          parts-length a.rows a.ptr a.word frame_words a.rows (le_refl a.rows),
+          parts-length a.rows b.ptr b.word frame_others a.rows (le_refl a.rows),
+          frame_words.last,
+          frame_others.last,
+        )

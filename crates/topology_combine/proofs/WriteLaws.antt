@@ -12,8 +12,8 @@ use Rattle.lent.proofs.LentLaws.{appended_none, appended_snoc}
 use Rattle.word.specs.Bits.{mask_of, words_of}
 use Rattle.word.specs.declared.Operation.{Operation}
 use Rattle.topology_combine.specs.Combine.{combined_row}
-use Rattle.topology_combine.specs.Merge.{TwoRows, Stepped}
-use Rattle.topology_combine.proofs.MergeLaws.{Merging, merging_none, merging_mask, merging_empty, merging_full, merging_room, merging_word, merging_done}
+use Rattle.topology_combine.specs.Merge.{Stepped}
+use Rattle.topology_combine.proofs.MergeLaws.{TwoRows, Merging, merging_none, merging_mask, merging_empty, merging_full, merging_room, merging_word, merging_done}
 
 -- the first k of a list are written: one more
 put : {A : Type 0} (l : List A) (d v : A) (k from to : ℕ) (old out : List A) → Appended (take k l) from to old out → k < length l → to < length out → v ≡ get_or l k d → Appended (take (k + 1) l) from (to + 1) old (set out to v)
@@ -42,10 +42,10 @@ module _ (op : Operation) (n : ℕ) (ws ms vs ns : List ℕ) where
     pub bits : Appended (take k masks_in) from to masks₀ masks
 
   module _ (from : ℕ) (words₀ masks₀ : List ℕ) where
-    pub writing_none : TwoRows n ws ms vs ns → ((k : ℕ) → get_or ms k 0 < 2 ^ 64) → ((k : ℕ) → get_or ns k 0 < 2 ^ 64) → from + length words_in ≤ length words₀ → from + length words_in ≤ length masks₀ → Writing from words₀ masks₀ 0 0 from words₀ masks₀
-    writing_none r s t a b = record {
+    pub writing_none : TwoRows n ws ms vs ns → from + length words_in ≤ length words₀ → from + length words_in ≤ length masks₀ → Writing from words₀ masks₀ 0 0 from words₀ masks₀
+    writing_none r a b = record {
       k = 0;
-      merge = merging_none op n ws ms vs ns r s t;
+      merge = merging_none op n ws ms vs ns r;
       place = omega arith;
       room = a;
       mask_room = b;

@@ -3,13 +3,15 @@
 
 ghost use Rattle.std.specs.Prelude.{◌≡◌};
 ghost use Rattle.hybit_core.specs.Table.{told};
-ghost use Rattle.topology.specs.Words.{as_words};
 ghost use Rattle.topology.specs.Calls.{as_room};
 ghost use Rattle.topology_pair.specs.Pair.{pair_answer, room_answer};
+ghost use Rattle.topology.specs.Matrix.{lent_topology};
 
 use hybit_core::HybitError;
+use topology::AbtmTopology;
 
-// Whether `words` words of so many rows fit the domain and the lists: 1, 13.
+// Whether `words` words of so many rows fit the domain and the lists: 1, 13. The rooms are three lengths: a struct of them would
+// be made for each call and taken apart here. Other builds have other lists.
 pub fn examine_room(
     nrows: usize,
     words: usize,
@@ -35,53 +37,31 @@ pub fn examine_room(
 }
 
 // Both records, and that they have one frame: 1; 11, 11; 8.
-pub fn examine_pair(
-    nrows: usize,
-    ncols: usize,
-    row_word_ptr: &[u32],
-    word_indices: &[u32],
-    masks: &[u64],
-    structural_nnz: usize,
-    other_nrows: usize,
-    other_ncols: usize,
-    other_row_word_ptr: &[u32],
-    other_word_indices: &[u32],
-    other_masks: &[u64],
-    other_structural_nnz: usize,
-) -> Result<(), HybitError>
-    ensures { told result ≡ pair_answer (as_words nrows ncols row_word_ptr.now word_indices.now masks.now structural_nnz) (as_words other_nrows other_ncols other_row_word_ptr.now other_word_indices.now other_masks.now other_structural_nnz) }
+pub fn examine_pair(topology: AbtmTopology, other: AbtmTopology) -> Result<(), HybitError>
+    ensures { told result ≡ pair_answer (lent_topology topology.entry) (lent_topology other.entry) }
 {
-    if !hybit_core::sizes_fit(nrows, ncols, word_indices.len(), masks.len()) {
-        return Err(HybitError::SizeOverflow);
-    }
     if !hybit_core::sizes_fit(
-        other_nrows,
-        other_ncols,
-        other_word_indices.len(),
-        other_masks.len(),
+        topology.nrows,
+        topology.ncols,
+        topology.word_indices.len(),
+        topology.masks.len(),
     ) {
         return Err(HybitError::SizeOverflow);
     }
-    topology::check(
-        nrows,
-        ncols,
-        row_word_ptr,
-        word_indices,
-        masks,
-        structural_nnz,
-    )?;
-    topology::check(
-        other_nrows,
-        other_ncols,
-        other_row_word_ptr,
-        other_word_indices,
-        other_masks,
-        other_structural_nnz,
-    )?;
-    if nrows != other_nrows {
+    if !hybit_core::sizes_fit(
+        other.nrows,
+        other.ncols,
+        other.word_indices.len(),
+        other.masks.len(),
+    ) {
+        return Err(HybitError::SizeOverflow);
+    }
+    topology.check()?;
+    other.check()?;
+    if topology.nrows != other.nrows {
         return Err(HybitError::FramesDiffer);
     }
-    if ncols != other_ncols {
+    if topology.ncols != other.ncols {
         return Err(HybitError::FramesDiffer);
     }
     Ok(())

@@ -1,142 +1,76 @@
 // topology.rs: the questions of `AbtmTopology` to a row. Each checks the record and the row: 1, 11, 7.
+// A row's words are looked through one by one: the check before has read all of the record's, and rank adds the masks on its way.
+// rank_in and select_in ask that the row keeps the rule: AbtmTopologyRow has no column count to say it with.
 #![tactic(auto)]
 
-ghost use Rattle.std.specs.Prelude.{◌≡◌, true, ◌≤◌, leb, length};
-ghost use Rattle.hybit_core.specs.Answer.{on_given, answers, demand, ◌and_then◌};
+ghost use Rattle.std.specs.Prelude.{◌≡◌, true, ◌≤◌, length};
+ghost use Rattle.hybit_core.specs.Answer.{on_given, answers};
 ghost use Rattle.hybit_core.specs.Table.{told, given};
 ghost use Rattle.lent.specs.Lists.{part};
 ghost use Rattle.word.specs.Bits.{count, within, selected, words_of};
-ghost use Rattle.topology.specs.Words.{as_words, row_member, member, row_rule};
+ghost use Rattle.topology.specs.Words.{row_member, member, row_rule};
 ghost use Rattle.topology.specs.Calls.{row_answer, rank_answer, select};
+ghost use Rattle.topology.specs.Matrix.{lent_topology};
 
 use hybit_core::HybitError;
+use topology::{AbtmTopology, AbtmTopologyRow, FramedTopology};
 
-fn check_row(
-    nrows: usize,
-    ncols: usize,
-    row_word_ptr: &[u32],
-    word_indices: &[u32],
-    masks: &[u64],
-    structural_nnz: usize,
-    row: usize,
-) -> Result<(), HybitError>
-    ensures { told result ≡ row_answer (as_words nrows ncols row_word_ptr.now word_indices.now masks.now structural_nnz) row }
+fn check_row(topology: AbtmTopology, row: usize) -> Result<(), HybitError>
+    ensures { told result ≡ row_answer (lent_topology topology.entry) row }
 {
-    topology::check(
-        nrows,
-        ncols,
-        row_word_ptr,
-        word_indices,
-        masks,
-        structural_nnz,
-    )?;
-    if row >= nrows {
+    topology.check()?;
+    if row >= topology.nrows {
         return Err(HybitError::NoSuchPlace);
     }
     Ok(())
 }
 
-// The row's word numbers, as that part of the lent list.
-pub fn row_word_indices<'a>(
-    nrows: usize,
-    ncols: usize,
-    row_word_ptr: &[u32],
-    word_indices: &'a [u32],
-    masks: &[u64],
-    structural_nnz: usize,
+// The words and masks of a row.
+fn checked_row<'a>(
+    topology: AbtmTopology<'a>,
     row: usize,
-) -> Result<&'a [u32], HybitError>
-    ensures { on_given (λ s. s.now) (given result) ≡ answers (row_answer (as_words nrows ncols row_word_ptr.now word_indices.now masks.now structural_nnz) row) (part row_word_ptr.now word_indices.now row) }
+) -> Result<AbtmTopologyRow<'a>, HybitError>
+    ensures words { on_given (λ r. r.words.now) (given result) ≡ answers (row_answer (lent_topology topology.entry) row) (part topology.entry.row_word_ptr.now topology.entry.word_indices.now row) }
+    ensures masks { on_given (λ r. r.masks.now) (given result) ≡ answers (row_answer (lent_topology topology.entry) row) (part topology.entry.row_word_ptr.now topology.entry.masks.now row) }
 {
-    check_row(
-        nrows,
-        ncols,
-        row_word_ptr,
-        word_indices,
-        masks,
-        structural_nnz,
-        row,
-    )?;
-    Ok(lent::part(row_word_ptr, word_indices, row))
+    check_row(topology, row)?;
+    let framed = FramedTopology { topology };
+    Ok(framed.row(row))
+}
+
+// The row's word numbers, as that part of the lent list.
+pub fn row_word_indices<'a>(topology: AbtmTopology<'a>, row: usize) -> Result<&'a [u32], HybitError>
+    ensures { on_given (λ s. s.now) (given result) ≡ answers (row_answer (lent_topology topology.entry) row) (part topology.entry.row_word_ptr.now topology.entry.word_indices.now row) }
+{
+    Ok(checked_row(topology, row)?.words)
 }
 
 // The row's masks, in the same way.
-pub fn row_masks<'a>(
-    nrows: usize,
-    ncols: usize,
-    row_word_ptr: &[u32],
-    word_indices: &[u32],
-    masks: &'a [u64],
-    structural_nnz: usize,
-    row: usize,
-) -> Result<&'a [u64], HybitError>
-    ensures { on_given (λ s. s.now) (given result) ≡ answers (row_answer (as_words nrows ncols row_word_ptr.now word_indices.now masks.now structural_nnz) row) (part row_word_ptr.now masks.now row) }
+pub fn row_masks<'a>(topology: AbtmTopology<'a>, row: usize) -> Result<&'a [u64], HybitError>
+    ensures { on_given (λ s. s.now) (given result) ≡ answers (row_answer (lent_topology topology.entry) row) (part topology.entry.row_word_ptr.now topology.entry.masks.now row) }
 {
-    check_row(
-        nrows,
-        ncols,
-        row_word_ptr,
-        word_indices,
-        masks,
-        structural_nnz,
-        row,
-    )?;
-    Ok(lent::part(row_word_ptr, masks, row))
+    Ok(checked_row(topology, row)?.masks)
 }
 
-pub fn row_nonempty_words(
-    nrows: usize,
-    ncols: usize,
-    row_word_ptr: &[u32],
-    word_indices: &[u32],
-    masks: &[u64],
-    structural_nnz: usize,
-    row: usize,
-) -> Result<usize, HybitError>
-    ensures { given result ≡ answers (row_answer (as_words nrows ncols row_word_ptr.now word_indices.now masks.now structural_nnz) row) (length (words_of (member (as_words nrows ncols row_word_ptr.now word_indices.now masks.now structural_nnz) row) ncols)) }
+pub fn row_nonempty_words(topology: AbtmTopology, row: usize) -> Result<usize, HybitError>
+    ensures { given result ≡ answers (row_answer (lent_topology topology.entry) row) (length (words_of (member (lent_topology topology.entry) row) topology.entry.ncols)) }
 {
-    check_row(
-        nrows,
-        ncols,
-        row_word_ptr,
-        word_indices,
-        masks,
-        structural_nnz,
-        row,
-    )?;
-    let words = lent::part(row_word_ptr, word_indices, row);
-    Ok(words.len())
+    Ok(checked_row(topology, row)?.words.len())
 }
 
 // How many columns the row holds.
-pub fn row_popcount(
-    nrows: usize,
-    ncols: usize,
-    row_word_ptr: &[u32],
-    word_indices: &[u32],
-    masks: &[u64],
-    structural_nnz: usize,
-    row: usize,
-) -> Result<usize, HybitError>
-    ensures { given result ≡ answers (row_answer (as_words nrows ncols row_word_ptr.now word_indices.now masks.now structural_nnz) row) (count (member (as_words nrows ncols row_word_ptr.now word_indices.now masks.now structural_nnz) row) ncols) }
+pub fn row_popcount(topology: AbtmTopology, row: usize) -> Result<usize, HybitError>
+    ensures { given result ≡ answers (row_answer (lent_topology topology.entry) row) (count (member (lent_topology topology.entry) row) topology.entry.ncols) }
 {
-    check_row(
-        nrows,
-        ncols,
-        row_word_ptr,
-        word_indices,
-        masks,
-        structural_nnz,
-        row,
-    )?;
-    Ok(topology::count_bits(lent::part(row_word_ptr, masks, row)))
+    Ok(topology::count_bits(checked_row(topology, row)?.masks))
 }
 
-// Whether a row's words hold the column, for any words.
-fn contains_in(words: &[u32], masks: &[u64], col: usize) -> bool
-    requires { length masks.now ≡ length words.now }
-    ensures { result ≡ row_member words.now masks.now col }
+// A loop and no `position`: the definition goes through words and masks together, and so does this.
+fn contains_in(row: AbtmTopologyRow, col: usize) -> bool
+    ensures { result ≡ row_member row.entry.words.now row.entry.masks.now col }
 {
+    let words = row.words;
+    let masks = row.masks;
     let target = col / 64;
     for i in 0..words.len() {
         if words[i] as usize == target {
@@ -147,41 +81,23 @@ fn contains_in(words: &[u32], masks: &[u64], col: usize) -> bool
 }
 
 // Whether the row holds the column; false from the column count on.
-pub fn row_contains(
-    nrows: usize,
-    ncols: usize,
-    row_word_ptr: &[u32],
-    word_indices: &[u32],
-    masks: &[u64],
-    structural_nnz: usize,
-    row: usize,
-    col: usize,
-) -> Result<bool, HybitError>
-    ensures { given result ≡ answers (row_answer (as_words nrows ncols row_word_ptr.now word_indices.now masks.now structural_nnz) row) (within ncols (member (as_words nrows ncols row_word_ptr.now word_indices.now masks.now structural_nnz) row) col) }
+pub fn row_contains(topology: AbtmTopology, row: usize, col: usize) -> Result<bool, HybitError>
+    ensures { given result ≡ answers (row_answer (lent_topology topology.entry) row) (within topology.entry.ncols (member (lent_topology topology.entry) row) col) }
 {
-    check_row(
-        nrows,
-        ncols,
-        row_word_ptr,
-        word_indices,
-        masks,
-        structural_nnz,
-        row,
-    )?;
-    if col >= ncols {
+    let found = checked_row(topology, row)?;
+    if col >= topology.ncols {
         return Ok(false);
     }
-    let words = lent::part(row_word_ptr, word_indices, row);
-    Ok(contains_in(words, lent::part(row_word_ptr, masks, row), col))
+    Ok(contains_in(found, col))
 }
 
-// How many columns below `col` a row of words holds.
-fn rank_in(ncols: usize, words: &[u32], masks: &[u64], col: usize) -> usize
-    requires fact_1 { length masks.now ≡ length words.now }
-    requires fact_2 { row_rule ncols words.now masks.now ≡ true }
-    requires fact_3 { col ≤ ncols }
-    ensures { result ≡ count (row_member words.now masks.now) col }
+fn rank_in(ncols: usize, row: AbtmTopologyRow, col: usize) -> usize
+    requires rule { row_rule ncols row.words.now row.masks.now ≡ true }
+    requires column { col ≤ ncols }
+    ensures { result ≡ count (row_member row.entry.words.now row.entry.masks.now) col }
 {
+    let words = row.words;
+    let masks = row.masks;
     let target = col / 64;
     let mut rank: usize = 0;
     for i in 0..words.len() {
@@ -197,66 +113,23 @@ fn rank_in(ncols: usize, words: &[u32], masks: &[u64], col: usize) -> usize
     rank
 }
 
-fn examine_rank(
-    nrows: usize,
-    ncols: usize,
-    row_word_ptr: &[u32],
-    word_indices: &[u32],
-    masks: &[u64],
-    structural_nnz: usize,
-    row: usize,
-    col: usize,
-) -> Result<(), HybitError>
-    ensures { told result ≡ (row_answer (as_words nrows ncols row_word_ptr.now word_indices.now masks.now structural_nnz) row and_then demand (leb col ncols) 7) }
+// How many columns below `col` the row holds; the column count is allowed.
+pub fn row_rank(topology: AbtmTopology, row: usize, col: usize) -> Result<usize, HybitError>
+    ensures { given result ≡ rank_answer (lent_topology topology.entry) row col }
 {
-    check_row(
-        nrows,
-        ncols,
-        row_word_ptr,
-        word_indices,
-        masks,
-        structural_nnz,
-        row,
-    )?;
-    if col > ncols {
+    let found = checked_row(topology, row)?;
+    if col > topology.ncols {
         return Err(HybitError::NoSuchPlace);
     }
-    Ok(())
+    Ok(rank_in(topology.ncols, found, col))
 }
 
-// How many columns below `col` the row holds; the column count is allowed.
-pub fn row_rank(
-    nrows: usize,
-    ncols: usize,
-    row_word_ptr: &[u32],
-    word_indices: &[u32],
-    masks: &[u64],
-    structural_nnz: usize,
-    row: usize,
-    col: usize,
-) -> Result<usize, HybitError>
-    ensures { given result ≡ rank_answer (as_words nrows ncols row_word_ptr.now word_indices.now masks.now structural_nnz) row col }
+fn select_in(ncols: usize, row: AbtmTopologyRow, ordinal: usize) -> Option<usize>
+    requires { row_rule ncols row.words.now row.masks.now ≡ true }
+    ensures { result ≡ selected (row_member row.entry.words.now row.entry.masks.now) ncols ordinal }
 {
-    examine_rank(
-        nrows,
-        ncols,
-        row_word_ptr,
-        word_indices,
-        masks,
-        structural_nnz,
-        row,
-        col,
-    )?;
-    let words = lent::part(row_word_ptr, word_indices, row);
-    Ok(rank_in(ncols, words, lent::part(row_word_ptr, masks, row), col))
-}
-
-// The column of a row of words with `ordinal` columns below it.
-fn select_in(ncols: usize, words: &[u32], masks: &[u64], ordinal: usize) -> Option<usize>
-    requires fact_1 { length masks.now ≡ length words.now }
-    requires fact_2 { row_rule ncols words.now masks.now ≡ true }
-    ensures { result ≡ selected (row_member words.now masks.now) ncols ordinal }
-{
+    let words = row.words;
+    let masks = row.masks;
     let mut left = ordinal;
     for k in 0..words.len() {
         let ones = word::popcount(masks[k]);
@@ -275,26 +148,12 @@ fn select_in(ncols: usize, words: &[u32], masks: &[u64], ordinal: usize) -> Opti
 
 // The row's column with `ordinal` columns below it, or Nothing exactly if there is none.
 pub fn row_select(
-    nrows: usize,
-    ncols: usize,
-    row_word_ptr: &[u32],
-    word_indices: &[u32],
-    masks: &[u64],
-    structural_nnz: usize,
+    topology: AbtmTopology,
     row: usize,
     ordinal: usize,
 ) -> Result<Option<usize>, HybitError>
-    ensures { given result ≡ answers (row_answer (as_words nrows ncols row_word_ptr.now word_indices.now masks.now structural_nnz) row) (select (as_words nrows ncols row_word_ptr.now word_indices.now masks.now structural_nnz) row ordinal) }
+    ensures { given result ≡ answers (row_answer (lent_topology topology.entry) row) (select (lent_topology topology.entry) row ordinal) }
 {
-    check_row(
-        nrows,
-        ncols,
-        row_word_ptr,
-        word_indices,
-        masks,
-        structural_nnz,
-        row,
-    )?;
-    let words = lent::part(row_word_ptr, word_indices, row);
-    Ok(select_in(ncols, words, lent::part(row_word_ptr, masks, row), ordinal))
+    let found = checked_row(topology, row)?;
+    Ok(select_in(topology.ncols, found, ordinal))
 }

@@ -12,11 +12,13 @@ ghost use Rattle.hybit_core.specs.Table.{given};
 ghost use Rattle.metadata_first_build.specs.Pack.{as_store_room};
 ghost use Rattle.demand_examine.specs.Calls.{pruned_answer, row_dot};
 
+use csr32::Csr32Matrix;
 use hybit_core::HybitError;
+use mask::DofMask;
 use metadata_first::{AbtmProductPruningStats, AbtmRowDot};
 use std::fmt;
 
-// The plots, the lines, and the entries of a line that the lists below have room for.
+// The plots, the lines, and the entries of a line that the lists below have room for: fixed lists, so that no trial runs out of memory.
 const ROOM: usize = 65536;
 
 const WORD_ROOM: usize = 1024;
@@ -76,7 +78,7 @@ impl From<HybitError> for Fault {
     }
 }
 
-// The refusal's word in document 01. No other can come of a trial.
+// The refusal's word in document 01. No other can come of a trial. A Display of HybitError would be hybit_core's, for all.
 fn word_of(e: HybitError) -> &'static str {
     match e {
         HybitError::SizeOverflow => "over size",
@@ -272,31 +274,41 @@ impl Input {
 
 // ---- the totals
 
+// The mask of the dry plots, and each plot's yield.
+#[derive(Clone, Copy)]
+struct Plots<'a> {
+    active: &'a [u64],
+    yields: &'a [f64],
+}
+
 // The report of a line: its entries as a matrix of one row, and that row's pruned dot over the active plots.
 fn report(
-    plots: usize,
+    plots: Plots,
     cols: &[u32],
     values: &[f64],
-    active: &[u64],
-    yields: &[f64],
     word_indices: &mut [u32],
     bits: &mut [u64],
     packed: &mut [f64],
 ) -> Result<AbtmRowDot, HybitError>
-    ensures { given result ≡ answers (pruned_answer (as_csr 1 plots (0 ∷ length cols.now % 2 ^ 32 ∷ []) cols.now values.now) (as_mask plots active.now) yields.now 0 (as_store_room 2 (length word_indices.old) (length bits.old) 2 (length packed.old))) (row_dot (as_csr 1 plots (0 ∷ length cols.now % 2 ^ 32 ∷ []) cols.now values.now) (as_mask plots active.now) yields.now 0) }
+    ensures { given result ≡ answers (pruned_answer (as_csr 1 (length plots.entry.yields.now) (0 ∷ length cols.now % 2 ^ 32 ∷ []) cols.now values.now) (as_mask (length plots.entry.yields.now) plots.entry.active.now) plots.entry.yields.now 0 (as_store_room 2 (length word_indices.old) (length bits.old) 2 (length packed.old))) (row_dot (as_csr 1 (length plots.entry.yields.now) (0 ∷ length cols.now % 2 ^ 32 ∷ []) cols.now values.now) (as_mask (length plots.entry.yields.now) plots.entry.active.now) plots.entry.yields.now 0) }
 {
+    // A matrix of one row has two pointers.
     let row_ptr = [0u32, hybit_core::narrow(cols.len())];
     let mut row_word_ptr = [0u32; 2];
     let mut row_value_ptr = [0u32; 2];
     demand_routes::pruned_dot(
-        1,
-        plots,
-        &row_ptr,
-        cols,
-        values,
-        plots,
-        active,
-        yields,
+        Csr32Matrix {
+            nrows: 1,
+            ncols: plots.yields.len(),
+            row_ptr: &row_ptr,
+            col_idx: cols,
+            values,
+        },
+        DofMask {
+            len: plots.yields.len(),
+            words: plots.active,
+        },
+        plots.yields,
         0,
         &mut row_word_ptr,
         word_indices,
@@ -304,13 +316,6 @@ fn report(
         &mut row_value_ptr,
         packed,
     )
-}
-
-// The mask of the dry plots, and each plot's yield.
-#[derive(Clone, Copy)]
-struct Plots<'a> {
-    active: &'a [u64],
-    yields: &'a [f64],
 }
 
 // Room for a line's entries, each a plot and a value, and for the store that they are packed into.
@@ -344,11 +349,9 @@ impl Line {
     fn next_report(&mut self, input: &mut Input, plots: Plots) -> Result<AbtmRowDot, Fault> {
         let n = self.read(input)?;
         Ok(report(
-            plots.yields.len(),
+            plots,
             &self.cols[..n],
             &self.values[..n],
-            plots.active,
-            plots.yields,
             &mut self.word_indices,
             &mut self.bits,
             &mut self.packed,
@@ -387,6 +390,7 @@ fn read_lines(
         bits: [0; WORD_ROOM],
         packed: [0.0; ROOM],
     };
+    // Zeros, each by its name: the struct has no Default.
     let mut all = AbtmProductPruningStats {
         candidate_products: 0,
         executed_products: 0,
@@ -431,6 +435,7 @@ fn read_trial(input: &mut Input, totals: &mut [Total; ROOM]) -> Result<Summary, 
 // ---- the output
 
 // A float as its bits in hexadecimal and as a decimal of six places, rounded to nearest, ties to even; for every NaN the same bits.
+// plots and recorded print one form each, with no decimal: a crate of all three would be public functions without a contract.
 #[derive(Clone, Copy)]
 struct Figure(f64);
 

@@ -10,6 +10,7 @@ ghost use Rattle.word.specs.Word.{rank_answer, combined};
 use hybit_core::HybitError;
 
 // The closures of the Rust's `combine`, by name.
+// An enum and no closure: document 01 names the operation so.
 #[derive(Clone, Copy)]
 pub enum Operation {
     Union,
@@ -58,6 +59,7 @@ pub fn rank(mask: u64, offset: usize) -> Result<usize, HybitError>
 }
 
 // The lowest set bit, and 64 where none is set.
+// No Option: 64 is what `trailing_zeros` answers, and each walk over bits tests for 0 first.
 pub fn lowest(bits: u64) -> usize
     ensures { result ≡ get_or (members bits) 0 64 }
 {

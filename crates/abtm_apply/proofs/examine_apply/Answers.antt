@@ -10,14 +10,14 @@ pub returns-in_err-check : goal.returns-in_err-check
 unfolding apply_tiles_answer
 returns-in_err-check c = told_refused _ _ _ (search rules) (call_refused _ _ _ _ c.check.ensures c.in_err-check.was)
 
-pub returns-then-x-ncols : goal.returns-then-x-ncols
+pub returns-then-x-tiles : goal.returns-then-x-tiles
 unfolding apply_tiles_answer
-returns-then-x-ncols c = call_accepted _ _ _ _ c.check.ensures c.in_ok-check.was (length_wrong c.args.ncols (length c.args.x.now) _ c.if-x-ncols.true)
+returns-then-x-tiles c = call_accepted _ _ _ _ c.check.ensures c.in_ok-check.was (length_wrong c.args.tiles.ncols (length c.args.x.now) _ c.if-x-tiles.true)
 
-pub returns-then-places-nrows : goal.returns-then-places-nrows
+pub returns-then-places-tiles : goal.returns-then-places-tiles
 unfolding apply_tiles_answer
-returns-then-places-nrows c = call_accepted _ _ _ _ c.check.ensures c.in_ok-check.was (length_right c.args.ncols (length c.args.x.now) _ _ (omega arith) (last_length_wrong c.args.nrows c.args.places c.if-places-nrows.true))
+returns-then-places-tiles c = call_accepted _ _ _ _ c.check.ensures c.in_ok-check.was (length_right c.args.tiles.ncols (length c.args.x.now) _ _ (omega arith) (last_length_wrong c.args.tiles.nrows c.args.places c.if-places-tiles.true))
 
 pub returns : goal.returns
 unfolding apply_tiles_answer
-returns c = call_accepted _ _ _ _ c.check.ensures c.in_ok-check.was (length_right c.args.ncols (length c.args.x.now) _ _ (omega arith) (last_length_right c.args.nrows c.args.places (omega arith)))
+returns c = call_accepted _ _ _ _ c.check.ensures c.in_ok-check.was (length_right c.args.tiles.ncols (length c.args.x.now) _ _ (omega arith) (last_length_right c.args.tiles.nrows c.args.places (omega arith)))

@@ -1,63 +1,63 @@
 -- `abtm_apply::fill_product` meets its contract. Assumes nothing.
 use mathlib.Core.Path.{refl}
 use native.Mathlib.Omega.{arith}
-use Rattle.abtm_check.proofs.TilesLaws.{row_places, lent_offsets, lent_metas}
+use Rattle.abtm_check.proofs.TilesLaws.{row_places}
 use Rattle.abtm_apply.proofs.ProductLaws.{rows_none, rows_few, lent_inside, row_number, rows-room, rows_more, rows_done, tiles_good}
 use Rattle.abtm_apply.proofs.fill_product.Goals as goal
 
 pub loop-row-init : goal.loop-row-init
 loop-row-init c = rows_none _ _ _
 
-pub offset_bounds-row_tile_ptr-row : goal.offset_bounds-row_tile_ptr-row
-offset_bounds-row_tile_ptr-row c = omega (arith, rows_few _ _ _ c.requires)
+pub offset_bounds-tiles-row : goal.offset_bounds-tiles-row
+offset_bounds-tiles-row c = omega (arith, rows_few _ _ _ c.requires)
 
-pub bounds-row_tile_ptr-row : goal.bounds-row_tile_ptr-row
-bounds-row_tile_ptr-row c = omega (arith, (row_places _ (tiles_good _ _ _ c.requires) c.loop-row.row _ _ (omega arith) refl refl).here)
+pub bounds-tiles-row : goal.bounds-tiles-row
+bounds-tiles-row c = omega (arith, (row_places _ (tiles_good _ _ _ c.requires) c.loop-row.row _ _ (omega arith) refl refl).here)
 
-pub offset_bounds-row_tile_ptr-row-in-loop-row : goal.offset_bounds-row_tile_ptr-row-in-loop-row
-offset_bounds-row_tile_ptr-row-in-loop-row c = omega (arith, rows_few _ _ _ c.requires)
+pub offset_bounds-tiles-row-in-loop-row : goal.offset_bounds-tiles-row-in-loop-row
+offset_bounds-tiles-row-in-loop-row c = omega (arith, rows_few _ _ _ c.requires)
 
-pub bounds-row_tile_ptr-row-in-loop-row : goal.bounds-row_tile_ptr-row-in-loop-row
-bounds-row_tile_ptr-row-in-loop-row c = omega (arith, (row_places _ (tiles_good _ _ _ c.requires) c.loop-row.row _ _ (omega arith) refl refl).next)
+pub bounds-tiles-row-in-loop-row : goal.bounds-tiles-row-in-loop-row
+bounds-tiles-row-in-loop-row c = omega (arith, (row_places _ (tiles_good _ _ _ c.requires) c.loop-row.row _ _ (omega arith) refl refl).next)
 
-pub slice_bounds-row_sum-count : goal.slice_bounds-row_sum-count
-slice_bounds-row_sum-count c = let p = row_places _ (tiles_good _ _ _ c.requires) c.loop-row.row _ _ (omega arith) refl refl in
+pub slice_bounds-part-count : goal.slice_bounds-part-count
+slice_bounds-part-count c = let p = row_places _ (tiles_good _ _ _ c.requires) c.loop-row.row _ _ (omega arith) refl refl in
     omega (arith, p.order, p.in_masks)
 
-pub slice_bounds-row_sum-start : goal.slice_bounds-row_sum-start
-slice_bounds-row_sum-start c = let p = row_places _ (tiles_good _ _ _ c.requires) c.loop-row.row _ _ (omega arith) refl refl in
+pub slice_bounds-part-start : goal.slice_bounds-part-start
+slice_bounds-part-start c = let p = row_places _ (tiles_good _ _ _ c.requires) c.loop-row.row _ _ (omega arith) refl refl in
     omega (arith, p.order, p.in_masks)
 
-pub slice_bounds-row_sum-end : goal.slice_bounds-row_sum-end
-slice_bounds-row_sum-end c = let p = row_places _ (tiles_good _ _ _ c.requires) c.loop-row.row _ _ (omega arith) refl refl in
+pub slice_bounds-part-end : goal.slice_bounds-part-end
+slice_bounds-part-end c = let p = row_places _ (tiles_good _ _ _ c.requires) c.loop-row.row _ _ (omega arith) refl refl in
     omega (arith, p.order, p.in_masks)
 
-pub slice_bounds-row_sum-count-in-loop-row : goal.slice_bounds-row_sum-count-in-loop-row
-slice_bounds-row_sum-count-in-loop-row c = let p = row_places _ (tiles_good _ _ _ c.requires) c.loop-row.row _ _ (omega arith) refl refl in
+pub slice_bounds-part-count-in-loop-row : goal.slice_bounds-part-count-in-loop-row
+slice_bounds-part-count-in-loop-row c = let p = row_places _ (tiles_good _ _ _ c.requires) c.loop-row.row _ _ (omega arith) refl refl in
     omega (arith, p.order, p.in_offsets)
 
-pub slice_bounds-row_sum-start-in-loop-row : goal.slice_bounds-row_sum-start-in-loop-row
-slice_bounds-row_sum-start-in-loop-row c = let p = row_places _ (tiles_good _ _ _ c.requires) c.loop-row.row _ _ (omega arith) refl refl in
+pub slice_bounds-part-start-in-loop-row : goal.slice_bounds-part-start-in-loop-row
+slice_bounds-part-start-in-loop-row c = let p = row_places _ (tiles_good _ _ _ c.requires) c.loop-row.row _ _ (omega arith) refl refl in
     omega (arith, p.order, p.in_offsets)
 
-pub slice_bounds-row_sum-end-in-loop-row : goal.slice_bounds-row_sum-end-in-loop-row
-slice_bounds-row_sum-end-in-loop-row c = let p = row_places _ (tiles_good _ _ _ c.requires) c.loop-row.row _ _ (omega arith) refl refl in
+pub slice_bounds-part-end-in-loop-row : goal.slice_bounds-part-end-in-loop-row
+slice_bounds-part-end-in-loop-row c = let p = row_places _ (tiles_good _ _ _ c.requires) c.loop-row.row _ _ (omega arith) refl refl in
     omega (arith, p.order, p.in_offsets)
 
-pub slice_bounds-row_sum-count-in-loop-row-2 : goal.slice_bounds-row_sum-count-in-loop-row-2
-slice_bounds-row_sum-count-in-loop-row-2 c = let p = row_places _ (tiles_good _ _ _ c.requires) c.loop-row.row _ _ (omega arith) refl refl in
+pub slice_bounds-part-count-in-loop-row-2 : goal.slice_bounds-part-count-in-loop-row-2
+slice_bounds-part-count-in-loop-row-2 c = let p = row_places _ (tiles_good _ _ _ c.requires) c.loop-row.row _ _ (omega arith) refl refl in
     omega (arith, p.order, p.in_metas)
 
-pub slice_bounds-row_sum-start-in-loop-row-2 : goal.slice_bounds-row_sum-start-in-loop-row-2
-slice_bounds-row_sum-start-in-loop-row-2 c = let p = row_places _ (tiles_good _ _ _ c.requires) c.loop-row.row _ _ (omega arith) refl refl in
+pub slice_bounds-part-start-in-loop-row-2 : goal.slice_bounds-part-start-in-loop-row-2
+slice_bounds-part-start-in-loop-row-2 c = let p = row_places _ (tiles_good _ _ _ c.requires) c.loop-row.row _ _ (omega arith) refl refl in
     omega (arith, p.order, p.in_metas)
 
-pub slice_bounds-row_sum-end-in-loop-row-2 : goal.slice_bounds-row_sum-end-in-loop-row-2
-slice_bounds-row_sum-end-in-loop-row-2 c = let p = row_places _ (tiles_good _ _ _ c.requires) c.loop-row.row _ _ (omega arith) refl refl in
+pub slice_bounds-part-end-in-loop-row-2 : goal.slice_bounds-part-end-in-loop-row-2
+slice_bounds-part-end-in-loop-row-2 c = let p = row_places _ (tiles_good _ _ _ c.requires) c.loop-row.row _ _ (omega arith) refl refl in
     omega (arith, p.order, p.in_metas)
 
 pub row_sum-requires : goal.row_sum-requires
-row_sum-requires c = record { fact_1 = (lent_offsets _ (tiles_good _ _ _ c.requires) c.loop-row.row _ _ (omega arith) refl refl, lent_metas _ (tiles_good _ _ _ c.requires) c.loop-row.row _ _ (omega arith) refl refl); fact_2 = lent_inside _ _ _ c.requires c.loop-row.row _ _ (omega arith) refl refl }
+row_sum-requires c = lent_inside _ _ _ c.requires c.loop-row.row _ _ (omega arith) refl refl
 
 pub offset_bounds-y-row : goal.offset_bounds-y-row
 offset_bounds-y-row c = omega (arith, rows_few _ _ _ c.requires)

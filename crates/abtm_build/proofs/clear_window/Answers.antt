@@ -1,6 +1,5 @@
 -- `abtm_build::clear_window` meets its contract. Assumes nothing.
 use mathlib.Core.Path.{refl}
-use Prim.Native.Nat.{◌-◌}
 use native.Mathlib.Omega.{arith}
 use lib.ListN.{length-set}
 use Rattle.csr32.proofs.WindowLaws.{outside_before, outside_past, outside_more, outside_done}

@@ -1,5 +1,5 @@
 use mathlib.Core.Path.{◌≡◌}
-use Prim.Native.Nat.{◌+◌, ◌-◌, ◌*◌, ◌≤◌}
+use Prim.Native.Nat.{◌+◌, ◌*◌, ◌≤◌}
 use Rattle.abtm_build.specs.Window.{window_value}
 use Rattle.abtm_build.proofs.EmitLaws.{Emitting}
 use Rattle.abtm_build.proofs.emit_block.Given as goal

@@ -1,6 +1,6 @@
 -- `abtm_build::emit_window` meets its contract. Assumes nothing.
 use mathlib.Core.Path.{refl}
-use Prim.Native.Nat.{◌-◌, ◌^◌}
+use Prim.Native.Nat.{◌^◌}
 use native.Mathlib.Omega.{arith}
 use Rattle.abtm_build.proofs.EmitLaws.{emitting_none, emitting_done, emitting_skip, emitting_more, emitting_bounded, emitting_lists, block_zeros}
 use Rattle.abtm_build.proofs.emit_window.Goals as goal

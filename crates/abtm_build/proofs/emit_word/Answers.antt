@@ -1,5 +1,5 @@
 -- `abtm_build::emit_word` meets its contract. Assumes nothing.
-use mathlib.Core.Path.{refl}
+use mathlib.Core.Path.{refl, ◌∙◌}
 use native.Mathlib.Omega.{arith}
 use Rattle.word.specs.Bits.{has}
 use Rattle.word.proofs.BelowLaws.{length-below-le}
@@ -11,10 +11,10 @@ pub returns-then-mask-eq0 : goal.returns-then-mask-eq0
 returns-then-mask-eq0 c = word_none _ _ c.args.sums.now _ c.word_mask-mask.ensures c.if-mask-eq0.true _ _ _ _ _
 
 pub overflow_mul-meta : goal.overflow_mul-meta
-overflow_mul-meta c = omega (arith, c.kind_of-kind.ensures, kind_small c.args.config c.popcount-nnz.result)
+overflow_mul-meta c = omega (arith, c.from.ensures, c.kind_of-kind.ensures, kind_small c.args.config c.popcount-nnz.result)
 
 pub overflow_add-meta : goal.overflow_add-meta
-overflow_add-meta c = omega (arith, c.kind_of-kind.ensures, kind_small c.args.config c.popcount-nnz.result, c.narrow.ensures, c.requires.fact_2)
+overflow_add-meta c = omega (arith, c.from.ensures, c.kind_of-kind.ensures, kind_small c.args.config c.popcount-nnz.result, c.narrow.ensures, c.requires.fact_2)
 
 pub overflow_add-next : goal.overflow_add-next
 overflow_add-next c = omega (arith, c.requires.fact_3.0.tiles_in)
@@ -28,7 +28,7 @@ overflow_add-next-3 c = omega (arith, c.requires.fact_3.0.nnz_in, c.popcount-nnz
 pub returns-then-next-masks : goal.returns-then-next-masks
 returns-then-next-masks c = let m = c.word_mask-mask.ensures in
     let b = c.popcount-nnz.ensures in
-    let k = c.kind_of-kind.ensures in
+    let k = c.from.ensures ∙ c.kind_of-kind.ensures in
     let o = c.narrow.ensures in
     let r = c.slot_count.ensures in
     word_full _ _ c.args.sums.now _ m c.if-mask-eq0.false c.requires.fact_2 _ _ _ _ b k o r c.args.at _ refl refl refl _ _ _ _ (λ a b. omega (arith, c.if-next-masks.true))
@@ -36,7 +36,7 @@ returns-then-next-masks c = let m = c.word_mask-mask.ensures in
 pub returns-then-next-values : goal.returns-then-next-values
 returns-then-next-values c = let m = c.word_mask-mask.ensures in
     let b = c.popcount-nnz.ensures in
-    let k = c.kind_of-kind.ensures in
+    let k = c.from.ensures ∙ c.kind_of-kind.ensures in
     let o = c.narrow.ensures in
     let r = c.slot_count.ensures in
     word_full _ _ c.args.sums.now _ m c.if-mask-eq0.false c.requires.fact_2 _ _ _ _ b k o r c.args.at _ refl refl refl _ _ _ _ (λ a b. omega (arith, c.if-next-values.true))
@@ -53,15 +53,15 @@ bounds-metas-tile c = omega (arith, c.if-next-masks.false, c.requires.fact_3.1.m
 pub write_slots-requires : goal.write_slots-requires
 write_slots-requires c = let m = c.word_mask-mask.ensures in
     let b = c.popcount-nnz.ensures in
-    let k = c.kind_of-kind.ensures in
+    let k = c.from.ensures ∙ c.kind_of-kind.ensures in
     let o = c.narrow.ensures in
     let r = c.slot_count.ensures in
-    record { fact_1 = c.requires.fact_1; fact_2 = m; fact_3 = word_room _ _ c.args.sums.now _ m c.if-mask-eq0.false c.requires.fact_2 _ _ _ _ b k o r c.args.at _ refl refl refl _ (omega (arith, c.if-next-values.false)) }
+    record { fact_1 = c.requires.fact_1; fact_2 = m; fact_3 = rw (← c.from.ensures) (word_room _ _ c.args.sums.now _ m c.if-mask-eq0.false c.requires.fact_2 _ _ _ _ b k o r c.args.at _ refl refl refl _ (omega (arith, c.if-next-values.false))) }
 
 pub returns : goal.returns
 returns c = let m = c.word_mask-mask.ensures in
     let b = c.popcount-nnz.ensures in
-    let k = c.kind_of-kind.ensures in
+    let k = c.from.ensures ∙ c.kind_of-kind.ensures in
     let o = c.narrow.ensures in
     let r = c.slot_count.ensures in
-    word_some _ _ c.args.sums.now _ m c.if-mask-eq0.false c.requires.fact_2 _ _ _ _ b k o r c.args.at _ refl refl refl _ _ _ _ _ _ c.requires.fact_3.1 (omega (arith, c.if-next-masks.false)) (omega (arith, c.if-next-values.false)) c.narrow-2.ensures c.write_slots.ensures
+    word_some _ _ c.args.sums.now _ m c.if-mask-eq0.false c.requires.fact_2 _ _ _ _ b k o r c.args.at _ refl refl refl _ _ _ _ _ _ c.requires.fact_3.1 (omega (arith, c.if-next-masks.false)) (omega (arith, c.if-next-values.false)) c.narrow-2.ensures (rw (← c.from.ensures) at c.write_slots.ensures)

@@ -14,10 +14,10 @@ pub returns-in_err-validate : goal.returns-in_err-validate
 unfolding before_answer
 returns-in_err-validate c = told_refused _ _ _ (search rules) (call_accepted _ _ _ _ c.check.ensures c.in_ok-check.was (call_refused _ _ _ _ c.validate.ensures c.in_err-validate.was))
 
-pub returns-then-pointers-nrows : goal.returns-then-pointers-nrows
+pub returns-then-pointers-csr : goal.returns-then-pointers-csr
 unfolding before_answer
-returns-then-pointers-nrows c = call_accepted _ _ _ _ c.check.ensures c.in_ok-check.was (call_accepted _ _ _ _ c.validate.ensures c.in_ok-validate.was (last_fails _ 13 (is_not_below _ _ c.if-pointers-nrows.true)))
+returns-then-pointers-csr c = call_accepted _ _ _ _ c.check.ensures c.in_ok-check.was (call_accepted _ _ _ _ c.validate.ensures c.in_ok-validate.was (last_fails _ 13 (is_not_below _ _ c.if-pointers-csr.true)))
 
 pub returns : goal.returns
 unfolding before_answer
-returns c = call_accepted _ _ _ _ c.check.ensures c.in_ok-check.was (call_accepted _ _ _ _ c.validate.ensures c.in_ok-validate.was (last_passes _ 13 (is_below c.args.nrows c.args.pointers (omega arith))))
+returns c = call_accepted _ _ _ _ c.check.ensures c.in_ok-check.was (call_accepted _ _ _ _ c.validate.ensures c.in_ok-validate.was (last_passes _ 13 (is_below c.args.csr.nrows c.args.pointers (omega arith))))

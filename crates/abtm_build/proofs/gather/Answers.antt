@@ -1,30 +1,29 @@
 -- `abtm_build::gather` meets its contract. Assumes nothing.
 use mathlib.Core.Path.{refl, sym, ◌∙◌}
-use Prim.Native.Nat.{◌-◌}
 use native.Mathlib.Omega.{arith}
 use Rattle.abtm_build.proofs.WindowLaws.{sized_as, marked_zeros, gathered_none, gathered_as, gathered-at, gathered_in, gathered-past, gathered_before, gathered-zero, gathered_done, gathered_next}
 use Rattle.abtm_build.proofs.gather.Goals as goal
 
 pub loop-k-init : goal.loop-k-init
-loop-k-init c = (refl, refl, refl, refl, omega arith, marked_zeros 64 _ _ _ c.requires.fact_4 refl, marked_zeros 4096 _ _ _ c.requires.fact_4 refl, gathered_none _ _ _ _ _ _ c.requires.fact_4 c.requires.fact_2)
+loop-k-init c = (refl, refl, refl, refl, omega arith, marked_zeros 64 _ _ _ c.requires.zeros refl, marked_zeros 4096 _ _ _ c.requires.zeros refl, gathered_none _ _ _ _ _ _ c.requires.zeros c.requires.window)
 
 pub add_at-requires : goal.add_at-requires
-add_at-requires c = record { fact_1 = omega arith; fact_2 = sized_as _ _ _ _ _ _ c.loop-k.invariant.1 c.loop-k.invariant.2 c.loop-k.invariant.3 c.requires.fact_3; fact_3 = c.loop-k.invariant.5; fact_4 = c.loop-k.invariant.6 }
+add_at-requires c = record { fact_1 = omega arith; fact_2 = sized_as _ _ _ _ _ _ c.loop-k.invariant.1 c.loop-k.invariant.2 c.loop-k.invariant.3 c.requires.sized; fact_3 = c.loop-k.invariant.5; fact_4 = c.loop-k.invariant.6 }
 
 pub loop-k-preserved : goal.loop-k-preserved
 loop-k-preserved c = let z = sym c.is_zero.ensures ∙ c.if-is_zero.false in
-    let g = gathered_in _ _ _ _ _ _ _ c.loop-k.invariant.7 _ _ (omega arith) c.requires.fact_1 refl refl z (omega arith) (omega arith) in
+    let g = gathered_in _ _ _ _ _ _ _ c.loop-k.invariant.7 _ _ (omega arith) c.args.row.paired refl refl z (omega arith) (omega arith) in
     (c.loop-k.invariant.0, c.add_at.auto.sums ∙ c.loop-k.invariant.1, c.add_at.auto.words ∙ c.loop-k.invariant.2, c.add_at.auto.blocks ∙ c.loop-k.invariant.3, c.loop-k.invariant.4, c.add_at.ensures.words, c.add_at.ensures.blocks, gathered_as _ _ _ _ _ _ _ _ c.add_at.ensures.sums g)
 
 pub loop-k-preserved-then-i-width : goal.loop-k-preserved-then-i-width
-loop-k-preserved-then-i-width c = (c.loop-k.invariant.0, c.loop-k.invariant.1, c.loop-k.invariant.2, c.loop-k.invariant.3, omega arith, c.loop-k.invariant.5, c.loop-k.invariant.6, gathered-at _ _ _ _ _ _ _ _ c.min-next.ensures (gathered-past _ _ _ _ _ _ _ c.loop-k.invariant.7 _ _ (omega arith) c.requires.fact_1 refl refl (omega arith) (omega arith)))
+loop-k-preserved-then-i-width c = (c.loop-k.invariant.0, c.loop-k.invariant.1, c.loop-k.invariant.2, c.loop-k.invariant.3, omega arith, c.loop-k.invariant.5, c.loop-k.invariant.6, gathered-at _ _ _ _ _ _ _ _ c.min-next.ensures (gathered-past _ _ _ _ _ _ _ c.loop-k.invariant.7 _ _ (omega arith) c.args.row.paired refl refl (omega arith) (omega arith)))
 
 pub loop-k-preserved-then-c-base : goal.loop-k-preserved-then-c-base
-loop-k-preserved-then-c-base c = (c.loop-k.invariant.0, c.loop-k.invariant.1, c.loop-k.invariant.2, c.loop-k.invariant.3, c.loop-k.invariant.4, c.loop-k.invariant.5, c.loop-k.invariant.6, gathered_before _ _ _ _ _ _ _ c.loop-k.invariant.7 _ _ (omega arith) c.requires.fact_1 refl refl (omega arith))
+loop-k-preserved-then-c-base c = (c.loop-k.invariant.0, c.loop-k.invariant.1, c.loop-k.invariant.2, c.loop-k.invariant.3, c.loop-k.invariant.4, c.loop-k.invariant.5, c.loop-k.invariant.6, gathered_before _ _ _ _ _ _ _ c.loop-k.invariant.7 _ _ (omega arith) c.args.row.paired refl refl (omega arith))
 
 pub loop-k-preserved-then-is_zero : goal.loop-k-preserved-then-is_zero
 loop-k-preserved-then-is_zero c = let z = sym c.is_zero.ensures ∙ c.if-is_zero.true in
-    (c.loop-k.invariant.0, c.loop-k.invariant.1, c.loop-k.invariant.2, c.loop-k.invariant.3, c.loop-k.invariant.4, c.loop-k.invariant.5, c.loop-k.invariant.6, gathered-zero _ _ _ _ _ _ _ c.loop-k.invariant.7 _ _ (omega arith) c.requires.fact_1 refl refl z)
+    (c.loop-k.invariant.0, c.loop-k.invariant.1, c.loop-k.invariant.2, c.loop-k.invariant.3, c.loop-k.invariant.4, c.loop-k.invariant.5, c.loop-k.invariant.6, gathered-zero _ _ _ _ _ _ _ c.loop-k.invariant.7 _ _ (omega arith) c.args.row.paired refl refl z)
 
 pub returns : goal.returns
-returns c = record { sums = gathered_done _ _ _ _ _ _ _ c.loop-k.invariant.7 (omega arith) c.requires.fact_1; words = c.loop-k.invariant.5; blocks = c.loop-k.invariant.6; next = (c.loop-k.invariant.4, gathered_next _ _ _ _ _ _ _ c.loop-k.invariant.7 (omega arith) c.requires.fact_1) }
+returns c = record { sums = gathered_done _ _ _ _ _ _ _ c.loop-k.invariant.7 (omega arith) c.args.row.paired; words = c.loop-k.invariant.5; blocks = c.loop-k.invariant.6; next = (c.loop-k.invariant.4, gathered_next _ _ _ _ _ _ _ c.loop-k.invariant.7 (omega arith) c.args.row.paired) }

@@ -1,6 +1,5 @@
 use mathlib.Core.Bool.{not, ◌&&◌}
 use mathlib.Core.Path.{◌≡◌}
-use Prim.Native.Nat.{◌-◌}
 use lib.Dec.{ltb}
 use lib.ListN.{get_or}
 use lib.Ieee.{nan}

@@ -1,6 +1,5 @@
 -- `abtm_build::write_dense` meets its contract. Assumes nothing.
 use mathlib.Core.Path.{refl}
-use Prim.Native.Nat.{◌-◌}
 use native.Mathlib.Omega.{arith}
 use lib.ListN.{length-set}
 use Rattle.abtm_build.proofs.WordLaws.{all_none, all_more, all_done}

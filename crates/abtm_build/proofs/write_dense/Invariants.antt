@@ -1,7 +1,7 @@
 use mathlib.Core.Bool.{not, cond, true}
 use mathlib.Core.List.{map}
 use mathlib.Core.Path.{◌≡◌}
-use Prim.Native.Nat.{◌+◌, ◌-◌, ◌≤◌}
+use Prim.Native.Nat.{◌+◌, ◌≤◌}
 use lib.ListN.{length, get_or}
 use lib.Ieee.{nan}
 use Rattle.hybit_core.specs.Floats.{zero64}

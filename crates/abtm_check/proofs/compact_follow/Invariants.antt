@@ -1,4 +1,3 @@
-use Rattle.std.proofs.Common.{◌-◌}
 use Rattle.abtm_check.proofs.CompactLaws.{compact_kind, Scanning}
 use Rattle.abtm_check.proofs.compact_follow.Given as goal
 

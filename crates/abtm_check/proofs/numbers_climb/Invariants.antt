@@ -1,4 +1,4 @@
-use Rattle.std.proofs.Common.{◌-◌, ◌≤◌, map}
+use Rattle.std.proofs.Common.{◌≤◌, map}
 use Rattle.abtm.specs.Tiles.{word_in}
 use Rattle.topology.proofs.LastLaws.{climbs_on}
 use Rattle.abtm_check.proofs.numbers_climb.Given as goal

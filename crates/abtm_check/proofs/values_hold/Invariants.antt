@@ -1,4 +1,4 @@
-use Rattle.std.proofs.Common.{◌≡◌, ◌+◌, ◌-◌, ◌≤◌, length, drop}
+use Rattle.std.proofs.Common.{◌≡◌, ◌+◌, ◌≤◌, length, drop}
 use Rattle.lent.specs.Lists.{only}
 use Rattle.topology.specs.Words.{set_bits}
 use Rattle.abtm_values.specs.Values.{solid}
@@ -6,4 +6,4 @@ use Rattle.abtm_check.proofs.RunLaws.{Tested}
 use Rattle.abtm_check.proofs.values_hold.Given as goal
 
 abbrev pub invariant-loop-i : goal.invariant-loop-i
-invariant-loop-i l = Tested l.masks l.value_offsets l.metas l.values l.i × (l.matrix_nnz ≡ set_bits l.masks) × (l.upto ≤ length l.values) × (length (only solid l.values) ≡ l.solid + length (only solid (drop l.upto l.values)))
+invariant-loop-i l = Tested l.masks l.value_offsets l.metas l.values l.i × (l.tiles.matrix.matrix_nnz ≡ set_bits l.masks) × (l.done.upto ≤ length l.values) × (length (only solid l.values) ≡ l.done.solid + length (only solid (drop l.done.upto l.values)))

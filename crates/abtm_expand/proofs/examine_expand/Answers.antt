@@ -17,11 +17,11 @@ returns-in_err-check c = told_refused _ _ _ (search rules) (tiles_refused _ _ _ 
 pub returns-then-not-dimension_fits : goal.returns-then-not-dimension_fits
 returns-then-not-dimension_fits c = mask_large _ _ _ _ (flag_off _ _ c.dimension_fits.ensures (ap not c.if-not-dimension_fits.true))
 
-pub returns-then-nrows-ncols : goal.returns-then-nrows-ncols
-returns-then-nrows-ncols c = not_square _ _ _ _ (flag_on _ _ c.dimension_fits.ensures (ap not c.if-not-dimension_fits.false)) _ c.check.ensures c.in_ok-check.was _ c.check-2.ensures c.in_ok-check-2.was c.if-nrows-ncols.true
+pub returns-then-tiles : goal.returns-then-tiles
+returns-then-tiles c = not_square _ _ _ _ (flag_on _ _ c.dimension_fits.ensures (ap not c.if-not-dimension_fits.false)) _ c.check.ensures c.in_ok-check.was _ c.check-2.ensures c.in_ok-check-2.was c.if-tiles.true
 
-pub returns-then-mask_len-nrows : goal.returns-then-mask_len-nrows
-returns-then-mask_len-nrows c = wrong_size _ _ _ _ (flag_on _ _ c.dimension_fits.ensures (ap not c.if-not-dimension_fits.false)) _ c.check.ensures c.in_ok-check.was _ c.check-2.ensures c.in_ok-check-2.was (omega arith) c.if-mask_len-nrows.true
+pub returns-then-mask-tiles : goal.returns-then-mask-tiles
+returns-then-mask-tiles c = wrong_size _ _ _ _ (flag_on _ _ c.dimension_fits.ensures (ap not c.if-not-dimension_fits.false)) _ c.check.ensures c.in_ok-check.was _ c.check-2.ensures c.in_ok-check-2.was (omega arith) c.if-mask-tiles.true
 
 pub returns-then-room-mask : goal.returns-then-room-mask
 returns-then-room-mask c = short_list _ _ _ _ (flag_on _ _ c.dimension_fits.ensures (ap not c.if-not-dimension_fits.false)) _ c.check.ensures c.in_ok-check.was _ c.check-2.ensures c.in_ok-check-2.was (omega arith) (omega arith) c.if-room-mask.true

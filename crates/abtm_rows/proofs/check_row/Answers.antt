@@ -9,9 +9,9 @@ pub returns-in_err-check : goal.returns-in_err-check
 unfolding tile_row_answer
 returns-in_err-check c = search (checks, tests, rules)
 
-pub returns-then-row-nrows : goal.returns-then-row-nrows
+pub returns-then-row-tiles : goal.returns-then-row-tiles
 unfolding tile_row_answer
-returns-then-row-nrows c = search (checks, tests, rules)
+returns-then-row-tiles c = search (checks, tests, rules)
 
 pub returns : goal.returns
 unfolding tile_row_answer

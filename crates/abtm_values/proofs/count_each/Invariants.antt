@@ -1,4 +1,3 @@
-use Prim.Native.Nat.{◌-◌}
 use Rattle.abtm_values.specs.Values.{solid}
 use Rattle.word.proofs.PassLaws.{Passing}
 use Rattle.abtm_values.proofs.count_each.Given as goal

@@ -1,5 +1,4 @@
 -- `abtm_values::count_four` meets its contract. Assumes nothing.
-use Prim.Native.Nat.{◌-◌}
 use native.Mathlib.Omega.{arith}
 use lib.Ieee.{nan}
 use Rattle.word.proofs.PassLaws.{passing_none, passing_more, passing_done}

@@ -1,4 +1,3 @@
-use Prim.Native.Nat.{◌-◌}
 use Rattle.abtm_values.specs.Values.{solid}
 use Rattle.word.proofs.PassLaws.{FourPassing}
 use Rattle.abtm_values.proofs.count_four.Given as goal

@@ -10,4 +10,4 @@ use Rattle.csr32.proofs.all_finite.Goals as goal
 
 pub returns : goal.returns
 returns c = let l = c.args.values.now in
-    c.both.ensures ∙ ap₂ (λ (s t : Bool). s && t) c.four_finite-most.ensures c.each_finite.ensures ∙ quarters_pass finite l (length l / 4) (omega arith)
+    ap₂ (λ (s t : Bool). s && t) c.four_finite-most.ensures c.each_finite.ensures ∙ quarters_pass finite l (length l / 4) (omega arith)

@@ -8,7 +8,7 @@ pub loop-col-init : goal.loop-col-init
 loop-col-init c = passed_none _ _
 
 pub loop-col-preserved : goal.loop-col-preserved
-loop-col-preserved c = passed_more _ _ _ _ c.loop-col.invariant 0 _ _ (search rules) refl c.both-good.ensures
+loop-col-preserved c = passed_more _ _ _ _ c.loop-col.invariant 0 _ _ (search rules) refl refl
 
 pub returns : goal.returns
 returns c = search (passed_done, rules)

@@ -1,4 +1,3 @@
-use Prim.Native.Nat.{◌-◌}
 use lib.Dec.{ltb}
 use Rattle.csr32.proofs.ScanLaws.{Passed}
 use Rattle.csr32.proofs.columns_below.Given as goal

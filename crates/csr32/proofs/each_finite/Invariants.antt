@@ -1,4 +1,3 @@
-use Prim.Native.Nat.{◌-◌}
 use Rattle.hybit_core.specs.Floats.{finite}
 use Rattle.csr32.proofs.ScanLaws.{Passed}
 use Rattle.csr32.proofs.each_finite.Given as goal

@@ -1,6 +1,6 @@
 -- `csr32::four_finite` meets its contract. Assumes nothing.
 use mathlib.Core.Bool.{Bool, ◌&&◌}
-use mathlib.Core.Path.{ap₂, ◌∙◌}
+use mathlib.Core.Path.{refl, ap₂}
 use native.Mathlib.Omega.{arith}
 use lib.Ieee.{nan}
 use Rattle.csr32.proofs.ScanLaws.{passed_none, passed_more, passed_done}
@@ -25,16 +25,13 @@ loop-i-preserved c = let inv = c.loop-i.invariant in
       second_long = inv.second_long;
       third_long = inv.third_long;
       fourth_long = inv.fourth_long;
-      first = passed_more _ _ _ _ inv.first nan _ _ (omega arith) c.is_finite.ensures c.both-a.ensures;
-      second = passed_more _ _ _ _ inv.second nan _ _ (omega (arith, inv.second_long)) c.is_finite-in-loop-i.ensures c.both-b.ensures;
-      third = passed_more _ _ _ _ inv.third nan _ _ (omega (arith, inv.third_long)) c.is_finite-in-loop-i-2.ensures c.both-c.ensures;
-      fourth = passed_more _ _ _ _ inv.fourth nan _ _ (omega (arith, inv.fourth_long)) c.is_finite-in-loop-i-3.ensures c.both-d.ensures;
+      first = passed_more _ _ _ _ inv.first nan _ _ (omega arith) c.is_finite-a.ensures refl;
+      second = passed_more _ _ _ _ inv.second nan _ _ (omega (arith, inv.second_long)) c.is_finite-b.ensures refl;
+      third = passed_more _ _ _ _ inv.third nan _ _ (omega (arith, inv.third_long)) c.is_finite-c.ensures refl;
+      fourth = passed_more _ _ _ _ inv.fourth nan _ _ (omega (arith, inv.fourth_long)) c.is_finite-d.ensures refl;
     }
 
 pub returns : goal.returns
 returns c = let inv = c.loop-i.invariant in
-    c.both-3.ensures
-    ∙ ap₂ (λ (s t : Bool). s && t) (c.both-2.ensures
-    ∙ ap₂ (λ (s t : Bool). s && t) (c.both.ensures
-    ∙ ap₂ (λ (s t : Bool). s && t) (passed_done _ _ _ _ inv.first (omega arith)) (passed_done _ _ _ _ inv.second (omega (arith, inv.second_long))))
+    ap₂ (λ (s t : Bool). s && t) (ap₂ (λ (s t : Bool). s && t) (ap₂ (λ (s t : Bool). s && t) (passed_done _ _ _ _ inv.first (omega arith)) (passed_done _ _ _ _ inv.second (omega (arith, inv.second_long))))
     (passed_done _ _ _ _ inv.third (omega (arith, inv.third_long)))) (passed_done _ _ _ _ inv.fourth (omega (arith, inv.fourth_long)))

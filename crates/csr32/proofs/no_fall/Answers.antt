@@ -8,7 +8,7 @@ pub loop-next-init : goal.loop-next-init
 loop-next-init c = risen_none _
 
 pub loop-next-preserved : goal.loop-next-preserved
-loop-next-preserved c = risen_more _ _ _ _ c.loop-next.invariant _ _ (search rules) refl c.both-good.ensures
+loop-next-preserved c = risen_more _ _ _ _ c.loop-next.invariant _ _ (search rules) refl refl
 
 pub returns : goal.returns
 returns c = search (risen_done, rules)

@@ -1,4 +1,3 @@
-use Prim.Native.Nat.{◌-◌}
 use Rattle.csr32.proofs.ScanLaws.{Risen}
 use Rattle.csr32.proofs.no_fall.Given as goal
 

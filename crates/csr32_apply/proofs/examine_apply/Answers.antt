@@ -11,14 +11,14 @@ pub returns-in_err-check : goal.returns-in_err-check
 unfolding apply_answer
 returns-in_err-check c = search (checks, tests, rules)
 
-pub returns-then-x-ncols : goal.returns-then-x-ncols
+pub returns-then-x-csr : goal.returns-then-x-csr
 unfolding apply_answer
-returns-then-x-ncols c = call_accepted _ _ _ _ c.check.ensures c.in_ok-check.was (length_wrong c.args.ncols (length c.args.x.now) _ (λ h. omega arith))
+returns-then-x-csr c = call_accepted _ _ _ _ c.check.ensures c.in_ok-check.was (length_wrong c.args.csr.ncols (length c.args.x.now) _ (λ h. omega arith))
 
-pub returns-then-ny-nrows : goal.returns-then-ny-nrows
+pub returns-then-ny-csr : goal.returns-then-ny-csr
 unfolding apply_answer
-returns-then-ny-nrows c = call_accepted _ _ _ _ c.check.ensures c.in_ok-check.was (length_right c.args.ncols (length c.args.x.now) _ _ (omega arith) (last_length_wrong c.args.nrows c.args.ny (λ h. omega arith)))
+returns-then-ny-csr c = call_accepted _ _ _ _ c.check.ensures c.in_ok-check.was (length_right c.args.csr.ncols (length c.args.x.now) _ _ (omega arith) (last_length_wrong c.args.csr.nrows c.args.ny (λ h. omega arith)))
 
 pub returns : goal.returns
 unfolding apply_answer
-returns c = call_accepted _ _ _ _ c.check.ensures c.in_ok-check.was (length_right c.args.ncols (length c.args.x.now) _ _ (omega arith) (last_length_right c.args.nrows c.args.ny (omega arith)))
+returns c = call_accepted _ _ _ _ c.check.ensures c.in_ok-check.was (length_right c.args.csr.ncols (length c.args.x.now) _ _ (omega arith) (last_length_right c.args.csr.nrows c.args.ny (omega arith)))

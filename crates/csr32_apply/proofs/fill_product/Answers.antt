@@ -7,15 +7,12 @@ use Rattle.csr32.proofs.CsrLaws.{valid}
 use Rattle.csr32.proofs.SumLaws.{thirds_none, thirds_more, thirds_done}
 use Rattle.csr32_apply.proofs.fill_product.Goals as goal
 
-pub third_of-third-requires : goal.third_of-third-requires
-third_of-third-requires c = let v = valid _ c.requires.fact_1 in search rules
-
 pub loop-row-init : goal.loop-row-init
-loop-row-init c = let v = valid _ c.requires.fact_1 in
-    (v.rows_in, c.third_of-third.ensures.0, search rules, c.requires.fact_3, thirds_none _ _ _)
+loop-row-init c = let v = valid _ c.args.operands.valid in
+    (v.rows_in, c.third_of-third.ensures.0, search rules, c.requires, thirds_none _ _ _)
 
 pub three_rows-s-requires : goal.three_rows-s-requires
-three_rows-s-requires c = record { fact_1 = c.requires.fact_1; fact_2 = c.requires.fact_2; fact_3 = (search rules, c.row_or_last-b.ensures.0, c.row_or_last-c.ensures.0) }
+three_rows-s-requires c = (search rules, c.row_or_last-b.ensures.0, c.row_or_last-c.ensures.0)
 
 pub bounds-y-c : goal.bounds-y-c
 bounds-y-c c = simp length-set (search rules)

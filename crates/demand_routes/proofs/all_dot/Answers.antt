@@ -1,34 +1,33 @@
 -- `demand_routes::all_dot` meets its contract. Assumes nothing.
-use mathlib.Core.Path.{refl, ◌∙◌}
+use mathlib.Core.Path.{◌≡◌, ◌∙◌}
 use native.Mathlib.Omega.{arith}
 use lib.ListN.{length-take}
+use Rattle.word.specs.Bits.{ceil64}
 use Rattle.demand_routes.proofs.AllLaws.{all_none, all-some, all_filled}
 use Rattle.demand_examine.proofs.StepLaws.{front_long}
 use Rattle.demand_routes.proofs.all_dot.Goals as goal
 
-pub overflow_add-words : goal.overflow_add-words
-overflow_add-words c = omega arith
-
 pub shape_of-row_word_ptr-then-all-words : goal.shape_of-row_word_ptr-then-all-words
-shape_of-row_word_ptr-then-all-words c = c.clear_store.auto.row_word_ptr
+shape_of-row_word_ptr-then-all-words c = c.clear_all.auto.row_word_ptr
 
 pub shape_of-word_indices-then-all-words : goal.shape_of-word_indices-then-all-words
-shape_of-word_indices-then-all-words c = c.clear_store.auto.word_indices
+shape_of-word_indices-then-all-words c = c.clear_all.auto.word_indices
 
 pub shape_of-bits-then-all-words : goal.shape_of-bits-then-all-words
-shape_of-bits-then-all-words c = c.clear_store.auto.bits
+shape_of-bits-then-all-words c = c.clear_all.auto.masks
 
 pub shape_of-row_value_ptr-then-all-words : goal.shape_of-row_value_ptr-then-all-words
-shape_of-row_value_ptr-then-all-words c = c.clear_store.auto.row_value_ptr
+shape_of-row_value_ptr-then-all-words c = c.clear_all.auto.row_value_ptr
 
 pub shape_of-packed-then-all-words : goal.shape_of-packed-then-all-words
-shape_of-packed-then-all-words c = c.clear_store.auto.packed
+shape_of-packed-then-all-words c = c.clear_all.auto.packed
 
 pub shape_of-all-then-all-words : goal.shape_of-all-then-all-words
 shape_of-all-then-all-words c = c.clear_from.auto.s
 
 pub returns-then-all-words : goal.returns-then-all-words
-returns-then-all-words c = let rest = all_none _ _ _ _ _ _ _ _ _ _ _ c.if-all-words.true c.clear_from.ensures c.clear_store.ensures.pointers c.clear_store.ensures.numbers c.clear_store.ensures.bits c.clear_store.ensures.starts c.clear_store.ensures.values in record { answer = rest.0; all = rest.1.0; store = rest.1.1 }
+returns-then-all-words c = let e : c.div_ceil-words.result ≡ ceil64 c.args.csr.ncols = omega arith in
+    let rest = all_none _ _ _ _ _ _ _ _ _ _ _ (omega (arith, e, c.if-all-words.true)) c.clear_from.ensures c.clear_all.ensures.pointers c.clear_all.ensures.numbers c.clear_all.ensures.bits c.clear_all.ensures.starts c.clear_all.ensures.values in record { answer = rest.0; all = rest.1.0; store = rest.1.1 }
 
 pub slice_bounds-fill_active-end : goal.slice_bounds-fill_active-end
 slice_bounds-fill_active-end c = omega arith
@@ -64,4 +63,5 @@ pub shape_of-all : goal.shape_of-all
 shape_of-all c = c.clear_from-2.auto.s ∙ front_long _ c.fill_active.new.words c.args.all.now c.fill_active.auto.words c.if-all-words.false
 
 pub returns : goal.returns
-returns c = let rest = all-some _ _ _ _ _ _ _ _ _ _ _ _ _ c.if-all-words.false refl (all_filled _ _ c.fill_active.new.words c.args.all.now _ c.fill_active.ensures refl c.if-all-words.false c.clear_from-2.ensures) c.pack_dot.ensures.answer c.pack_dot.ensures.store in record { answer = rest.0; all = rest.1.0; store = rest.1.1 }
+returns c = let e : c.div_ceil-words.result ≡ ceil64 c.args.csr.ncols = omega arith in
+    let rest = all-some _ _ _ _ _ _ _ _ _ _ _ _ _ (omega (arith, e, c.if-all-words.false)) e (all_filled _ _ c.fill_active.new.words c.args.all.now _ c.fill_active.ensures e c.if-all-words.false c.clear_from-2.ensures) c.pack_dot.ensures.answer c.pack_dot.ensures.store in record { answer = rest.0; all = rest.1.0; store = rest.1.1 }

@@ -1,5 +1,4 @@
 -- `demand_routes::fill_active` meets its contract. Assumes nothing.
-use Prim.Native.Nat.{◌-◌}
 use mathlib.Core.Path.{refl}
 use native.Mathlib.Omega.{arith}
 use Rattle.lent.proofs.LentLaws.{filled_none, filled_length, filled_more, filled_done}

@@ -4,8 +4,8 @@ use lib.ListN.{length-take}
 use Rattle.demand_routes.proofs.RouteLaws.{pack_refused, pack_used, dot_lent}
 use Rattle.demand_routes.proofs.pack_dot.Goals as goal
 
-pub overflow_add-nrows : goal.overflow_add-nrows
-overflow_add-nrows c = let u = pack_used _ _ _ _ _ _ _ c.from_csr32-t.ensures.answer _ _ c.in-Ok.is in omega (arith, u.rows_in)
+pub overflow_add-csr : goal.overflow_add-csr
+overflow_add-csr c = let u = pack_used _ _ _ _ _ _ _ c.from_csr32-t.ensures.answer _ _ c.in-Ok.is in omega (arith, u.rows_in)
 
 pub slice_bounds-sparse_dot_row-end : goal.slice_bounds-sparse_dot_row-end
 slice_bounds-sparse_dot_row-end c = let u = pack_used _ _ _ _ _ _ _ c.from_csr32-t.ensures.answer _ _ c.in-Ok.is in omega (arith, u.ptr_in, c.from_csr32-t.auto.row_word_ptr)
@@ -25,8 +25,8 @@ slice_bounds-sparse_dot_row-end-in-Ok-4 c = let u = pack_used _ _ _ _ _ _ _ c.fr
 pub slice_bounds-sparse_dot_row-end-in-Ok-5 : goal.slice_bounds-sparse_dot_row-end-in-Ok-5
 slice_bounds-sparse_dot_row-end-in-Ok-5 c = let u = pack_used _ _ _ _ _ _ _ c.from_csr32-t.ensures.answer _ _ c.in-Ok.is in simp length-take (omega (arith, u.mask_in, c.from_csr32-t.auto.masks))
 
-pub overflow_add-nrows-in-Ok : goal.overflow_add-nrows-in-Ok
-overflow_add-nrows-in-Ok c = let u = pack_used _ _ _ _ _ _ _ c.from_csr32-t.ensures.answer _ _ c.in-Ok.is in omega (arith, u.rows_in)
+pub overflow_add-csr-in-Ok : goal.overflow_add-csr-in-Ok
+overflow_add-csr-in-Ok c = let u = pack_used _ _ _ _ _ _ _ c.from_csr32-t.ensures.answer _ _ c.in-Ok.is in omega (arith, u.rows_in)
 
 pub slice_bounds-sparse_dot_row-end-in-Ok-6 : goal.slice_bounds-sparse_dot_row-end-in-Ok-6
 slice_bounds-sparse_dot_row-end-in-Ok-6 c = let u = pack_used _ _ _ _ _ _ _ c.from_csr32-t.ensures.answer _ _ c.in-Ok.is in omega (arith, u.vptr_in, c.from_csr32-t.auto.row_value_ptr)

@@ -5,23 +5,23 @@ use Rattle.demand_examine.proofs.CheckLaws.{pruned_refused}
 use Rattle.demand_routes.proofs.pruned_dot.Goals as goal
 
 pub shape_of-row_word_ptr-in-Err : goal.shape_of-row_word_ptr-in-Err
-shape_of-row_word_ptr-in-Err c = c.clear_store.auto.row_word_ptr
+shape_of-row_word_ptr-in-Err c = c.clear_all.auto.row_word_ptr
 
 pub shape_of-word_indices-in-Err : goal.shape_of-word_indices-in-Err
-shape_of-word_indices-in-Err c = c.clear_store.auto.word_indices
+shape_of-word_indices-in-Err c = c.clear_all.auto.word_indices
 
 pub shape_of-bits-in-Err : goal.shape_of-bits-in-Err
-shape_of-bits-in-Err c = c.clear_store.auto.bits
+shape_of-bits-in-Err c = c.clear_all.auto.masks
 
 pub shape_of-row_value_ptr-in-Err : goal.shape_of-row_value_ptr-in-Err
-shape_of-row_value_ptr-in-Err c = c.clear_store.auto.row_value_ptr
+shape_of-row_value_ptr-in-Err c = c.clear_all.auto.row_value_ptr
 
 pub shape_of-packed-in-Err : goal.shape_of-packed-in-Err
-shape_of-packed-in-Err c = c.clear_store.auto.packed
+shape_of-packed-in-Err c = c.clear_all.auto.packed
 
 pub returns-in-Err : goal.returns-in-Err
 returns-in-Err c = let k = pruned_refused _ _ _ _ _ _ _ c.examine-v.ensures c.in-Err.is in
-    record { answer = answer_refused _ _ _ k; store = store_zeros _ _ _ _ _ _ _ _ _ k c.clear_store.ensures.pointers c.clear_store.ensures.numbers c.clear_store.ensures.bits c.clear_store.ensures.starts c.clear_store.ensures.values }
+    record { answer = answer_refused _ _ _ k; store = store_zeros _ _ _ _ _ _ _ _ _ k c.clear_all.ensures.pointers c.clear_all.ensures.numbers c.clear_all.ensures.bits c.clear_all.ensures.starts c.clear_all.ensures.values }
 
 pub shape_of-row_word_ptr : goal.shape_of-row_word_ptr
 shape_of-row_word_ptr c = c.pack_dot.auto.row_word_ptr

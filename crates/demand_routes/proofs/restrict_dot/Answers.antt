@@ -5,8 +5,8 @@ use lib.ListN.{length-take}
 use Rattle.demand_routes.proofs.AllLaws.{restrict_used, restrict_none, restrict_some}
 use Rattle.demand_routes.proofs.restrict_dot.Goals as goal
 
-pub overflow_add-nrows : goal.overflow_add-nrows
-overflow_add-nrows c = let u = restrict_used _ _ _ _ _ _ c.from_csr32-t.ensures.answer _ c.in-Ok.is in omega (arith, u.rows_in)
+pub overflow_add-csr : goal.overflow_add-csr
+overflow_add-csr c = let u = restrict_used _ _ _ _ _ _ c.from_csr32-t.ensures.answer _ c.in-Ok.is in omega (arith, u.rows_in)
 
 pub slice_bounds-all_dot-end : goal.slice_bounds-all_dot-end
 slice_bounds-all_dot-end c = let u = restrict_used _ _ _ _ _ _ c.from_csr32-t.ensures.answer _ c.in-Ok.is in omega (arith, u.ptr_in, c.from_csr32-t.auto.out_row_ptr)
@@ -39,25 +39,25 @@ pub shape_of-out_values-in-Err : goal.shape_of-out_values-in-Err
 shape_of-out_values-in-Err c = c.from_csr32-t.auto.out_values
 
 pub shape_of-row_word_ptr-in-Err : goal.shape_of-row_word_ptr-in-Err
-shape_of-row_word_ptr-in-Err c = c.clear_store.auto.row_word_ptr
+shape_of-row_word_ptr-in-Err c = c.clear_all.auto.row_word_ptr
 
 pub shape_of-word_indices-in-Err : goal.shape_of-word_indices-in-Err
-shape_of-word_indices-in-Err c = c.clear_store.auto.word_indices
+shape_of-word_indices-in-Err c = c.clear_all.auto.word_indices
 
 pub shape_of-bits-in-Err : goal.shape_of-bits-in-Err
-shape_of-bits-in-Err c = c.clear_store.auto.bits
+shape_of-bits-in-Err c = c.clear_all.auto.masks
 
 pub shape_of-row_value_ptr-in-Err : goal.shape_of-row_value_ptr-in-Err
-shape_of-row_value_ptr-in-Err c = c.clear_store.auto.row_value_ptr
+shape_of-row_value_ptr-in-Err c = c.clear_all.auto.row_value_ptr
 
 pub shape_of-packed-in-Err : goal.shape_of-packed-in-Err
-shape_of-packed-in-Err c = c.clear_store.auto.packed
+shape_of-packed-in-Err c = c.clear_all.auto.packed
 
 pub shape_of-all-in-Err : goal.shape_of-all-in-Err
 shape_of-all-in-Err c = c.clear_from.auto.s
 
 pub returns-in-Err : goal.returns-in-Err
-returns-in-Err c = let rest = restrict_none _ _ _ _ _ _ c.from_csr32-t.ensures.answer _ _ _ _ _ _ _ _ _ _ _ _ _ (record { pointers = c.from_csr32-t.ensures.pointers; columns = c.from_csr32-t.ensures.columns; values = c.from_csr32-t.ensures.values }) _ c.in-Err.is c.clear_from.ensures c.clear_store.ensures.pointers c.clear_store.ensures.numbers c.clear_store.ensures.bits c.clear_store.ensures.starts c.clear_store.ensures.values in record { answer = rest.0; list = rest.1.0; all = rest.1.1.0; store = rest.1.1.1 }
+returns-in-Err c = let rest = restrict_none _ _ _ _ _ _ c.from_csr32-t.ensures.answer _ _ _ _ _ _ _ _ _ _ _ _ _ (record { pointers = c.from_csr32-t.ensures.pointers; columns = c.from_csr32-t.ensures.columns; values = c.from_csr32-t.ensures.values }) _ c.in-Err.is c.clear_from.ensures c.clear_all.ensures.pointers c.clear_all.ensures.numbers c.clear_all.ensures.bits c.clear_all.ensures.starts c.clear_all.ensures.values in record { answer = rest.0; list = rest.1.0; all = rest.1.1.0; store = rest.1.1.1 }
 
 pub shape_of-out_row_ptr-in-Ok : goal.shape_of-out_row_ptr-in-Ok
 shape_of-out_row_ptr-in-Ok c = c.from_csr32-t.auto.out_row_ptr

@@ -37,38 +37,38 @@ pub returns-in-Err : goal.returns-in-Err
 returns-in-Err c = let k = restricted_refused _ _ _ _ _ _ _ _ _ c.examine-v.ensures c.in-Err.is in
     record { answer = answer_refused _ _ _ k; list = plot_zeros _ _ _ _ _ _ _ k c.clear_restricted.ensures.list.0 c.clear_restricted.ensures.list.1 c.clear_restricted.ensures.list.2; all = list_zeros _ _ _ _ _ _ k c.clear_restricted.ensures.all; store = store_zeros _ _ _ _ _ _ _ _ _ k c.clear_restricted.ensures.pointers c.clear_restricted.ensures.numbers c.clear_restricted.ensures.bits c.clear_restricted.ensures.starts c.clear_restricted.ensures.values }
 
-pub shape_of-out_row_ptr-in-Ok : goal.shape_of-out_row_ptr-in-Ok
-shape_of-out_row_ptr-in-Ok c = c.restrict_dot-d.auto.out_row_ptr
+pub shape_of-out_row_ptr : goal.shape_of-out_row_ptr
+shape_of-out_row_ptr c = c.restrict_dot-d.auto.out_row_ptr
 
-pub shape_of-out_col_idx-in-Ok : goal.shape_of-out_col_idx-in-Ok
-shape_of-out_col_idx-in-Ok c = c.restrict_dot-d.auto.out_col_idx
+pub shape_of-out_col_idx : goal.shape_of-out_col_idx
+shape_of-out_col_idx c = c.restrict_dot-d.auto.out_col_idx
 
-pub shape_of-out_values-in-Ok : goal.shape_of-out_values-in-Ok
-shape_of-out_values-in-Ok c = c.restrict_dot-d.auto.out_values
+pub shape_of-out_values : goal.shape_of-out_values
+shape_of-out_values c = c.restrict_dot-d.auto.out_values
 
-pub shape_of-row_word_ptr-in-Ok : goal.shape_of-row_word_ptr-in-Ok
-shape_of-row_word_ptr-in-Ok c = c.restrict_dot-d.auto.row_word_ptr
+pub shape_of-row_word_ptr : goal.shape_of-row_word_ptr
+shape_of-row_word_ptr c = c.restrict_dot-d.auto.row_word_ptr
 
-pub shape_of-word_indices-in-Ok : goal.shape_of-word_indices-in-Ok
-shape_of-word_indices-in-Ok c = c.restrict_dot-d.auto.word_indices
+pub shape_of-word_indices : goal.shape_of-word_indices
+shape_of-word_indices c = c.restrict_dot-d.auto.word_indices
 
-pub shape_of-bits-in-Ok : goal.shape_of-bits-in-Ok
-shape_of-bits-in-Ok c = c.restrict_dot-d.auto.bits
+pub shape_of-bits : goal.shape_of-bits
+shape_of-bits c = c.restrict_dot-d.auto.bits
 
-pub shape_of-row_value_ptr-in-Ok : goal.shape_of-row_value_ptr-in-Ok
-shape_of-row_value_ptr-in-Ok c = c.restrict_dot-d.auto.row_value_ptr
+pub shape_of-row_value_ptr : goal.shape_of-row_value_ptr
+shape_of-row_value_ptr c = c.restrict_dot-d.auto.row_value_ptr
 
-pub shape_of-packed-in-Ok : goal.shape_of-packed-in-Ok
-shape_of-packed-in-Ok c = c.restrict_dot-d.auto.packed
+pub shape_of-packed : goal.shape_of-packed
+shape_of-packed c = c.restrict_dot-d.auto.packed
 
-pub shape_of-all-in-Ok : goal.shape_of-all-in-Ok
-shape_of-all-in-Ok c = c.restrict_dot-d.auto.all
+pub shape_of-all : goal.shape_of-all
+shape_of-all c = c.restrict_dot-d.auto.all
 
-pub returns-in-Ok : goal.returns-in-Ok
-returns-in-Ok c = let h = c.examine-v.ensures in
+pub returns : goal.returns
+returns c = let h = c.examine-v.ensures in
     let k = c.in_default.is in
-    let e = sym (ap given c.in-Ok.is) ∙ c.restrict_dot-d.ensures.answer in
-    record { answer = restricted-told _ _ _ _ _ _ _ _ h k _ e; list = restricted-plots _ _ _ _ _ _ _ _ h k _ e _ _ _ c.restrict_dot-d.ensures.list; all = restricted-all _ _ _ _ _ _ _ _ h k _ e _ _ c.restrict_dot-d.ensures.all; store = restricted_store _ _ _ _ _ _ _ _ h k _ e _ _ _ _ _ c.restrict_dot-d.ensures.store }
+    let e = sym (ap given c.in_default-d.is) ∙ c.restrict_dot-d.ensures.answer in
+    record { answer = restricted-told _ _ _ _ _ _ _ _ h k _ c.restrict_dot-d.ensures.answer; list = restricted-plots _ _ _ _ _ _ _ _ h k _ e _ _ _ c.restrict_dot-d.ensures.list; all = restricted-all _ _ _ _ _ _ _ _ h k _ e _ _ c.restrict_dot-d.ensures.all; store = restricted_store _ _ _ _ _ _ _ _ h k _ e _ _ _ _ _ c.restrict_dot-d.ensures.store }
 
 pub shape_of-out_row_ptr-in-Err-d : goal.shape_of-out_row_ptr-in-Err-d
 shape_of-out_row_ptr-in-Err-d c = c.clear_restricted-in-Err-d.auto.out_row_ptr ∙ c.restrict_dot-d.auto.out_row_ptr

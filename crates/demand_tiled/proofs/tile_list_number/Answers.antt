@@ -5,8 +5,8 @@ use lib.ListN.{length-take}
 use Rattle.demand_tiled.proofs.NumberLaws.{list_used, unlisted, listed}
 use Rattle.demand_tiled.proofs.tile_list_number.Goals as goal
 
-pub overflow_add-nrows : goal.overflow_add-nrows
-overflow_add-nrows c = let u = list_used _ _ _ _ _ _ c.from_abtm-t.ensures.answer _ c.in-Ok.is in omega (arith, u.rows_in)
+pub overflow_add-tiles : goal.overflow_add-tiles
+overflow_add-tiles c = let u = list_used _ _ _ _ _ _ c.from_abtm-t.ensures.answer _ c.in-Ok.is in omega (arith, u.rows_in)
 
 pub slice_bounds-list_number-end : goal.slice_bounds-list_number-end
 slice_bounds-list_number-end c = let u = list_used _ _ _ _ _ _ c.from_abtm-t.ensures.answer _ c.in-Ok.is in omega (arith, u.ptr_in, c.from_abtm-t.auto.out_row_ptr)

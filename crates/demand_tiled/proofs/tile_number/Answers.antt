@@ -5,8 +5,8 @@ use lib.ListN.{length-take}
 use Rattle.demand_tiled.proofs.NumberLaws.{tiles_used, untiled, tiled-number}
 use Rattle.demand_tiled.proofs.tile_number.Goals as goal
 
-pub overflow_add-nrows : goal.overflow_add-nrows
-overflow_add-nrows c = let u = tiles_used _ _ _ _ _ _ _ _ c.from_csr32-t.ensures.answer _ _ _ c.in-Ok.is in omega (arith, u.rows_in)
+pub overflow_add-csr : goal.overflow_add-csr
+overflow_add-csr c = let u = tiles_used _ _ _ _ _ _ _ _ c.from_csr32-t.ensures.answer _ _ _ c.in-Ok.is in omega (arith, u.rows_in)
 
 pub slice_bounds-tile_list_number-end : goal.slice_bounds-tile_list_number-end
 slice_bounds-tile_list_number-end c = let u = tiles_used _ _ _ _ _ _ _ _ c.from_csr32-t.ensures.answer _ _ _ c.in-Ok.is in omega (arith, u.ptr_in, c.from_csr32-t.auto.row_tile_ptr)

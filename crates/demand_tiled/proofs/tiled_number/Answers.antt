@@ -37,38 +37,38 @@ pub returns-in-Err : goal.returns-in-Err
 returns-in-Err c = let k = tiled_refused _ _ _ _ _ _ _ _ _ _ c.examine_tiled-v.ensures c.in-Err.is in
     record { answer = answer_refused _ _ _ k; tiles = tile_zeros _ _ _ _ _ _ _ _ _ k c.clear_tiled.ensures.pointers c.clear_tiled.ensures.bits c.clear_tiled.ensures.offsets c.clear_tiled.ensures.metas c.clear_tiled.ensures.values; list = plot_zeros _ _ _ _ _ _ _ k c.clear_tiled.ensures.list.0 c.clear_tiled.ensures.list.1 c.clear_tiled.ensures.list.2; product = list_zeros _ _ _ _ _ _ k c.clear_tiled.ensures.product }
 
-pub shape_of-row_tile_ptr-in-Ok : goal.shape_of-row_tile_ptr-in-Ok
-shape_of-row_tile_ptr-in-Ok c = c.tile_number-d.auto.row_tile_ptr
+pub shape_of-row_tile_ptr : goal.shape_of-row_tile_ptr
+shape_of-row_tile_ptr c = c.tile_number-d.auto.row_tile_ptr
 
-pub shape_of-tile_masks-in-Ok : goal.shape_of-tile_masks-in-Ok
-shape_of-tile_masks-in-Ok c = c.tile_number-d.auto.tile_masks
+pub shape_of-tile_masks : goal.shape_of-tile_masks
+shape_of-tile_masks c = c.tile_number-d.auto.tile_masks
 
-pub shape_of-value_offsets-in-Ok : goal.shape_of-value_offsets-in-Ok
-shape_of-value_offsets-in-Ok c = c.tile_number-d.auto.value_offsets
+pub shape_of-value_offsets : goal.shape_of-value_offsets
+shape_of-value_offsets c = c.tile_number-d.auto.value_offsets
 
-pub shape_of-metas-in-Ok : goal.shape_of-metas-in-Ok
-shape_of-metas-in-Ok c = c.tile_number-d.auto.metas
+pub shape_of-metas : goal.shape_of-metas
+shape_of-metas c = c.tile_number-d.auto.metas
 
-pub shape_of-tile_values-in-Ok : goal.shape_of-tile_values-in-Ok
-shape_of-tile_values-in-Ok c = c.tile_number-d.auto.tile_values
+pub shape_of-tile_values : goal.shape_of-tile_values
+shape_of-tile_values c = c.tile_number-d.auto.tile_values
 
-pub shape_of-out_row_ptr-in-Ok : goal.shape_of-out_row_ptr-in-Ok
-shape_of-out_row_ptr-in-Ok c = c.tile_number-d.auto.out_row_ptr
+pub shape_of-out_row_ptr : goal.shape_of-out_row_ptr
+shape_of-out_row_ptr c = c.tile_number-d.auto.out_row_ptr
 
-pub shape_of-out_col_idx-in-Ok : goal.shape_of-out_col_idx-in-Ok
-shape_of-out_col_idx-in-Ok c = c.tile_number-d.auto.out_col_idx
+pub shape_of-out_col_idx : goal.shape_of-out_col_idx
+shape_of-out_col_idx c = c.tile_number-d.auto.out_col_idx
 
-pub shape_of-out_values-in-Ok : goal.shape_of-out_values-in-Ok
-shape_of-out_values-in-Ok c = c.tile_number-d.auto.out_values
+pub shape_of-out_values : goal.shape_of-out_values
+shape_of-out_values c = c.tile_number-d.auto.out_values
 
-pub shape_of-product-in-Ok : goal.shape_of-product-in-Ok
-shape_of-product-in-Ok c = c.tile_number-d.auto.product
+pub shape_of-product : goal.shape_of-product
+shape_of-product c = c.tile_number-d.auto.product
 
-pub returns-in-Ok : goal.returns-in-Ok
-returns-in-Ok c = let h = c.examine_tiled-v.ensures in
+pub returns : goal.returns
+returns c = let h = c.examine_tiled-v.ensures in
     let k = c.in_default.is in
-    let e = sym (ap given c.in-Ok.is) ∙ c.tile_number-d.ensures.answer in
-    record { answer = tiled-told _ _ _ _ _ _ _ _ _ h k _ e; tiles = tiled_tiles _ _ _ _ _ _ _ _ _ h k _ e _ _ _ _ _ c.tile_number-d.ensures.tiles; list = tiled-plots _ _ _ _ _ _ _ _ _ h k _ e _ _ _ c.tile_number-d.ensures.list; product = tiled-product _ _ _ _ _ _ _ _ _ h k _ e _ c.tile_number-d.ensures.product }
+    let e = sym (ap given c.in_default-d.is) ∙ c.tile_number-d.ensures.answer in
+    record { answer = tiled-told _ _ _ _ _ _ _ _ _ h k _ c.tile_number-d.ensures.answer; tiles = tiled_tiles _ _ _ _ _ _ _ _ _ h k _ e _ _ _ _ _ c.tile_number-d.ensures.tiles; list = tiled-plots _ _ _ _ _ _ _ _ _ h k _ e _ _ _ c.tile_number-d.ensures.list; product = tiled-product _ _ _ _ _ _ _ _ _ h k _ e _ c.tile_number-d.ensures.product }
 
 pub shape_of-row_tile_ptr-in-Err-d : goal.shape_of-row_tile_ptr-in-Err-d
 shape_of-row_tile_ptr-in-Err-d c = c.clear_tiled-in-Err-d.auto.row_tile_ptr ∙ c.tile_number-d.auto.row_tile_ptr

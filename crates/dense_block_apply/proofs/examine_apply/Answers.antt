@@ -11,14 +11,14 @@ pub returns-in_err-check : goal.returns-in_err-check
 unfolding apply_blocks_answer
 returns-in_err-check c = search (checks, tests, rules)
 
-pub returns-then-x-ncols : goal.returns-then-x-ncols
+pub returns-then-x-blocks : goal.returns-then-x-blocks
 unfolding apply_blocks_answer
-returns-then-x-ncols c = call_accepted _ _ _ _ c.check.ensures c.in_ok-check.was (length_wrong c.args.ncols (length c.args.x.now) _ (λ h. omega arith))
+returns-then-x-blocks c = call_accepted _ _ _ _ c.check.ensures c.in_ok-check.was (length_wrong c.args.blocks.ncols (length c.args.x.now) _ (λ h. omega arith))
 
-pub returns-then-places-nrows : goal.returns-then-places-nrows
+pub returns-then-places-blocks : goal.returns-then-places-blocks
 unfolding apply_blocks_answer
-returns-then-places-nrows c = call_accepted _ _ _ _ c.check.ensures c.in_ok-check.was (length_right c.args.ncols (length c.args.x.now) _ _ (omega arith) (last_length_wrong c.args.nrows c.args.places (λ h. omega arith)))
+returns-then-places-blocks c = call_accepted _ _ _ _ c.check.ensures c.in_ok-check.was (length_right c.args.blocks.ncols (length c.args.x.now) _ _ (omega arith) (last_length_wrong c.args.blocks.nrows c.args.places (λ h. omega arith)))
 
 pub returns : goal.returns
 unfolding apply_blocks_answer
-returns c = call_accepted _ _ _ _ c.check.ensures c.in_ok-check.was (length_right c.args.ncols (length c.args.x.now) _ _ (omega arith) (last_length_right c.args.nrows c.args.places (omega arith)))
+returns c = call_accepted _ _ _ _ c.check.ensures c.in_ok-check.was (length_right c.args.blocks.ncols (length c.args.x.now) _ _ (omega arith) (last_length_right c.args.blocks.nrows c.args.places (omega arith)))

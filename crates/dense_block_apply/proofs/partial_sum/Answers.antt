@@ -1,34 +1,34 @@
 -- `dense_block_apply::partial_sum` meets its contract. Assumes nothing.
-use mathlib.Core.Path.{refl, ap, ◌∙◌}
-use Prim.Native.Nat.{ℕ, ◌*◌}
-use Rattle.dense_block.specs.Blocks.{as_blocks}
-use Rattle.dense_block_apply.specs.Product.{block_sum}
-use Rattle.dense_block_apply.proofs.BlockLaws.{row_here, last_row, last_place}
+use mathlib.Core.Path.{refl}
+use native.Mathlib.Omega.{arith}
+use Rattle.dense_block_apply.proofs.BlockLaws.{ready, row_here, last_row, last_place}
 use Rattle.dense_block_apply.proofs.RowLaws.{sum-none, sum_more, sum_done}
 use Rattle.dense_block_apply.proofs.partial_sum.Goals as goal
 
-pub pointer-end-requires : goal.pointer-end-requires
-pointer-end-requires c = let k = last_row c.args.size _ c.args.nrows c.args.ncols c.args.row_ptr.now c.args.col_idx.now c.args.values.now c.args.x.now c.args.nrows c.args.row _ c.width-width.ensures c.full_blocks-last.ensures c.requires.fact_1 c.requires.fact_2.0 c.requires.fact_2.1 in
-    k.pointers.next
+pub offset_bounds-matrix-last : goal.offset_bounds-matrix-last
+offset_bounds-matrix-last g c = let k = last_row (ready c.args.operands.matrix.size c.args.operands.width c.args.operands.valid) c.args.row _ refl c.requires.0 c.requires.1 in omega (arith, k.pointers.here)
 
-pub pointer-p-requires : goal.pointer-p-requires
-pointer-p-requires c = let k = last_row c.args.size _ c.args.nrows c.args.ncols c.args.row_ptr.now c.args.col_idx.now c.args.values.now c.args.x.now c.args.nrows c.args.row _ c.width-width.ensures c.full_blocks-last.ensures c.requires.fact_1 c.requires.fact_2.0 c.requires.fact_2.1 in
-    k.pointers.here
+pub bounds-matrix-last : goal.bounds-matrix-last
+bounds-matrix-last g c = (last_row (ready c.args.operands.matrix.size c.args.operands.width c.args.operands.valid) c.args.row _ refl c.requires.0 c.requires.1).pointers.here
+
+pub offset_bounds-matrix-last-2 : goal.offset_bounds-matrix-last-2
+offset_bounds-matrix-last-2 g c = let k = last_row (ready c.args.operands.matrix.size c.args.operands.width c.args.operands.valid) c.args.row _ refl c.requires.0 c.requires.1 in omega (arith, k.pointers.next)
+
+pub bounds-matrix-last-2 : goal.bounds-matrix-last-2
+bounds-matrix-last-2 g c = (last_row (ready c.args.operands.matrix.size c.args.operands.width c.args.operands.valid) c.args.row _ refl c.requires.0 c.requires.1).pointers.next
 
 pub loop-p-init : goal.loop-p-init
-loop-p-init c = let k = last_row c.args.size _ c.args.nrows c.args.ncols c.args.row_ptr.now c.args.col_idx.now c.args.values.now c.args.x.now c.args.nrows c.args.row _ c.width-width.ensures c.full_blocks-last.ensures c.requires.fact_1 c.requires.fact_2.0 c.requires.fact_2.1 in
-    sum-none _ _ _ _ _ _ k c.pointer-p.ensures c.pointer-end.ensures
+loop-p-init g c = sum-none _ _ _ _ _ _ (last_row (ready c.args.operands.matrix.size c.args.operands.width c.args.operands.valid) c.args.row _ refl c.requires.0 c.requires.1) refl refl
 
-pub overflow_sub-ncols : goal.overflow_sub-ncols
-overflow_sub-ncols c = let q = last_place c.loop-p.invariant.of c.loop-p.p _ (row_here c.loop-p.invariant.row c.loop-p.p c.loop-p-test.true) refl in
-    q.inside
+pub overflow_sub-matrix : goal.overflow_sub-matrix
+overflow_sub-matrix g c = (last_place c.loop-p.invariant.of c.loop-p.p _ (row_here c.loop-p.invariant.row c.loop-p.p c.loop-p-test.true) refl).inside
 
 pub add_terms-sum-requires : goal.add_terms-sum-requires
-add_terms-sum-requires c = let q = last_place c.loop-p.invariant.of c.loop-p.p _ (row_here c.loop-p.invariant.row c.loop-p.p c.loop-p-test.true) refl in let rest = q.terms _ c.min-count.ensures in record { fact_1 = rest.0; fact_2 = rest.1.0; fact_3 = rest.1.1 }
+add_terms-sum-requires g c = let q = last_place c.loop-p.invariant.of c.loop-p.p _ (row_here c.loop-p.invariant.row c.loop-p.p c.loop-p-test.true) refl in
+    let rest = q.terms _ c.min-count.ensures in record { values_in = rest.0; columns_in = rest.1.0; small = rest.1.1 }
 
 pub loop-p-preserved : goal.loop-p-preserved
-loop-p-preserved c = sum_more _ _ _ _ _ _ _ _ c.loop-p.invariant _ _ _ _ refl (ap (λ (k : ℕ). c.width-width.result * k) refl) c.min-count.ensures c.loop-p-test.true c.add_terms-sum.ensures
+loop-p-preserved g c = sum_more _ _ _ _ _ _ _ _ c.loop-p.invariant _ _ _ _ refl refl c.min-count.ensures c.loop-p-test.true c.add_terms-sum.ensures
 
 pub returns : goal.returns
-returns c = sum_done _ _ _ _ _ _ _ _ c.loop-p.invariant c.loop-p-test.false
-    ∙ ap (λ (w : ℕ). block_sum (as_blocks c.args.nrows c.args.ncols w c.args.row_ptr.now c.args.col_idx.now c.args.values.now) c.args.x.now c.args.row) c.width-width.ensures
+returns g c = rw (← c.args.operands.width) (sum_done _ _ _ _ _ _ _ _ c.loop-p.invariant c.loop-p-test.false)

@@ -8,4 +8,4 @@ use Rattle.dense_block_build.proofs.LineLaws.{row_fits, merged_run}
 use Rattle.dense_block_build.proofs.add_run.Goals as goal
 
 pub returns : goal.returns
-returns c = merged_run _ _ _ _ c.merge_line.result (replicate 6 (replicate 6 zero64)) _ _ _ c.width-width.ensures (width_pos c.args.size) (width_six c.args.size) c.requires.fact_1.0 c.requires.fact_2 (row_fits c.args.size _ c.args.row _ c.width-width.ensures c.requires.fact_1.0 c.requires.fact_2).0 refl c.load_line-line.ensures c.merge_line.ensures c.store_line.ensures
+returns c = merged_run _ _ _ _ c.merge_line.result (replicate 6 (replicate 6 zero64)) _ _ _ c.width-width.ensures (width_pos c.args.size) (width_six c.args.size) c.requires.inside c.requires.block (row_fits c.args.size _ c.args.row _ c.width-width.ensures c.requires.inside c.requires.block).0 refl c.load_line-line.ensures c.merge_line.ensures c.store_line.ensures

@@ -5,11 +5,11 @@ use Rattle.dense_block_build.proofs.FillLaws.{local_words, local_bits, local_sta
 use Rattle.dense_block_build.proofs.build_values.Goals as goal
 
 pub slice_bounds-bits-end : goal.slice_bounds-bits-end
-slice_bounds-bits-end c = local_words c.args.size _ _ (valid _ c.requires.fact_1).cols_in c.blocks_for.ensures
+slice_bounds-bits-end c = local_words c.args.layout.size _ _ (valid _ c.args.layout.csr.valid).cols_in c.blocks_for.ensures _ c.div_ceil-nwords.ensures
 
 pub slice_bounds-fill_values-end : goal.slice_bounds-fill_values-end
-slice_bounds-fill_values-end c = zeros_long _ 5462 (local_words c.args.size _ _ (valid _ c.requires.fact_1).cols_in c.blocks_for.ensures)
+slice_bounds-fill_values-end c = zeros_long _ 5462 (local_words c.args.layout.size _ _ (valid _ c.args.layout.csr.valid).cols_in c.blocks_for.ensures _ c.div_ceil-nwords.ensures)
 
 pub fill_values-requires : goal.fill_values-requires
-fill_values-requires c = let v = (valid _ c.requires.fact_1).cols_in in
-    record { fact_1 = c.requires.fact_1; fact_2 = c.requires.fact_2; fact_3 = local_bits c.args.size _ _ v c.blocks_for.ensures; fact_4 = local_starts c.args.size _ _ v c.blocks_for.ensures; fact_5 = c.requires.fact_3 }
+fill_values-requires c = let v = (valid _ c.args.layout.csr.valid).cols_in in
+    record { empty = local_bits c.args.layout.size _ _ v c.blocks_for.ensures _ c.div_ceil-nwords.ensures; room = local_starts c.args.layout.size _ _ v c.blocks_for.ensures; zeros = c.requires }

@@ -9,7 +9,7 @@ pub loop-k-init : goal.loop-k-init
 loop-k-init c = merging_none _ _ _ _ c.well_formed.1.0.1.0.1
 
 pub loop-k-preserved : goal.loop-k-preserved
-loop-k-preserved c = merging_more _ _ _ _ _ _ c.loop-k.invariant c.requires _ (search rules) (width_six c.args.size) (width_pos c.args.size) c.place_of-j.ensures
+loop-k-preserved c = merging_more _ _ _ _ _ _ c.loop-k.invariant c.args.entries.paired _ (search rules) (width_six c.args.size) (width_pos c.args.size) c.place_of-j.ensures
 
 pub returns : goal.returns
-returns c = merging_done _ _ _ _ _ _ c.loop-k.invariant c.requires (search rules)
+returns c = merging_done _ _ _ _ _ _ c.loop-k.invariant c.args.entries.paired (search rules)

@@ -5,5 +5,5 @@ use borrow.Author.Rules.{rules}
 use Rattle.dense_block_build.proofs.row_slots.Goals as goal
 
 pub overflow_sub-ncols : goal.overflow_sub-ncols
-overflow_sub-ncols c = let h = slotting_inside _ _ _ _ c.args.size c.width-width.ensures _ _ c.loop-block.invariant c.loop-block-test.true _ refl c.requires.fact_2.1 in
+overflow_sub-ncols c = let h = slotting_inside _ _ _ _ c.args.size c.width-width.ensures _ _ c.loop-block.invariant c.loop-block-test.true _ refl c.requires.columns.1 in
     search rules

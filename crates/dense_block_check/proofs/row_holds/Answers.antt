@@ -1,4 +1,5 @@
 -- `dense_block_check::row_holds` meets its contract. Assumes nothing.
+use mathlib.Core.Path.{refl}
 use borrow.Author.Rules.{rules}
 use Rattle.dense_block_check.proofs.ClimbLaws.{keeps-none, keeping_one, keeping_more, keeping_done}
 use Rattle.dense_block_check.proofs.row_holds.Goals as goal
@@ -10,7 +11,7 @@ pub loop-col-init : goal.loop-col-init
 loop-col-init c = keeping_one _ _ (search rules)
 
 pub loop-col-preserved : goal.loop-col-preserved
-loop-col-preserved c = keeping_more _ _ _ _ _ _ c.loop-col.invariant _ (search rules) c.also-holds.ensures
+loop-col-preserved c = keeping_more _ _ _ _ _ _ c.loop-col.invariant _ (search rules) refl
 
 pub returns : goal.returns
-returns c = keeping_done _ _ _ _ _ _ c.loop-col.invariant _ (search rules) c.also.ensures
+returns c = keeping_done _ _ _ _ _ _ c.loop-col.invariant _ (search rules) refl

@@ -1,25 +1,25 @@
 -- `dense_block_counts::count_structural` meets its contract. Assumes nothing.
-use mathlib.Core.Path.{refl}
+use mathlib.Core.Path.{◌≡◌, refl}
 use native.Mathlib.Omega.{arith}
-use Rattle.csr32.proofs.CsrLaws.{valid}
+use Rattle.word.specs.Bits.{ceil64}
 use Rattle.dense_block_counts.proofs.SlotLaws.{summed-none, summed_asks, summed_fits, summed_more, summed_done}
 use borrow.Author.Rules.{rules}
 use Rattle.dense_block_counts.proofs.count_structural.Goals as goal
 
-pub overflow_add-nwords : goal.overflow_add-nwords
-overflow_add-nwords c = omega (arith, (valid _ c.requires).cols_in)
-
 pub loop-row-init : goal.loop-row-init
-loop-row-init c = summed-none _ c.requires
+loop-row-init c = summed-none _ c.args.csr.valid
 
 pub distinct-slots-requires : goal.distinct-slots-requires
-distinct-slots-requires c = let rest = summed_asks _ _ _ _ c.loop-row.invariant _ _ refl refl in record { fact_1 = rest.0; fact_2 = rest.1.0; fact_3 = rest.1.1 }
+distinct-slots-requires c = let e : c.div_ceil-nwords.result ≡ ceil64 c.args.csr.matrix.ncols = omega arith in
+    let rest = summed_asks _ _ _ _ c.loop-row.invariant _ _ refl refl in
+    record { few = rest.0; inside = rest.1.0; empty = rw e rest.1.1 }
 
 pub overflow_add-slots : goal.overflow_add-slots
 overflow_add-slots c = omega (arith, summed_fits _ _ _ _ c.loop-row.invariant _ _ refl refl _ c.distinct-slots.ensures.count (search rules))
 
 pub loop-row-preserved : goal.loop-row-preserved
-loop-row-preserved c = summed_more _ _ _ _ c.loop-row.invariant _ _ refl refl _ c.distinct-slots.ensures.count _ c.distinct-slots.ensures.bits
+loop-row-preserved c = let e : c.div_ceil-nwords.result ≡ ceil64 c.args.csr.matrix.ncols = omega arith in
+    rw e (summed_more _ _ _ _ c.loop-row.invariant _ _ refl refl _ c.distinct-slots.ensures.count _ c.distinct-slots.ensures.bits)
 
 pub returns : goal.returns
 returns c = summed_done _ _ _ _ c.loop-row.invariant (search rules) (search rules)

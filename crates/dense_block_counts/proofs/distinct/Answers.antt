@@ -7,7 +7,7 @@ use borrow.Author.Rules.{rules}
 use Rattle.dense_block_counts.proofs.distinct.Goals as goal
 
 pub loop-column-init : goal.loop-column-init
-loop-column-init c = distinct_none _ _ _ c.requires.fact_1 c.requires.fact_2 c.requires.fact_3
+loop-column-init c = distinct_none _ _ _ c.requires.few c.requires.inside c.requires.empty
 
 pub bounds-bits-col : goal.bounds-bits-col
 bounds-bits-col c = distinct_place _ _ _ _ _ c.loop-column.invariant (search rules) _ refl

@@ -1,4 +1,3 @@
-use Prim.Native.Nat.{◌-◌}
 use Rattle.mask.proofs.CallLaws.{Counted}
 use Rattle.mask.proofs.ones.Given as goal
 

@@ -1,8 +1,5 @@
-use mathlib.Core.Path.{◌≡◌}
-use Prim.Native.Nat.{◌-◌}
-use lib.ListN.{length}
 use Rattle.mask.proofs.CallLaws.{Listing}
 use Rattle.mask.proofs.put_all.Given as goal
 
 abbrev pub invariant-loop-k : goal.invariant-loop-k
-invariant-loop-k l = (l.n ≡ length l.words) × Listing l.words l.initial.out l.k l.at l.out
+invariant-loop-k l = Listing l.words l.initial.out l.k l.at l.out

@@ -1,6 +1,6 @@
 -- `mask_build::examine_new` meets its contract. Assumes nothing.
 use borrow.Author.Rules.{rules}
-use Rattle.hybit_core.proofs.AnswerLaws.{checks, dimension_small}
+use Rattle.hybit_core.proofs.AnswerLaws.{checks}
 use Rattle.hybit_core.proofs.BoolLaws.{tests}
 use Rattle.mask.specs.Calls.{new_answer}
 use Rattle.mask_build.proofs.examine_new.Goals as goal
@@ -8,9 +8,6 @@ use Rattle.mask_build.proofs.examine_new.Goals as goal
 pub returns-then-not-dimension_fits : goal.returns-then-not-dimension_fits
 unfolding new_answer
 returns-then-not-dimension_fits c = search (checks, tests, rules)
-
-pub words_fit-requires : goal.words_fit-requires
-words_fit-requires c = search (dimension_small, rules)
 
 pub returns-then-not-words_fit : goal.returns-then-not-words_fit
 unfolding new_answer

@@ -10,10 +10,10 @@ pub returns-in_err-check : goal.returns-in_err-check
 unfolding set_answer
 returns-in_err-check c = search (checks, tests, rules)
 
-pub returns-then-len-index : goal.returns-then-len-index
+pub returns-then-mask-index : goal.returns-then-mask-index
 unfolding set_answer
-returns-then-len-index c = call_accepted _ _ _ _ c.check.ensures c.in_ok-check.was (last_fails _ _ (is_not_below c.args.index c.args.len (omega arith)))
+returns-then-mask-index c = call_accepted _ _ _ _ c.check.ensures c.in_ok-check.was (last_fails _ _ (is_not_below c.args.index c.args.mask.len (omega arith)))
 
 pub returns : goal.returns
 unfolding set_answer
-returns c = call_accepted _ _ _ _ c.check.ensures c.in_ok-check.was (last_passes _ _ (is_below c.args.index c.args.len (omega arith)))
+returns c = call_accepted _ _ _ _ c.check.ensures c.in_ok-check.was (last_passes _ _ (is_below c.args.index c.args.mask.len (omega arith)))

@@ -11,7 +11,7 @@ returns-in-Err c = search (outcomes, built_refused, rules)
 pub set_all-requires : goal.set_all-requires
 set_all-requires c = let ok = accepted_by _ _ c.examine_indices-v.ensures c.in_default.is in
     let e = c.clear_from.ensures in
-    record { indices_value = from_indices_below _ _ _ ok; len_in_bounds = cleared_room _ _ e _ (from_indices_room _ _ _ ok); words_value = cleared_self _ _ e }
+    record { below = from_indices_below _ _ _ ok; room = cleared_room _ _ e _ (from_indices_room _ _ _ ok); empty = cleared_self _ _ e }
 
 pub returns : goal.returns
 returns c = let e = c.examine_indices-v.ensures in

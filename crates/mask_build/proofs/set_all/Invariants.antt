@@ -1,4 +1,3 @@
-use Prim.Native.Nat.{◌-◌}
 use Rattle.mask_build.proofs.BuildLaws.{Setting}
 use Rattle.mask_build.proofs.set_all.Given as goal
 

@@ -22,8 +22,8 @@ returns-then-not-dimension_fits-2 c = search (test_fails, and-next, flag_off, fl
 pub returns-in_err-check : goal.returns-in_err-check
 returns-in_err-check c = told_refused _ _ _ (search rules) (first_refused _ _ _ _ (flag_on _ _ c.dimension_fits.ensures (ap not c.if-not-dimension_fits.false)) (flag_on _ _ c.dimension_fits-2.ensures (ap not c.if-not-dimension_fits-2.false)) _ _ c.check.ensures c.in_err-check.was)
 
-pub returns-then-actual-expected : goal.returns-then-actual-expected
-returns-then-actual-expected c = sizes_differ _ _ _ _ (flag_on _ _ c.dimension_fits.ensures (ap not c.if-not-dimension_fits.false)) (flag_on _ _ c.dimension_fits-2.ensures (ap not c.if-not-dimension_fits-2.false)) _ c.check.ensures c.in_ok-check.was _ c.check-2.ensures c.in_ok-check-2.was c.if-actual-expected.true
+pub returns-then-other-mask : goal.returns-then-other-mask
+returns-then-other-mask c = sizes_differ _ _ _ _ (flag_on _ _ c.dimension_fits.ensures (ap not c.if-not-dimension_fits.false)) (flag_on _ _ c.dimension_fits-2.ensures (ap not c.if-not-dimension_fits-2.false)) _ c.check.ensures c.in_ok-check.was _ c.check-2.ensures c.in_ok-check-2.was c.if-other-mask.true
 
 pub returns : goal.returns
-returns c = pair_good _ _ _ _ (flag_on _ _ c.dimension_fits.ensures (ap not c.if-not-dimension_fits.false)) (flag_on _ _ c.dimension_fits-2.ensures (ap not c.if-not-dimension_fits-2.false)) _ c.check.ensures c.in_ok-check.was _ c.check-2.ensures c.in_ok-check-2.was c.if-actual-expected.false
+returns c = pair_good _ _ _ _ (flag_on _ _ c.dimension_fits.ensures (ap not c.if-not-dimension_fits.false)) (flag_on _ _ c.dimension_fits-2.ensures (ap not c.if-not-dimension_fits-2.false)) _ c.check.ensures c.in_ok-check.was _ c.check-2.ensures c.in_ok-check-2.was c.if-other-mask.false

@@ -1,6 +1,5 @@
 -- `mask_sets::words_meet` meets its contract. Assumes nothing.
 use borrow.Author.Rules.{rules}
-use Prim.Native.Nat.{◌-◌}
 use Rattle.mask_sets.proofs.PairLaws.{apart_none, apart_more, apart_found, apart_done}
 use Rattle.mask_sets.proofs.words_meet.Goals as goal
 

@@ -1,4 +1,3 @@
-use Prim.Native.Nat.{◌-◌}
 use Rattle.mask_sets.proofs.PairLaws.{Apart}
 use Rattle.mask_sets.proofs.words_meet.Given as goal
 

@@ -9,10 +9,10 @@ pub returns-in_err-check : goal.returns-in_err-check
 unfolding store_row_answer
 returns-in_err-check c = search (checks, rules)
 
-pub returns-then-row-nrows : goal.returns-then-row-nrows
+pub returns-then-row-packed : goal.returns-then-row-packed
 unfolding store_row_answer
-returns-then-row-nrows c = call_accepted _ _ _ _ c.check.ensures c.in_ok-check.was (last_fails _ _ (is_not_below _ _ c.if-row-nrows.true))
+returns-then-row-packed c = call_accepted _ _ _ _ c.check.ensures c.in_ok-check.was (last_fails _ _ (is_not_below _ _ c.if-row-packed.true))
 
 pub returns : goal.returns
 unfolding store_row_answer
-returns c = call_accepted _ _ _ _ c.check.ensures c.in_ok-check.was (last_passes _ _ (is_below _ _ c.if-row-nrows.false))
+returns c = call_accepted _ _ _ _ c.check.ensures c.in_ok-check.was (last_passes _ _ (is_below _ _ c.if-row-packed.false))

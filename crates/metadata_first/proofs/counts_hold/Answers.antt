@@ -1,9 +1,8 @@
 -- `metadata_first::counts_hold` meets its contract. Assumes nothing.
-use mathlib.Core.Path.{refl}
-use mathlib.Core.Bool.{true}
-use Prim.Native.Nat.{◌-◌, ◌≤◌, ◌^◌}
+use mathlib.Core.Path.{refl, ap}
+use Prim.Native.Nat.{◌≤◌, ◌^◌}
 use native.Mathlib.Omega.{arith}
-use lib.ListN.{get_or}
+use lib.ListN.{length, get_or}
 use Rattle.topology.proofs.RowLaws.{small_is}
 use Rattle.topology.proofs.ScanLaws.{rows_none, rows_more, rows_fail, rows_done}
 use Rattle.metadata_first.specs.Store.{value_rules}
@@ -16,52 +15,52 @@ pub loop-row-init : goal.loop-row-init
 unfolding value_rules
 loop-row-init c = rows_none _ _
 
-pub offset_bounds-row_word_ptr-row : goal.offset_bounds-row_word_ptr-row
-offset_bounds-row_word_ptr-row c = let k = accepted_facts _ c.requires.fact_1 in omega (arith, k.rows_in, c.loop-row-test.true)
+pub offset_bounds-packed-row : goal.offset_bounds-packed-row
+offset_bounds-packed-row c = let k = accepted_facts _ c.requires.words in omega (arith, k.rows_in, c.loop-row-test.true)
 
-pub bounds-row_word_ptr-row : goal.bounds-row_word_ptr-row
-bounds-row_word_ptr-row c = (masks_here _ _ _ _ _ _ c.requires.fact_1 _ c.loop-row-test.true).here
+pub bounds-packed-row : goal.bounds-packed-row
+bounds-packed-row c = (masks_here _ _ _ _ _ _ c.requires.words _ c.loop-row-test.true).here
 
-pub offset_bounds-row_word_ptr-row-in-loop-row : goal.offset_bounds-row_word_ptr-row-in-loop-row
-offset_bounds-row_word_ptr-row-in-loop-row c = let k = accepted_facts _ c.requires.fact_1 in omega (arith, k.rows_in, c.loop-row-test.true)
+pub offset_bounds-packed-row-in-loop-row : goal.offset_bounds-packed-row-in-loop-row
+offset_bounds-packed-row-in-loop-row c = let k = accepted_facts _ c.requires.words in omega (arith, k.rows_in, c.loop-row-test.true)
 
-pub bounds-row_word_ptr-row-in-loop-row : goal.bounds-row_word_ptr-row-in-loop-row
-bounds-row_word_ptr-row-in-loop-row c = (masks_here _ _ _ _ _ _ c.requires.fact_1 _ c.loop-row-test.true).next
+pub bounds-packed-row-in-loop-row : goal.bounds-packed-row-in-loop-row
+bounds-packed-row-in-loop-row c = (masks_here _ _ _ _ _ _ c.requires.words _ c.loop-row-test.true).next
 
-pub offset_bounds-row_value_ptr-row : goal.offset_bounds-row_value_ptr-row
-offset_bounds-row_value_ptr-row c = let k = accepted_facts _ c.requires.fact_1 in omega (arith, k.rows_in, c.loop-row-test.true)
+pub offset_bounds-packed-row-in-loop-row-2 : goal.offset_bounds-packed-row-in-loop-row-2
+offset_bounds-packed-row-in-loop-row-2 c = let k = accepted_facts _ c.requires.words in omega (arith, k.rows_in, c.loop-row-test.true)
 
-pub bounds-row_value_ptr-row : goal.bounds-row_value_ptr-row
-bounds-row_value_ptr-row c = (values_here _ _ _ _ c.requires.fact_2 c.loop-row-test.true).here
+pub bounds-packed-row-in-loop-row-2 : goal.bounds-packed-row-in-loop-row-2
+bounds-packed-row-in-loop-row-2 c = (values_here _ _ _ _ c.requires.pointers c.loop-row-test.true).here
 
-pub offset_bounds-row_value_ptr-row-in-loop-row : goal.offset_bounds-row_value_ptr-row-in-loop-row
-offset_bounds-row_value_ptr-row-in-loop-row c = let k = accepted_facts _ c.requires.fact_1 in omega (arith, k.rows_in, c.loop-row-test.true)
+pub offset_bounds-packed-row-in-loop-row-3 : goal.offset_bounds-packed-row-in-loop-row-3
+offset_bounds-packed-row-in-loop-row-3 c = let k = accepted_facts _ c.requires.words in omega (arith, k.rows_in, c.loop-row-test.true)
 
-pub bounds-row_value_ptr-row-in-loop-row : goal.bounds-row_value_ptr-row-in-loop-row
-bounds-row_value_ptr-row-in-loop-row c = (values_here _ _ _ _ c.requires.fact_2 c.loop-row-test.true).next
+pub bounds-packed-row-in-loop-row-3 : goal.bounds-packed-row-in-loop-row-3
+bounds-packed-row-in-loop-row-3 c = (values_here _ _ _ _ c.requires.pointers c.loop-row-test.true).next
 
 pub overflow_sub-last : goal.overflow_sub-last
-overflow_sub-last c = let k = values_here _ _ _ _ c.requires.fact_2 c.loop-row-test.true in omega (arith, k.order)
+overflow_sub-last c = let k = values_here _ _ _ _ c.requires.pointers c.loop-row-test.true in omega (arith, k.order)
 
 pub offset_bounds-masks-start : goal.offset_bounds-masks-start
-offset_bounds-masks-start c = let k : get_or c.args.row_word_ptr.now c.loop-row.row 0 ≤ 2 ^ 24 = start_small _ _ _ _ _ _ c.requires.fact_1 _ c.loop-row-test.true in omega arith
+offset_bounds-masks-start c = let k : get_or c.args.packed.topology.row_word_ptr.now c.loop-row.row 0 ≤ 2 ^ 24 = start_small _ _ _ _ _ _ c.requires.words _ c.loop-row-test.true in omega arith
 
 pub slice_bounds-count_bits-count : goal.slice_bounds-count_bits-count
-slice_bounds-count_bits-count c = let k = masks_here _ _ _ _ _ _ c.requires.fact_1 _ c.loop-row-test.true in omega (arith, k.order)
+slice_bounds-count_bits-count c = let k = masks_here _ _ _ _ _ _ c.requires.words _ c.loop-row-test.true in omega (arith, k.order)
 
 pub slice_bounds-count_bits-start : goal.slice_bounds-count_bits-start
-slice_bounds-count_bits-start c = let k = masks_here _ _ _ _ _ _ c.requires.fact_1 _ c.loop-row-test.true in omega (arith, k.order)
+slice_bounds-count_bits-start c = let k = masks_here _ _ _ _ _ _ c.requires.words _ c.loop-row-test.true in omega (arith, k.order)
 
 pub slice_bounds-count_bits-end : goal.slice_bounds-count_bits-end
-slice_bounds-count_bits-end c = let k = masks_here _ _ _ _ _ _ c.requires.fact_1 _ c.loop-row-test.true in omega (arith, k.inside)
+slice_bounds-count_bits-end c = let k = masks_here _ _ _ _ _ _ c.requires.words _ c.loop-row-test.true in omega (arith, k.inside, ap length c.masks_of-masks.ensures)
 
 pub returns-then-last-first : goal.returns-then-last-first
 unfolding value_rules
-returns-then-last-first c = rows_fail _ _ _ c.loop-row.invariant c.loop-row-test.true (counts_differ _ _ _ _ _ _ c.requires.fact_1 _ c.loop-row-test.true _ _ c.requires.fact_2 (small_is _ (λ j. (c.shared_slice_known-3-1.given j).fits)) _ _ _ _ _ refl refl refl refl c.count_bits.ensures c.if-last-first.true)
+returns-then-last-first c = rows_fail _ _ _ c.loop-row.invariant c.loop-row-test.true (counts_differ _ _ _ _ _ _ c.requires.words _ c.loop-row-test.true _ _ c.requires.pointers (rw (← c.masks_of-masks.ensures) (small_is _ (search rules))) _ _ _ _ _ refl refl refl refl (rw c.masks_of-masks.ensures at c.count_bits.ensures) c.if-last-first.true)
 
 pub loop-row-preserved : goal.loop-row-preserved
 unfolding value_rules
-loop-row-preserved c = rows_more _ _ _ c.loop-row.invariant c.loop-row-test.true (counts_same _ _ _ _ _ _ c.requires.fact_1 _ c.loop-row-test.true _ _ c.requires.fact_2 (small_is _ (λ j. (c.shared_slice_known-3-1.given j).fits)) _ _ _ _ _ refl refl refl refl c.count_bits.ensures c.if-last-first.false)
+loop-row-preserved c = rows_more _ _ _ c.loop-row.invariant c.loop-row-test.true (counts_same _ _ _ _ _ _ c.requires.words _ c.loop-row-test.true _ _ c.requires.pointers (rw (← c.masks_of-masks.ensures) (small_is _ (search rules))) _ _ _ _ _ refl refl refl refl (rw c.masks_of-masks.ensures at c.count_bits.ensures) c.if-last-first.false)
 
 pub returns : goal.returns
 unfolding value_rules

@@ -10,7 +10,7 @@ unfolding store_rules
 returns-then-not-pointers_hold c = and_first _ _ (and_first _ _ (flag_off _ _ c.pointers_hold.ensures (ap not c.if-not-pointers_hold.true)))
 
 pub counts_hold-requires : goal.counts_hold-requires
-counts_hold-requires c = record { fact_1 = c.requires; fact_2 = sym (flag_on _ _ c.pointers_hold.ensures (ap not c.if-not-pointers_hold.false)) }
+counts_hold-requires c = record { words = c.requires; pointers = sym (flag_on _ _ c.pointers_hold.ensures (ap not c.if-not-pointers_hold.false)) }
 
 pub returns-then-not-counts_hold : goal.returns-then-not-counts_hold
 unfolding store_rules

@@ -11,4 +11,4 @@ pub slice_bounds-pack_rows-end-2 : goal.slice_bounds-pack_rows-end-2
 slice_bounds-pack_rows-end-2 c = zeros_long 16384 16384 (omega arith)
 
 pub pack_rows-requires : goal.pack_rows-requires
-pack_rows-requires c = let h = places_in _ _ _ _ c.requires.fact_1 in record { fact_1 = c.requires.fact_1; fact_2 = (h, h); fact_3 = c.requires.fact_2; fact_4 = c.requires.fact_3 }
+pack_rows-requires c = let h = places_in _ c.args.source.csr.valid in record { room = (h, h); pointers = c.requires.pointers; zeros = c.requires.zeros }

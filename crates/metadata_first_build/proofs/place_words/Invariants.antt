@@ -1,7 +1,6 @@
-use Prim.Native.Nat.{◌-◌}
 use Rattle.topology.specs.Words.{row_member}
 use Rattle.metadata_first_build.proofs.PlaceLaws.{Placing}
 use Rattle.metadata_first_build.proofs.place_words.Given as goal
 
 abbrev pub invariant-loop-i : goal.invariant-loop-i
-invariant-loop-i l = Placing (row_member l.words l.masks) l.ncols l.initial.bits l.initial.starts l.i l.place l.bits l.starts
+invariant-loop-i l = Placing (row_member l.row.words.now l.row.masks.now) l.ncols l.initial.bits l.initial.starts l.i l.place l.bits l.starts

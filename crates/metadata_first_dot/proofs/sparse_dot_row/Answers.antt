@@ -9,8 +9,11 @@ pub returns-in_err-examine_row : goal.returns-in_err-examine_row
 unfolding sparse_dot_row
 returns-in_err-examine_row c = given_refused_by _ _ _ (search rules) (given_refused _ _ _ _ c.examine_row.ensures c.in_err-examine_row.was)
 
+pub invariant_of-operands : goal.invariant_of-operands
+invariant_of-operands c = record { valid = dot_operands _ _ _ _ c.in_ok-examine_row.was _ c.examine_row.ensures }
+
 pub row_dot-requires : goal.row_dot-requires
-row_dot-requires c = record { fact_1 = dot_operands _ _ _ _ c.in_ok-examine_row.was _ c.examine_row.ensures; fact_2 = dot_row _ _ _ _ c.in_ok-examine_row.was _ c.examine_row.ensures }
+row_dot-requires c = dot_row _ _ _ _ c.in_ok-examine_row.was _ c.examine_row.ensures
 
 pub returns : goal.returns
 unfolding sparse_dot_row

@@ -11,6 +11,9 @@ returns-in-Err c = let e = c.examine_rows-v.ensures in
     let r = c.in-Err.is in
     record { answer = answer_refused _ _ _ e r; sums = built_refused _ _ _ _ _ _ _ e r c.clear_from.ensures; counts = built_refused _ _ _ _ _ _ _ e r c.clear_from-in-Err.ensures }
 
+pub invariant_of-operands : goal.invariant_of-operands
+invariant_of-operands c = record { valid = rows_operands _ _ _ _ c.in_default.is _ _ c.examine_rows-v.ensures }
+
 pub slice_bounds-fill_rows-end : goal.slice_bounds-fill_rows-end
 slice_bounds-fill_rows-end c = let h = sums_room _ _ _ _ c.in_default.is _ _ c.examine_rows-v.ensures in
     omega (arith, h)
@@ -30,7 +33,7 @@ slice_bounds-fill_rows-end-4 c = let h = counts_room _ _ _ _ c.in_default.is _ _
 pub fill_rows-requires : goal.fill_rows-requires
 fill_rows-requires c = let h = sums_room _ _ _ _ c.in_default.is _ _ c.examine_rows-v.ensures in
     let k = counts_room _ _ _ _ c.in_default.is _ _ c.examine_rows-v.ensures in
-    record { fact_1 = rows_operands _ _ _ _ c.in_default.is _ _ c.examine_rows-v.ensures; fact_2 = (simp length-take (omega (arith, h)), simp length-take (omega (arith, k))) }
+    (simp length-take (omega (arith, h)), simp length-take (omega (arith, k)))
 
 pub returns : goal.returns
 returns c = let e = c.examine_rows-v.ensures in

@@ -5,7 +5,7 @@ use Rattle.metadata_first_dot.proofs.SumLaws.{adding_none, adding_value, adding_
 use Rattle.metadata_first_dot.proofs.sum_word.Goals as goal
 
 pub loop-rest-init : goal.loop-rest-init
-loop-rest-init c = adding_none _ _ _ _ _ _ _ c.ranges.bits.fits c.requires.fact_2
+loop-rest-init c = adding_none _ _ _ _ _ _ _ c.ranges.bits.fits c.requires.inside
 
 pub overflow_add-ordinal : goal.overflow_add-ordinal
 overflow_add-ordinal c = let h = adding_value _ _ _ _ _ _ _ _ _ c.loop-rest.invariant c.loop-rest-test.true _ c.lowest-bit.ensures _ c.ones_below.ensures in

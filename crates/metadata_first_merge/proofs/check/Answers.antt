@@ -11,8 +11,8 @@ pub returns-in_err-check : goal.returns-in_err-check
 unfolding merge_answer
 returns-in_err-check c = told_refused _ _ _ (search rules) (call_refused _ _ _ _ c.check.ensures c.in_err-check.was)
 
-pub merged_finite-requires : goal.merged_finite-requires
-merged_finite-requires c = accepted_by _ _ c.check.ensures c.in_ok-check.was
+pub invariant_of-merged_finite : goal.invariant_of-merged_finite
+invariant_of-merged_finite c = record { valid = accepted_by _ _ c.check.ensures c.in_ok-check.was }
 
 pub returns-then-not-merged_finite : goal.returns-then-not-merged_finite
 unfolding merge_answer

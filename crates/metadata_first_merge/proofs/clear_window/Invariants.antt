@@ -1,5 +1,4 @@
 use mathlib.Core.Path.{◌≡◌}
-use Prim.Native.Nat.{◌-◌}
 use lib.ListN.{length, drop}
 use Rattle.csr32.specs.Window.{Outside}
 use Rattle.metadata_first_merge.proofs.clear_window.Given as goal

@@ -1,5 +1,4 @@
 use mathlib.Core.Path.{◌≡◌}
-use Prim.Native.Nat.{◌-◌}
 use lib.ListN.{drop}
 use Rattle.metadata_first_merge.specs.Window.{sums_finite}
 use Rattle.metadata_first_merge.proofs.sums_hold.Given as goal

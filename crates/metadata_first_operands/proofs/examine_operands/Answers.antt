@@ -16,11 +16,11 @@ returns-in_err-check c = told_refused _ _ _ (search rules) (store_then _ _ _ _ (
 pub returns-then-not-dimension_fits : goal.returns-then-not-dimension_fits
 returns-then-not-dimension_fits c = mask_first _ _ _ (flag_off _ _ c.dimension_fits.ensures (ap not c.if-not-dimension_fits.true))
 
-pub returns-then-mask_len-ncols : goal.returns-then-mask_len-ncols
-returns-then-mask_len-ncols c = store_then _ _ _ _ (flag_on _ _ c.dimension_fits.ensures (ap not c.if-not-dimension_fits.false)) (call_accepted _ _ _ _ c.check.ensures c.in_ok-check.was (call_accepted _ _ _ _ c.check-2.ensures c.in_ok-check-2.was (length_wrong _ _ _ c.if-mask_len-ncols.true)))
+pub returns-then-mask-packed : goal.returns-then-mask-packed
+returns-then-mask-packed c = store_then _ _ _ _ (flag_on _ _ c.dimension_fits.ensures (ap not c.if-not-dimension_fits.false)) (call_accepted _ _ _ _ c.check.ensures c.in_ok-check.was (call_accepted _ _ _ _ c.check-2.ensures c.in_ok-check-2.was (length_wrong _ _ _ c.if-mask-packed.true)))
 
-pub returns-then-x-ncols : goal.returns-then-x-ncols
-returns-then-x-ncols c = store_then _ _ _ _ (flag_on _ _ c.dimension_fits.ensures (ap not c.if-not-dimension_fits.false)) (call_accepted _ _ _ _ c.check.ensures c.in_ok-check.was (call_accepted _ _ _ _ c.check-2.ensures c.in_ok-check-2.was (length_right _ _ _ _ c.if-mask_len-ncols.false (last_length_wrong _ _ c.if-x-ncols.true))))
+pub returns-then-x-packed : goal.returns-then-x-packed
+returns-then-x-packed c = store_then _ _ _ _ (flag_on _ _ c.dimension_fits.ensures (ap not c.if-not-dimension_fits.false)) (call_accepted _ _ _ _ c.check.ensures c.in_ok-check.was (call_accepted _ _ _ _ c.check-2.ensures c.in_ok-check-2.was (length_right _ _ _ _ c.if-mask-packed.false (last_length_wrong _ _ c.if-x-packed.true))))
 
 pub returns : goal.returns
-returns c = store_then _ _ _ _ (flag_on _ _ c.dimension_fits.ensures (ap not c.if-not-dimension_fits.false)) (call_accepted _ _ _ _ c.check.ensures c.in_ok-check.was (call_accepted _ _ _ _ c.check-2.ensures c.in_ok-check-2.was (length_right _ _ _ _ c.if-mask_len-ncols.false (last_length_right _ _ c.if-x-ncols.false))))
+returns c = store_then _ _ _ _ (flag_on _ _ c.dimension_fits.ensures (ap not c.if-not-dimension_fits.false)) (call_accepted _ _ _ _ c.check.ensures c.in_ok-check.was (call_accepted _ _ _ _ c.check-2.ensures c.in_ok-check-2.was (length_right _ _ _ _ c.if-mask-packed.false (last_length_right _ _ c.if-x-packed.false))))

@@ -11,17 +11,17 @@ pub returns-in_err-examine_operands : goal.returns-in_err-examine_operands
 unfolding rows_answer
 returns-in_err-examine_operands c = told_refused _ _ _ (search rules) (call_refused _ _ _ _ c.examine_operands.ensures c.in_err-examine_operands.was)
 
-pub returns-then-sums-nrows : goal.returns-then-sums-nrows
+pub returns-then-sums-packed : goal.returns-then-sums-packed
 unfolding rows_answer
-returns-then-sums-nrows c = call_accepted _ _ _ _ c.examine_operands.ensures c.in_ok-examine_operands.was (last_fails _ _ (and_first _ _ (is_above _ _ c.if-sums-nrows.true)))
+returns-then-sums-packed c = call_accepted _ _ _ _ c.examine_operands.ensures c.in_ok-examine_operands.was (last_fails _ _ (and_first _ _ (is_above _ _ c.if-sums-packed.true)))
 
-pub returns-then-counts-nrows : goal.returns-then-counts-nrows
+pub returns-then-counts-packed : goal.returns-then-counts-packed
 unfolding rows_answer
-returns-then-counts-nrows c = let h : c.args.nrows ≤ c.args.sums = omega arith in
-    call_accepted _ _ _ _ c.examine_operands.ensures c.in_ok-examine_operands.was (last_fails _ _ (and-next _ _ _ (is_within _ _ h) (is_above _ _ c.if-counts-nrows.true)))
+returns-then-counts-packed c = let h : c.args.packed.topology.nrows ≤ c.args.sums = omega arith in
+    call_accepted _ _ _ _ c.examine_operands.ensures c.in_ok-examine_operands.was (last_fails _ _ (and-next _ _ _ (is_within _ _ h) (is_above _ _ c.if-counts-packed.true)))
 
 pub returns : goal.returns
 unfolding rows_answer
-returns c = let h : c.args.nrows ≤ c.args.sums = omega arith in
-    let k : c.args.nrows ≤ c.args.counts = omega arith in
+returns c = let h : c.args.packed.topology.nrows ≤ c.args.sums = omega arith in
+    let k : c.args.packed.topology.nrows ≤ c.args.counts = omega arith in
     call_accepted _ _ _ _ c.examine_operands.ensures c.in_ok-examine_operands.was (last_passes _ _ (and-next _ _ _ (is_within _ _ h) (is_within _ _ k)))

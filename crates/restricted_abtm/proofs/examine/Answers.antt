@@ -17,8 +17,8 @@ returns-in_err-check c = told_refused _ _ _ (search rules) (tiles_refused _ _ _ 
 pub returns-then-not-dimension_fits : goal.returns-then-not-dimension_fits
 returns-then-not-dimension_fits c = mask_large _ _ _ (flag_off _ _ c.dimension_fits.ensures (ap not c.if-not-dimension_fits.true))
 
-pub returns-then-mask_len-ncols : goal.returns-then-mask_len-ncols
-returns-then-mask_len-ncols c = wrong_size _ _ _ (flag_on _ _ c.dimension_fits.ensures (ap not c.if-not-dimension_fits.false)) _ c.check.ensures c.in_ok-check.was _ c.check-2.ensures c.in_ok-check-2.was c.if-mask_len-ncols.true
+pub returns-then-mask-tiles : goal.returns-then-mask-tiles
+returns-then-mask-tiles c = wrong_size _ _ _ (flag_on _ _ c.dimension_fits.ensures (ap not c.if-not-dimension_fits.false)) _ c.check.ensures c.in_ok-check.was _ c.check-2.ensures c.in_ok-check-2.was c.if-mask-tiles.true
 
 pub returns : goal.returns
 returns c = right_size _ _ _ (flag_on _ _ c.dimension_fits.ensures (ap not c.if-not-dimension_fits.false)) _ c.check.ensures c.in_ok-check.was _ c.check-2.ensures c.in_ok-check-2.was (omega arith)

@@ -5,13 +5,13 @@ use Rattle.restricted_abtm.proofs.BitsLaws.{keeping_few, keeping_low, keeping_pl
 use Rattle.restricted_abtm.proofs.keep_tile.Goals as goal
 
 pub overflow_add-next : goal.overflow_add-next
-overflow_add-next c = omega (arith, c.requires.fact_4, keeping_few _ _ _ _ _ _ _ _ _ _ _ _ _ c.loop-rest.invariant)
+overflow_add-next c = omega (arith, c.requires.few, keeping_few _ _ _ _ _ _ _ _ _ _ _ _ _ c.loop-rest.invariant)
 
 pub overflow_add-place : goal.overflow_add-place
 overflow_add-place c = omega (arith, keeping_place _ _ _ _ _ _ _ _ _ _ _ _ _ c.loop-rest.invariant c.loop-rest-test.true _ c.lowest-bit.ensures _ c.place_in.ensures)
 
 pub overflow_add-base : goal.overflow_add-base
-overflow_add-base c = omega (arith, keeping_low _ _ _ _ _ _ _ _ _ _ _ _ _ c.loop-rest.invariant c.loop-rest-test.true _ c.lowest-bit.ensures)
+overflow_add-base c = omega (arith, c.base_col-base.ensures, c.requires.base, keeping_low _ _ _ _ _ _ _ _ _ _ _ _ _ c.loop-rest.invariant c.loop-rest-test.true _ c.lowest-bit.ensures)
 
 pub offset_bounds-values-place : goal.offset_bounds-values-place
 offset_bounds-values-place c = omega (arith, keeping_place _ _ _ _ _ _ _ _ _ _ _ _ _ c.loop-rest.invariant c.loop-rest-test.true _ c.lowest-bit.ensures _ c.place_in.ensures)
@@ -23,8 +23,8 @@ pub loop-rest-smaller-then-at-room : goal.loop-rest-smaller-then-at-room
 loop-rest-smaller-then-at-room c = walk_less _ c.loop-rest.invariant.fits c.loop-rest-test.true _ c.without_lowest-rest.ensures
 
 pub loop-rest-preserved-then-at-room : goal.loop-rest-preserved-then-at-room
-loop-rest-preserved-then-at-room c = keeping_more _ _ _ _ _ _ _ _ _ _ _ _ _ c.loop-rest.invariant c.loop-rest-test.true _ c.lowest-bit.ensures _ c.without_lowest-rest.ensures c.without_lowest-rest.type_inv _ _ _ c.if-at-room.true c.requires.fact_3.0 c.requires.fact_3.1
-    (c.word_in.ensures) c.requires.fact_1 c.narrow.ensures c.place_in.ensures
+loop-rest-preserved-then-at-room c = keeping_more _ _ _ _ _ _ _ _ _ _ _ _ _ c.loop-rest.invariant c.loop-rest-test.true _ c.lowest-bit.ensures _ c.without_lowest-rest.ensures c.without_lowest-rest.type_inv _ _ _ c.if-at-room.true c.requires.room.0 c.requires.room.1
+    c.base_col-base.ensures c.requires.base c.narrow.ensures c.place_in.ensures
 
 pub loop-rest-smaller : goal.loop-rest-smaller
 loop-rest-smaller c = walk_less _ c.loop-rest.invariant.fits c.loop-rest-test.true _ c.without_lowest-rest.ensures

@@ -4,4 +4,4 @@ use Rattle.restricted_abtm.proofs.ReadyLaws.{all-finite}
 use Rattle.restricted_abtm.proofs.kept_finite.Goals as goal
 
 pub returns-then-all_finite : goal.returns-then-all_finite
-returns-then-all_finite c = sym (all-finite _ _ _ _ (sym c.all_finite.ensures ∙ c.if-all_finite.true) c.requires.fact_2)
+returns-then-all_finite c = sym (all-finite _ _ _ _ (sym c.all_finite.ensures ∙ c.if-all_finite.true) c.args.listed.ready)

@@ -17,11 +17,11 @@ returns-in_err-check c = told_refused _ _ _ (search rules) (list_refused _ _ _ (
 pub returns-then-not-dimension_fits : goal.returns-then-not-dimension_fits
 returns-then-not-dimension_fits c = mask_large _ _ _ (flag_off _ _ c.dimension_fits.ensures (ap not c.if-not-dimension_fits.true))
 
-pub returns-then-mask_len-ncols : goal.returns-then-mask_len-ncols
-returns-then-mask_len-ncols c = wrong_size _ _ _ (flag_on _ _ c.dimension_fits.ensures (ap not c.if-not-dimension_fits.false)) _ c.check.ensures c.in_ok-check.was _ c.check-2.ensures c.in_ok-check-2.was c.if-mask_len-ncols.true
+pub returns-then-mask-csr : goal.returns-then-mask-csr
+returns-then-mask-csr c = wrong_size _ _ _ (flag_on _ _ c.dimension_fits.ensures (ap not c.if-not-dimension_fits.false)) _ c.check.ensures c.in_ok-check.was _ c.check-2.ensures c.in_ok-check-2.was c.if-mask-csr.true
 
-pub returns-then-pointer_room-nrows : goal.returns-then-pointer_room-nrows
-returns-then-pointer_room-nrows c = short_pointers _ _ _ (flag_on _ _ c.dimension_fits.ensures (ap not c.if-not-dimension_fits.false)) _ c.check.ensures c.in_ok-check.was _ c.check-2.ensures c.in_ok-check-2.was (omega arith) c.if-pointer_room-nrows.true
+pub returns-then-pointer_room-csr : goal.returns-then-pointer_room-csr
+returns-then-pointer_room-csr c = short_pointers _ _ _ (flag_on _ _ c.dimension_fits.ensures (ap not c.if-not-dimension_fits.false)) _ c.check.ensures c.in_ok-check.was _ c.check-2.ensures c.in_ok-check-2.was (omega arith) c.if-pointer_room-csr.true
 
 pub returns-then-column_room-kept : goal.returns-then-column_room-kept
 returns-then-column_room-kept c = short_columns _ _ _ (flag_on _ _ c.dimension_fits.ensures (ap not c.if-not-dimension_fits.false)) _ c.check.ensures c.in_ok-check.was _ c.check-2.ensures c.in_ok-check-2.was (omega arith) _ c.count_active-kept.ensures c.if-column_room-kept.true

@@ -9,15 +9,15 @@ pub loop-place-init : goal.loop-place-init
 loop-place-init c = keeping_none _ _ _ _ _ _ _
 
 pub bounds-out_col_idx-at : goal.bounds-out_col_idx-at
-bounds-out_col_idx-at c = keeping_column _ _ _ _ _ _ _ _ _ _ _ c.loop-place.invariant c.requires.fact_1 (omega arith) _ refl (sym c.if-is_member.true ∙ c.is_member.ensures) c.requires.fact_2
+bounds-out_col_idx-at c = keeping_column _ _ _ _ _ _ _ _ _ _ _ c.loop-place.invariant c.args.row.paired (omega arith) _ refl (sym c.if-is_member.true ∙ c.is_member.ensures) c.requires.columns
 
 pub bounds-out_values-at : goal.bounds-out_values-at
-bounds-out_values-at c = keeping_value _ _ _ _ _ _ _ _ _ _ _ c.loop-place.invariant c.requires.fact_1 (omega arith) _ refl (sym c.if-is_member.true ∙ c.is_member.ensures) c.requires.fact_3
+bounds-out_values-at c = keeping_value _ _ _ _ _ _ _ _ _ _ _ c.loop-place.invariant c.args.row.paired (omega arith) _ refl (sym c.if-is_member.true ∙ c.is_member.ensures) c.requires.values
 
 pub loop-place-preserved : goal.loop-place-preserved
 loop-place-preserved c = elim c.if-is_member.branch [
-  | then-is_member w ↦ rw (w.at-is, w.out_col_idx-is, w.out_values-is) (keeping_more _ _ _ _ _ _ _ _ _ _ _ c.loop-place.invariant c.requires.fact_1 (omega arith) _ refl (sym w.if-is_member.true ∙ c.is_member.ensures) _ refl c.requires.fact_2 c.requires.fact_3)
-  | else-is_member w ↦ rw (w.at-is, w.out_col_idx-is, w.out_values-is) (keeping_other _ _ _ _ _ _ _ _ _ _ _ c.loop-place.invariant c.requires.fact_1 (omega arith) _ refl (sym w.if-is_member.false ∙ c.is_member.ensures))
+  | then-is_member w ↦ rw (w.at-is, w.out_col_idx-is, w.out_values-is) (keeping_more _ _ _ _ _ _ _ _ _ _ _ c.loop-place.invariant c.args.row.paired (omega arith) _ refl (sym w.if-is_member.true ∙ c.is_member.ensures) _ refl c.requires.columns c.requires.values)
+  | else-is_member w ↦ rw (w.at-is, w.out_col_idx-is, w.out_values-is) (keeping_other _ _ _ _ _ _ _ _ _ _ _ c.loop-place.invariant c.args.row.paired (omega arith) _ refl (sym w.if-is_member.false ∙ c.is_member.ensures))
 ]
 
 pub returns : goal.returns

@@ -11,14 +11,14 @@ pub returns-in_err-check : goal.returns-in_err-check
 unfolding gather_answer
 returns-in_err-check c = search (checks, tests, rules)
 
-pub returns-then-global-global_size : goal.returns-then-global-global_size
+pub returns-then-global-region : goal.returns-then-global-region
 unfolding gather_answer
-returns-then-global-global_size c = call_accepted _ _ _ _ c.check.ensures c.in_ok-check.was (length_wrong c.args.global_size (length c.args.global.now) _ (λ h. omega arith))
+returns-then-global-region c = call_accepted _ _ _ _ c.check.ensures c.in_ok-check.was (length_wrong c.args.region.global_size (length c.args.global.now) _ (λ h. omega arith))
 
-pub returns-then-local_len-members : goal.returns-then-local_len-members
+pub returns-then-local_len-region : goal.returns-then-local_len-region
 unfolding gather_answer
-returns-then-local_len-members c = call_accepted _ _ _ _ c.check.ensures c.in_ok-check.was (length_right c.args.global_size (length c.args.global.now) _ _ (omega arith) (last_length_wrong (length c.args.members.now) c.args.local_len (λ h. omega arith)))
+returns-then-local_len-region c = call_accepted _ _ _ _ c.check.ensures c.in_ok-check.was (length_right c.args.region.global_size (length c.args.global.now) _ _ (omega arith) (last_length_wrong (length c.args.region.members.now) c.args.local_len (λ h. omega arith)))
 
 pub returns : goal.returns
 unfolding gather_answer
-returns c = call_accepted _ _ _ _ c.check.ensures c.in_ok-check.was (length_right c.args.global_size (length c.args.global.now) _ _ (omega arith) (last_length_right (length c.args.members.now) c.args.local_len (omega arith)))
+returns c = call_accepted _ _ _ _ c.check.ensures c.in_ok-check.was (length_right c.args.region.global_size (length c.args.global.now) _ _ (omega arith) (last_length_right (length c.args.region.members.now) c.args.local_len (omega arith)))

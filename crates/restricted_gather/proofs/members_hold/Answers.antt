@@ -10,8 +10,8 @@ loop-member-init c = climbing_none _ _
 pub returns-then-g-least : goal.returns-then-g-least
 returns-then-g-least c = climbing_falls _ _ _ _ c.loop-member.invariant _ (omega arith) refl (omega arith)
 
-pub returns-then-g-global_size : goal.returns-then-g-global_size
-returns-then-g-global_size c = climbing_past _ _ _ _ c.loop-member.invariant _ (omega arith) refl (omega arith)
+pub returns-then-g-region : goal.returns-then-g-region
+returns-then-g-region c = climbing_past _ _ _ _ c.loop-member.invariant _ (omega arith) refl (omega arith)
 
 pub loop-member-preserved : goal.loop-member-preserved
 loop-member-preserved c = climbing_more _ _ _ _ c.loop-member.invariant _ (omega arith) refl (omega arith) (omega arith)

@@ -2,4 +2,4 @@ use Rattle.restricted_gather.proofs.MemberLaws.{Climbing}
 use Rattle.restricted_gather.proofs.members_hold.Given as goal
 
 abbrev pub invariant-loop-member : goal.invariant-loop-member
-invariant-loop-member l = Climbing l.global_size l.members l.least l.member-index
+invariant-loop-member l = Climbing l.region.global_size l.region.members.now l.least l.member-index

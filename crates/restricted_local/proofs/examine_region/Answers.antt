@@ -17,11 +17,11 @@ returns-in_err-check c = told_refused _ _ _ (search rules) (region_list _ _ _ c.
 pub returns-then-not-dimension_fits : goal.returns-then-not-dimension_fits
 returns-then-not-dimension_fits c = region_long _ _ _ c.dimension_fits.ensures (ap not c.if-not-dimension_fits.true)
 
-pub returns-then-nrows-ncols : goal.returns-then-nrows-ncols
-returns-then-nrows-ncols c = region_rest _ _ _ c.dimension_fits.ensures (ap not c.if-not-dimension_fits.false) _ c.check.ensures c.in_ok-check.was _ c.check-2.ensures _ c.in_ok-check-2.was (test_fails _ 10 _ (is_unequal c.args.nrows c.args.ncols (λ h. omega arith)))
+pub returns-then-csr : goal.returns-then-csr
+returns-then-csr c = region_rest _ _ _ c.dimension_fits.ensures (ap not c.if-not-dimension_fits.false) _ c.check.ensures c.in_ok-check.was _ c.check-2.ensures _ c.in_ok-check-2.was (test_fails _ 10 _ (is_unequal c.args.csr.nrows c.args.csr.ncols (λ h. omega arith)))
 
-pub returns-then-region_len-nrows : goal.returns-then-region_len-nrows
-returns-then-region_len-nrows c = region_rest _ _ _ c.dimension_fits.ensures (ap not c.if-not-dimension_fits.false) _ c.check.ensures c.in_ok-check.was _ c.check-2.ensures _ c.in_ok-check-2.was (test_passes _ 10 _ _ (is_equal c.args.nrows c.args.ncols (omega arith)) (last_length_wrong c.args.nrows c.args.region_len (λ h. omega arith)))
+pub returns-then-region-csr : goal.returns-then-region-csr
+returns-then-region-csr c = region_rest _ _ _ c.dimension_fits.ensures (ap not c.if-not-dimension_fits.false) _ c.check.ensures c.in_ok-check.was _ c.check-2.ensures _ c.in_ok-check-2.was (test_passes _ 10 _ _ (is_equal c.args.csr.nrows c.args.csr.ncols (omega arith)) (last_length_wrong c.args.csr.nrows c.args.region.len (λ h. omega arith)))
 
 pub returns : goal.returns
-returns c = region_rest _ _ _ c.dimension_fits.ensures (ap not c.if-not-dimension_fits.false) _ c.check.ensures c.in_ok-check.was _ c.check-2.ensures _ c.in_ok-check-2.was (test_passes _ 10 _ _ (is_equal c.args.nrows c.args.ncols (omega arith)) (last_length_right c.args.nrows c.args.region_len (omega arith)))
+returns c = region_rest _ _ _ c.dimension_fits.ensures (ap not c.if-not-dimension_fits.false) _ c.check.ensures c.in_ok-check.was _ c.check-2.ensures _ c.in_ok-check-2.was (test_passes _ 10 _ _ (is_equal c.args.csr.nrows c.args.csr.ncols (omega arith)) (last_length_right c.args.csr.nrows c.args.region.len (omega arith)))

@@ -17,23 +17,27 @@ write_members-nodes-requires c = let ok = built_accepts _ _ _ _ _ c.examine-v.en
     let f = local_fits _ _ _ _ l.1 in
     (omega (arith, l.0.size_is, rows_few l.0), f.0)
 
-pub slice_bounds-write_lists-end : goal.slice_bounds-write_lists-end
-slice_bounds-write_lists-end c = let ok = built_accepts _ _ _ _ _ c.examine-v.ensures _ c.in_default.is in
+pub slice_bounds-rows-end : goal.slice_bounds-rows-end
+slice_bounds-rows-end c = let ok = built_accepts _ _ _ _ _ c.examine-v.ensures _ c.in_default.is in
     let l = local_accepted _ _ _ _ ok in
     let f = local_fits _ _ _ _ l.1 in
     omega (arith, f.0, c.write_members-nodes.ensures.count, c.write_members-nodes.auto.members)
 
-pub slice_bounds-write_lists-end-2 : goal.slice_bounds-write_lists-end-2
-slice_bounds-write_lists-end-2 c = let ok = built_accepts _ _ _ _ _ c.examine-v.ensures _ c.in_default.is in
+pub slice_bounds-rows-end-2 : goal.slice_bounds-rows-end-2
+slice_bounds-rows-end-2 c = let ok = built_accepts _ _ _ _ _ c.examine-v.ensures _ c.in_default.is in
     let l = local_accepted _ _ _ _ ok in
     let f = local_fits _ _ _ _ l.1 in
     simp length-take (omega (arith, f.0, c.write_members-nodes.ensures.count, c.write_members-nodes.auto.members))
 
+pub invariant_of-rows : goal.invariant_of-rows
+invariant_of-rows c = let ok = built_accepts _ _ _ _ _ c.examine-v.ensures _ c.in_default.is in
+    let l = local_accepted _ _ _ _ ok in
+    record { accepted = l.0; listed = front_used _ _ _ _ _ c.write_members-nodes.ensures.list c.write_members-nodes.ensures.count }
+
 pub write_lists-requires : goal.write_lists-requires
 write_lists-requires c = let ok = built_accepts _ _ _ _ _ c.examine-v.ensures _ c.in_default.is in
     let l = local_accepted _ _ _ _ ok in
-    let f = local_fits _ _ _ _ l.1 in
-    record { fact_1 = l.0; fact_2 = front_used _ _ _ _ _ c.write_members-nodes.ensures.list c.write_members-nodes.ensures.count; fact_3 = f.1 }
+    (local_fits _ _ _ _ l.1).1
 
 pub returns : goal.returns
 unfolding region_answer

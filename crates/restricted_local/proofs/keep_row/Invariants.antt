@@ -1,8 +1,9 @@
 use Rattle.csr32.specs.Csr.{Entry}
 use Rattle.word.specs.Bits.{count}
-use Rattle.mask.specs.Mask.{as_mask, active}
+use Rattle.mask.specs.Mask.{active}
 use Rattle.restricted.proofs.KeepLaws.{Keeping}
+use Rattle.mask.specs.Dof.{lent_mask}
 use Rattle.restricted_local.proofs.keep_row.Given as goal
 
 abbrev pub invariant-loop-place : goal.invariant-loop-place
-invariant-loop-place l = Keeping (active (as_mask l.region_len l.region)) (λ (e : Entry). count (active (as_mask l.region_len l.region)) e.0) l.cols l.vals l.from l.initial.out_col_idx l.initial.out_values l.place l.at l.out_col_idx l.out_values
+invariant-loop-place l = Keeping (active (lent_mask l.numbering.region)) (λ (e : Entry). count (active (lent_mask l.numbering.region)) e.0) l.row.cols.now l.row.vals.now l.from l.initial.out_col_idx l.initial.out_values l.place l.at l.out_col_idx l.out_values

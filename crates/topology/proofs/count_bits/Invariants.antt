@@ -1,5 +1,5 @@
 use Rattle.topology.specs.Words.{set_bits}
-use Rattle.std.proofs.Common.{◌≡◌, ◌-◌, ◌%◌, ◌^◌, take}
+use Rattle.std.proofs.Common.{◌≡◌, ◌%◌, ◌^◌, take}
 use Rattle.topology.proofs.count_bits.Given as goal
 
 abbrev pub invariant-loop-mask : goal.invariant-loop-mask

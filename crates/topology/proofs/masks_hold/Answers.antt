@@ -7,7 +7,7 @@ pub loop-mask-init : goal.loop-mask-init
 loop-mask-init c = refl
 
 pub loop-mask-preserved : goal.loop-mask-preserved
-loop-mask-preserved c = nonzero_more _ c.loop-mask.holds c.loop-mask.mask-index c.loop-mask.invariant (search rules) _ c.also_some-holds.ensures
+loop-mask-preserved c = nonzero_more _ c.loop-mask.holds c.loop-mask.mask-index c.loop-mask.invariant (search rules) _ refl
 
 pub returns : goal.returns
 returns c = nonzero_done _ c.loop-mask.holds c.loop-mask.mask-index c.loop-mask.invariant (search rules)

@@ -1,4 +1,4 @@
-use Rattle.std.proofs.Common.{◌≡◌, ◌-◌, ◌&&◌, drop}
+use Rattle.std.proofs.Common.{◌≡◌, ◌&&◌, drop}
 use Rattle.lent.specs.Lists.{every}
 use Rattle.topology.proofs.LastLaws.{nonzero}
 use Rattle.topology.proofs.masks_hold.Given as goal

@@ -1,4 +1,4 @@
-use Rattle.std.proofs.Common.{◌-◌, ◌≤◌}
+use Rattle.std.proofs.Common.{◌≤◌}
 use Rattle.topology.proofs.LastLaws.{climbs_on}
 use Rattle.topology.proofs.numbers_climb.Given as goal
 

@@ -13,10 +13,7 @@ pub returns-then-not-numbers_climb : goal.returns-then-not-numbers_climb
 returns-then-not-numbers_climb c = row_not_climbing _ _ _ (flag_off _ _ c.numbers_climb.ensures (ap not c.if-not-numbers_climb.true))
 
 pub returns-then-not-masks_hold : goal.returns-then-not-masks_hold
-returns-then-not-masks_hold c = row_with_empty _ _ _ c.requires (flag_off _ _ c.masks_hold.ensures (ap not c.if-not-masks_hold.true))
-
-pub word_holds-requires : goal.word_holds-requires
-word_holds-requires c = (c.shared_slice_known-3-1.given _).fits
+returns-then-not-masks_hold c = row_with_empty _ _ _ c.args.row.paired (flag_off _ _ c.masks_hold.ensures (ap not c.if-not-masks_hold.true))
 
 pub returns : goal.returns
-returns c = row_by_last _ _ _ c.requires (λ k. (c.shared_slice_known-2-1.given k).fits) c.if-words-eq0.false (flag_on _ _ c.numbers_climb.ensures (ap not c.if-not-numbers_climb.false)) (flag_on _ _ c.masks_hold.ensures (ap not c.if-not-masks_hold.false)) _ _ refl c.word_holds.ensures
+returns c = row_by_last _ _ _ c.args.row.paired c.args.row.masks_fit c.if-words-eq0.false (flag_on _ _ c.numbers_climb.ensures (ap not c.if-not-numbers_climb.false)) (flag_on _ _ c.masks_hold.ensures (ap not c.if-not-masks_hold.false)) _ _ refl c.word_holds.ensures

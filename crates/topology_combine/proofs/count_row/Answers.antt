@@ -1,21 +1,13 @@
 -- `topology_combine::count_row` meets its contract. Assumes nothing.
-use Prim.Native.Nat.{◌-◌}
 use native.Mathlib.Omega.{arith}
-use Rattle.topology_combine.proofs.MergeLaws.{merging_none, merging_in, merging_few, merging_empty, merging_full, merging_fits, merging_done, rows_few}
+use Rattle.topology_combine.proofs.MergeLaws.{merging_none, merging_in, merging_few, merging_empty, merging_full, merging_fits, merging_done}
 use Rattle.topology_combine.proofs.count_row.Goals as goal
 
-pub overflow_add-all : goal.overflow_add-all
-overflow_add-all c = let h = rows_few _ _ _ _ _ c.requires (λ k. (c.shared_slice_known-2-1.given k).fits) (λ k. (c.shared_slice_known-4-1.given k).fits) in omega arith
-
 pub loop-at-init : goal.loop-at-init
-loop-at-init c = merging_none _ _ _ _ _ _ c.requires (λ k. (c.shared_slice_known-2-1.given k).fits) (λ k. (c.shared_slice_known-4-1.given k).fits)
+loop-at-init c = merging_none _ _ _ _ _ _ (record { sides = c.args.rows.row.paired; rule = c.args.rows.rule; fit = c.args.rows.row.masks_fit; other_sides = c.args.rows.other.paired; other_rule = c.args.rows.other_rule; other_fit = c.args.rows.other.masks_fit })
 
 pub overflow_add-at : goal.overflow_add-at
 overflow_add-at c = let h = merging_few _ _ _ _ _ _ _ _ _ c.loop-at.invariant in omega arith
-
-pub next_word-s-requires : goal.next_word-s-requires
-next_word-s-requires c = let m = merging_in _ _ _ _ _ _ _ _ _ c.loop-at.invariant in
-    record { fact_1 = c.requires.sides; fact_2 = c.requires.other_sides; fact_3 = omega arith; fact_4 = m.0; fact_5 = m.1 }
 
 pub overflow_add-count : goal.overflow_add-count
 overflow_add-count c = let h = merging_fits _ _ _ _ _ _ _ _ _ c.loop-at.invariant _ _ _ _ c.next_word-s.ensures (λ z. omega arith) in omega arith

@@ -1,23 +1,15 @@
 -- `topology_combine::merge_row` meets its contract. Assumes nothing.
-use Prim.Native.Nat.{◌-◌}
 use native.Mathlib.Omega.{arith}
 use Rattle.topology_combine.proofs.WriteLaws.{writing_none, writing_empty, writing_room, writing_full, written_words, written_masks}
-use Rattle.topology_combine.proofs.MergeLaws.{merging_in, merging_few, merging_empty, merging_full, rows_few}
+use Rattle.topology_combine.proofs.MergeLaws.{merging_in, merging_few, merging_empty, merging_full}
 use borrow.Author.Rules.{rules}
 use Rattle.topology_combine.proofs.merge_row.Goals as goal
 
-pub overflow_add-all : goal.overflow_add-all
-overflow_add-all c = let h = rows_few _ _ _ _ _ c.requires.fact_1 (λ k. (c.shared_slice_known-2-1.given k).fits) (λ k. (c.shared_slice_known-4-1.given k).fits) in omega arith
-
 pub loop-at-init : goal.loop-at-init
-loop-at-init c = writing_none _ _ _ _ _ _ _ _ _ c.requires.fact_1 (λ k. (c.shared_slice_known-2-1.given k).fits) (λ k. (c.shared_slice_known-4-1.given k).fits) c.requires.fact_2 c.requires.fact_3
+loop-at-init c = writing_none _ _ _ _ _ _ _ _ _ (record { sides = c.args.rows.row.paired; rule = c.args.rows.rule; fit = c.args.rows.row.masks_fit; other_sides = c.args.rows.other.paired; other_rule = c.args.rows.other_rule; other_fit = c.args.rows.other.masks_fit }) c.requires.word_room c.requires.mask_room
 
 pub overflow_add-at : goal.overflow_add-at
 overflow_add-at c = let h = merging_few _ _ _ _ _ _ _ _ _ c.loop-at.invariant.merge in omega arith
-
-pub next_word-s-requires : goal.next_word-s-requires
-next_word-s-requires c = let m = merging_in _ _ _ _ _ _ _ _ _ c.loop-at.invariant.merge in
-    record { fact_1 = c.requires.fact_1.sides; fact_2 = c.requires.fact_1.other_sides; fact_3 = omega arith; fact_4 = m.0; fact_5 = m.1 }
 
 pub offset_bounds-out_words-to : goal.offset_bounds-out_words-to
 offset_bounds-out_words-to c = let h = writing_room _ _ _ _ _ _ _ _ _ _ _ _ _ _ c.loop-at.invariant _ _ _ _ c.next_word-s.ensures (λ z. omega arith) in search rules

@@ -1,6 +1,5 @@
 use Rattle.topology.specs.Words.{row_member}
 use lib.ListN.{drop}
-use Prim.Native.Nat.{◌-◌}
 use mathlib.Core.Path.{◌≡◌}
 use Rattle.topology_rows.proofs.contains_in.Given as goal
 

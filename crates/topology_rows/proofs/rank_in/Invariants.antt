@@ -1,6 +1,5 @@
 use Rattle.topology.proofs.FrontLaws.{Ranking}
 use Rattle.topology.specs.Words.{row_member}
-use Prim.Native.Nat.{◌-◌}
 use Rattle.topology_rows.proofs.rank_in.Given as goal
 
 abbrev pub invariant-loop-i : goal.invariant-loop-i

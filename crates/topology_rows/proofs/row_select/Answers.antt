@@ -1,10 +1,11 @@
--- `topology_rows::row_select` meets its contract. Assumes nothing.
-use Rattle.topology.proofs.CallLaws.{row_checked, select_is, sides_lent, rule_lent}
-use Rattle.hybit_core.proofs.AnswerLaws.{given_accepted}
+use Rattle.topology.proofs.CallLaws.{row_ok, select_is, rule_lent}
+use Rattle.topology_rows.proofs.FoundLaws.{found_accepted, found_is, found_gives}
 use Rattle.topology_rows.proofs.row_select.Goals as goal
 
 pub select_in-requires : goal.select_in-requires
-select_in-requires c = record { fact_1 = sides_lent _ _ (row_checked _ _ _ c.check_row.ensures c.in_ok-check_row.was) _ _ c.part-words.ensures c.part.ensures; fact_2 = rule_lent _ _ (row_checked _ _ _ c.check_row.ensures c.in_ok-check_row.was) _ _ c.part-words.ensures c.part.ensures }
+select_in-requires c = let e = c.in_ok-found.ensures.words in
+    rule_lent _ _ (row_ok _ _ (found_accepted _ _ _ e)) _ _ (found_is _ _ _ e) (found_is _ _ _ c.in_ok-found.ensures.masks)
 
 pub returns : goal.returns
-returns c = given_accepted _ _ _ _ c.check_row.ensures c.in_ok-check_row.was (select_is _ _ (row_checked _ _ _ c.check_row.ensures c.in_ok-check_row.was) _ _ c.part-words.ensures c.part.ensures _ _ c.select_in.ensures)
+returns c = let e = c.in_ok-found.ensures.words in
+    found_gives _ _ _ e _ _ (select_is _ _ (row_ok _ _ (found_accepted _ _ _ e)) _ _ (found_is _ _ _ e) (found_is _ _ _ c.in_ok-found.ensures.masks) _ _ c.select_in.ensures)

@@ -1,6 +1,5 @@
 use Rattle.topology.proofs.FrontLaws.{Selecting}
 use Rattle.topology.specs.Words.{row_member}
-use Prim.Native.Nat.{◌-◌}
 use Rattle.topology_rows.proofs.select_in.Given as goal
 
 abbrev pub invariant-loop-k : goal.invariant-loop-k

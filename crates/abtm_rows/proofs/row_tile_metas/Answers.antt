@@ -1,8 +1,0 @@
--- `abtm_rows::row_tile_metas` meets its contract. Assumes nothing.
-use Rattle.hybit_core.proofs.AnswerLaws.{outcomes}
-use Rattle.lent.proofs.LentLaws.{lists}
-use borrow.Author.Rules.{rules}
-use Rattle.abtm_rows.proofs.row_tile_metas.Goals as goal
-
-pub returns : goal.returns
-returns c = search (outcomes, lists, rules)

@@ -1,0 +1,21 @@
+// What the check of a plot list answers: the list, and the fact that it is accepted.
+ghost use Rattle.std.specs.Prelude.{◌≡◌, length};
+ghost use Rattle.hybit_core.specs.Answer.{accepted};
+ghost use Rattle.csr32.specs.Csr.{csr_answer};
+ghost use Rattle.csr32.specs.Matrix.{lent_csr};
+
+use crate::Csr32Matrix;
+
+#[derive(Clone, Copy)]
+pub struct CheckedCsr32<'a> {
+    pub matrix: Csr32Matrix<'a>,
+    pub ghost valid: { csr_answer (lent_csr matrix) ≡ accepted },
+}
+
+// A row of a plot list: the columns of its entries, and their values.
+#[derive(Clone, Copy)]
+pub struct CsrRow<'a> {
+    pub cols: &'a [u32],
+    pub vals: &'a [f64],
+    pub ghost paired: { length vals.now ≡ length cols.now },
+}

@@ -1,7 +1,0 @@
--- `mask::contains` meets its contract. Assumes nothing.
-use borrow.Author.Rules.{rules}
-use Rattle.hybit_core.proofs.AnswerLaws.{outcomes}
-use Rattle.mask.proofs.contains.Goals as goal
-
-pub returns : goal.returns
-returns c = search (outcomes, rules)

@@ -1,0 +1,11 @@
+// A row of a record: the numbers of its words, and their masks.
+ghost use Rattle.std.specs.Prelude.{◌≡◌, ℕ, ◌<◌, ◌^◌, length, get_or};
+
+#[derive(Clone, Copy)]
+pub struct AbtmTopologyRow<'a> {
+    pub words: &'a [u32],
+    pub masks: &'a [u64],
+    pub ghost paired: { length masks.now ≡ length words.now },
+    // What the masks' type says: for the proofs that read no mask.
+    pub ghost masks_fit: { (k : ℕ) → get_or masks.now k 0 < 2 ^ 64 },
+}

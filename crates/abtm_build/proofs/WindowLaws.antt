@@ -128,17 +128,17 @@ module _ (cs : List ℕ) (vs : List Float) (base width : ℕ) where
             none = λ d a q. other d (λ x. omega arith) ∙ inv.none d a (omega arith);
           }
 
-      pub gathered_in : is_zero v ≡ false → base ≤ c → c - base < width → Gathered cs vs base width (k + 1) (set sums (c - base) (add binary64 (get_or sums (c - base) nan) v)) next
-      gathered_in z b g =
+      pub gathered_in : is_zero v ≡ false → (j : ℕ) → c ≡ base + j → j < width → Gathered cs vs base width (k + 1) (set sums j (add binary64 (get_or sums j nan) v)) next
+      gathered_in z j b g =
           record {
-            is = each_set nan (λ i. merged_nonzero (zip (take k cs) (take k vs)) (base + i)) (λ i. merged_nonzero (zip (take (k + 1) cs) (take (k + 1) vs)) (base + i)) width (c - base) sums _ inv.is g here
+            is = each_set nan (λ i. merged_nonzero (zip (take k cs) (take k vs)) (base + i)) (λ i. merged_nonzero (zip (take (k + 1) cs) (take (k + 1) vs)) (base + i)) width j sums _ inv.is g here
                 (λ i q x. other (base + i) (λ y. x (omega arith)));
             after = inv.after;
             none = λ d a q. other d (λ x. omega arith) ∙ inv.none d a q;
           }
         where
-          here : add binary64 (get_or sums (c - base) nan) v ≡ merged_nonzero (zip (take (k + 1) cs) (take (k + 1) vs)) (base + (c - base))
+          here : add binary64 (get_or sums j nan) v ≡ merged_nonzero (zip (take (k + 1) cs) (take (k + 1) vs)) (base + j)
           here =
               ap (λ (s : Float). add binary64 s v)
-              (ap (λ (s : List Float). get_or s (c - base) nan) inv.is ∙ get_or-each (λ i. merged_nonzero (zip (take k cs) (take k vs)) (base + i)) width (c - base) nan g)
-              ∙ sym (more true (base + (c - base)) (ap₂ (λ (r s : Bool). not r && s) z (eq-eqb c (base + (c - base)) (omega arith))))
+              (ap (λ (s : List Float). get_or s j nan) inv.is ∙ get_or-each (λ i. merged_nonzero (zip (take k cs) (take k vs)) (base + i)) width j nan g)
+              ∙ sym (more true (base + j) (ap₂ (λ (r s : Bool). not r && s) z (eq-eqb c (base + j) b)))

@@ -59,7 +59,6 @@ fn add_at(i: usize, v: f64, sums: &mut [f64], words: &mut [u64], blocks: &mut [u
 
 // Adds the row's nonzero values of the window, in stored order; answers the least column with one past the window, or `past`.
 // `past`, no `Option`: the least of columns is one `min`, and the caller's loop ends at any number past them.
-// A column lies before, in or past the window: a function for its place there would not tell the first from the last.
 fn gather(
     row: CsrRow,
     base: usize,
@@ -79,20 +78,18 @@ fn gather(
     let width = sums.len();
     let mut next = past;
     for (k, column) in row.cols.iter().enumerate() {
-        let c = *column as usize;
         let value = row.vals[k];
         if abtm_values::is_zero(value) {
             continue;
         }
-        if c < base {
+        if let Some(i) = csr32::place_in_window(*column, base, width) {
+            add_at(i, value, sums, words, blocks);
             continue;
         }
-        let i = c - base;
-        if i >= width {
+        let c = *column as usize;
+        if base <= c {
             next = next.min(c);
-            continue;
         }
-        add_at(i, value, sums, words, blocks);
     }
     next
 }
@@ -105,17 +102,11 @@ fn clear_window(cols: &[u32], base: usize, sums: &mut [f64], words: &mut [u64], 
 {
     let width = sums.len();
     for col in cols {
-        let c = *col as usize;
-        if c < base {
-            continue;
+        if let Some(i) = csr32::place_in_window(*col, base, width) {
+            sums[i] = 0.0;
+            words[i / 64] = 0;
+            blocks[i / 4096] = 0;
         }
-        let i = c - base;
-        if i >= width {
-            continue;
-        }
-        sums[i] = 0.0;
-        words[i / 64] = 0;
-        blocks[i / 4096] = 0;
     }
 }
 
@@ -312,7 +303,6 @@ fn emit_window(
 
 // The tiles of a row, window after window: the next one starts at the row's next column.
 fn fill_row(
-    ncols: usize,
     row: CsrRow,
     sums: &mut [f64],
     words: &mut [u64],
@@ -324,19 +314,17 @@ fn fill_row(
     metas: &mut [u32],
     values: &mut [f64],
 ) -> TilesSize
-    requires few { ncols ≤ 2 ^ 20 }
-    requires inside { every (λ c. ltb c ncols) row.cols.now ≡ true }
     requires sized { Sized (length sums.old) (length words.old) (length blocks.old) }
     requires zeros { sums.old ≡ replicate (length sums.old) zero64 }
     requires lists { Bounded (2 ^ 36) from × Lists (length masks.old) (length value_offsets.old) (length metas.old) (length values.old) }
-    ensures tiles { Wrote (row_tiles_of config ncols (λ c. not (is_zero (merged_nonzero (entries_of row.entry) c))) (merged_nonzero (entries_of row.entry))) from result masks.old masks.new value_offsets.old value_offsets.new metas.old metas.new values.old values.new }
+    ensures tiles { Wrote (row_tiles_of config row.entry.ncols (λ c. not (is_zero (merged_nonzero (entries_of row.entry) c))) (merged_nonzero (entries_of row.entry))) from result masks.old masks.new value_offsets.old value_offsets.new metas.old metas.new values.old values.new }
     ensures window { sums.new ≡ replicate (length sums.old) zero64 }
 {
-    let past = ncols + sums.len();
+    let past = row.ncols + sums.len();
     let mut at = from;
     let mut next: usize = 0;
     // Each window says where the next one starts, so there is no range to go over.
-    while next < ncols {
+    while next < row.ncols {
         let first = next / 64;
         next = gather(row, 64 * first, past, sums, words, blocks);
         at = emit_window(
@@ -384,7 +372,6 @@ fn fill_rows(
     for row in 0..csr.matrix.nrows {
         row_tile_ptr[row] = hybit_core::narrow(at.tiles);
         at = fill_row(
-            csr.matrix.ncols,
             csr.row(row),
             sums,
             words,

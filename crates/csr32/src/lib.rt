@@ -1,13 +1,14 @@
 // csr32.rs: `Csr32Matrix`, the plot list. Its lists are lent by the caller, and every call checks them.
 #![tactic(auto)]
 
-ghost use Rattle.std.specs.Prelude.{◌≡◌, true, ◌&&◌, ltb, length};
+ghost use Rattle.std.specs.Prelude.{◌≡◌, true, cond, ◌&&◌, ◌-◌, ltb, length};
 ghost use Rattle.hybit_core.specs.Answer.{answers, on_given};
 ghost use Rattle.hybit_core.specs.Domain.{few};
 ghost use Rattle.hybit_core.specs.Floats.{finite};
 ghost use Rattle.hybit_core.specs.Table.{told, given};
 ghost use Rattle.lent.specs.Lists.{every, rises, part};
 ghost use Rattle.csr32.specs.Matrix.{lent_csr};
+ghost use Rattle.csr32.specs.Window.{in_window};
 ghost use Rattle.csr32.specs.Csr.{framed, framed_lists, csr_answer, csr_metadata_bytes, csr_storage_bytes};
 
 use hybit_core::HybitError;
@@ -124,6 +125,21 @@ pub fn all_finite(values: &[f64]) -> bool
     most & each_finite(&values[4 * q..])
 }
 
+// The place of a column among the `width` columns from `base` on.
+pub fn place_in_window(column: u32, base: usize, width: usize) -> Option<usize>
+    ensures { result ≡ cond (in_window base width column) (Some (column - base)) None }
+{
+    let c = column as usize;
+    if c < base {
+        return None;
+    }
+    let place = c - base;
+    if place >= width {
+        return None;
+    }
+    Some(place)
+}
+
 impl<'a> Csr32Matrix<'a> {
     // The Rust's `new` and `validate`.
     pub fn check(self) -> Result<(), HybitError>
@@ -154,8 +170,8 @@ impl<'a> Csr32Matrix<'a> {
         Ok(())
     }
 
-    // `check`, which hands back the list that it accepts: for callers above the library.
-    // The crates above make the struct themselves: their own check, which comes first, says that the list is accepted.
+    // `check`, which hands back the list that it accepts. Where a check comes before for another reason, as in a build that clears its
+    // lists when it refuses, the struct is made there: `checked` would read the list twice.
     pub fn checked(self) -> Result<CheckedCsr32<'a>, HybitError>
         ensures { on_given (λ c. lent_csr c.matrix) (given result) ≡ answers (csr_answer (lent_csr self.entry)) (lent_csr self.entry) }
     {
@@ -181,10 +197,12 @@ impl<'a> Csr32Matrix<'a> {
 impl<'a> CheckedCsr32<'a> {
     // The entries of a row.
     pub fn row(self, row: usize) -> CsrRow<'a>
+        ensures ncols { result.ncols ≡ self.entry.matrix.ncols }
         ensures cols { result.cols.now ≡ part self.entry.matrix.row_ptr.now self.entry.matrix.col_idx.now row }
         ensures vals { result.vals.now ≡ part self.entry.matrix.row_ptr.now self.entry.matrix.values.now row }
     {
         CsrRow {
+            ncols: self.matrix.ncols,
             cols: lent::part(self.matrix.row_ptr, self.matrix.col_idx, row),
             vals: lent::part(self.matrix.row_ptr, self.matrix.values, row),
         }

@@ -13,25 +13,23 @@ ghost use Rattle.csr32.specs.Csr.{csr_answer};
 ghost use Rattle.dense_block.specs.Blocks.{structural_slots};
 ghost use Rattle.csr32.specs.Matrix.{lent_csr};
 
-use csr32::{CheckedCsr32, Csr32Matrix};
+use csr32::{CheckedCsr32, Csr32Matrix, CsrRow};
 use hybit_core::HybitError;
 
 // How many distinct columns a row has, by a bitmap that is empty before and after.
 // One bitmap, without the two above it: what it shares with the builds of words and blocks are levels::mark and forget.
-fn distinct(ncols: usize, cols: &[u32], bits: &mut [u64]) -> usize
-    requires few { ncols ≤ 2 ^ 20 }
-    requires inside { every (λ c. ltb c ncols) cols.now ≡ true }
-    requires empty { bits.old ≡ mask_words (λ c. false) ncols }
-    ensures count { result ≡ count (listed cols.now) ncols }
-    ensures bits { bits.new ≡ mask_words (λ c. false) ncols }
+fn distinct(row: CsrRow, bits: &mut [u64]) -> usize
+    requires { bits.old ≡ mask_words (λ c. false) row.ncols }
+    ensures count { result ≡ count (listed row.entry.cols.now) row.entry.ncols }
+    ensures bits { bits.new ≡ mask_words (λ c. false) row.entry.ncols }
 {
     let mut found: usize = 0;
-    for column in cols {
+    for column in row.cols {
         let col = *column as usize;
         found += usize::from(!word::contains_offset(bits[col / 64], col % 64));
         levels::mark(bits, col);
     }
-    levels::forget(cols, bits);
+    levels::forget(row.cols, bits);
     found
 }
 
@@ -44,14 +42,7 @@ pub fn count_structural(csr: CheckedCsr32) -> usize
     let nwords = csr.matrix.ncols.div_ceil(64);
     let mut slots: usize = 0;
     for row in 0..csr.matrix.nrows {
-        // Two reads: row() would compare the places first, and cut the values too.
-        let start = csr.matrix.row_ptr[row] as usize;
-        let end = csr.matrix.row_ptr[row + 1] as usize;
-        slots += distinct(
-            csr.matrix.ncols,
-            &csr.matrix.col_idx[start..end],
-            &mut bits[..nwords],
-        );
+        slots += distinct(csr.row(row), &mut bits[..nwords]);
     }
     slots
 }

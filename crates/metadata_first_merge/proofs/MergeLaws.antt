@@ -62,10 +62,10 @@ module _ (m : Csr) where
       every_back finite (joined f r) (f r) (every_front finite (joined f r ++ f r) w.0 (sym (ap (every finite) w.1) ∙ e))
 
   -- t is the answer for row r, whose columns and values are cs and vs
-  module _ (r : ℕ) (cs : List ℕ) (vs : List Float) (p : cs ≡ part m.ptr m.col r) (q : vs ≡ part m.ptr m.val r) (t : Bool) (e : t ≡ every finite (row_values m.cols (zip cs vs))) where
+  module _ (r n : ℕ) (cs : List ℕ) (vs : List Float) (o : n ≡ m.cols) (p : cs ≡ part m.ptr m.col r) (q : vs ≡ part m.ptr m.val r) (t : Bool) (e : t ≡ every finite (row_values n (zip cs vs))) where
     row_answer_lem : t ≡ every finite (row_values m.cols (entries m r))
     unfolding entries
-    row_answer_lem = e ∙ ap₂ (λ (cs : List ℕ) (vs : List Float). every finite (row_values m.cols (zip cs vs))) p q
+    row_answer_lem = rw (← o, ← p, ← q) e
 
     pub rows_more : RowsFinite m r → not t ≡ false → RowsFinite m (r + 1)
     unfolding joined

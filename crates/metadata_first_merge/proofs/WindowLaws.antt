@@ -15,12 +15,12 @@ use Rattle.hybit_core.proofs.BoolLaws.{flag_on, flag_off}
 use Rattle.lent.specs.Lists.{each, every}
 use Rattle.lent.proofs.ListLaws.{length-each, get_or-each, each_set, each_cong, each_is, every-all, every_more, every_fails, every_done, every_by, zeros_front}
 use Rattle.csr32.specs.Csr.{Entry, merged}
-use Rattle.csr32.specs.Window.{Outside}
+use Rattle.csr32.specs.Window.{in_window, Outside}
 use Rattle.csr32.proofs.CsrLaws.{present_columns}
 use Rattle.csr32.proofs.WindowLaws.{zeros_as}
 use Rattle.csr32.proofs.MergedLaws.{add_if, merged-none, merged_more, merged_absent, firsts_all}
 use Rattle.metadata_first_merge.specs.Merge.{row_values}
-use Rattle.metadata_first_merge.specs.Window.{in_window, sums_finite, window_finite}
+use Rattle.metadata_first_merge.specs.Window.{sums_finite, window_finite}
 use Rattle.metadata_first_merge.proofs.MergeLaws.{row_finite}
 
 -- ---- the sums after k entries
@@ -53,25 +53,22 @@ module _ (cs : List ℕ) (vs : List Float) (base width : ℕ) where
             is = inv.is ∙ each_cong (λ i. merged (zip (take k cs) (take k vs)) (base + i)) (λ i. merged (zip (take (k + 1) cs) (take (k + 1) vs)) (base + i)) width (λ i b. sym (other i (f i b)));
           }
 
-      pub summed_before : c < base → Summed cs vs base width (k + 1) sums
-      summed_before b = skip (λ i q x. omega arith)
+      pub summed_other : (base ≤ c → width ≤ c - base) → Summed cs vs base width (k + 1) sums
+      summed_other g = skip (λ i q x. omega (arith, g (omega arith)))
 
-      pub summed-past : base ≤ c → width ≤ c - base → Summed cs vs base width (k + 1) sums
-      summed-past b g = skip (λ i q x. omega arith)
-
-      pub summed_more : base ≤ c → c - base < width → Summed cs vs base width (k + 1) (set sums (c - base) (add binary64 (get_or sums (c - base) nan) (get_or vs k nan)))
-      summed_more b g =
+      pub summed_more : (j : ℕ) → c ≡ base + j → j < width → Summed cs vs base width (k + 1) (set sums j (add binary64 (get_or sums j nan) (get_or vs k nan)))
+      summed_more j b g =
           record {
-            is = each_set nan (λ i. merged (zip (take k cs) (take k vs)) (base + i)) (λ i. merged (zip (take (k + 1) cs) (take (k + 1) vs)) (base + i)) width (c - base) sums _ inv.is g here
+            is = each_set nan (λ i. merged (zip (take k cs) (take k vs)) (base + i)) (λ i. merged (zip (take (k + 1) cs) (take (k + 1) vs)) (base + i)) width j sums _ inv.is g here
                 (λ i q x. other i (λ y. x (omega arith)));
           }
         where
-          here : add binary64 (get_or sums (c - base) nan) (get_or vs k nan) ≡ merged (zip (take (k + 1) cs) (take (k + 1) vs)) (base + (c - base))
+          here : add binary64 (get_or sums j nan) (get_or vs k nan) ≡ merged (zip (take (k + 1) cs) (take (k + 1) vs)) (base + j)
           here =
               ap (λ (s : Float). add binary64 s (get_or vs k nan))
-              (ap (λ (s : List Float). get_or s (c - base) nan) inv.is ∙ get_or-each (λ i. merged (zip (take k cs) (take k vs)) (base + i)) width (c - base) nan g)
-              ∙ sym (merged_more cs vs k c (base + (c - base)) h l e
-              ∙ ap (λ (t : Bool). add_if t (merged (zip (take k cs) (take k vs)) (base + (c - base))) (get_or vs k nan)) (eq-eqb c (base + (c - base)) (omega arith)))
+              (ap (λ (s : List Float). get_or s j nan) inv.is ∙ get_or-each (λ i. merged (zip (take k cs) (take k vs)) (base + i)) width j nan g)
+              ∙ sym (merged_more cs vs k c (base + j) h l e
+              ∙ ap (λ (t : Bool). add_if t (merged (zip (take k cs) (take k vs)) (base + j)) (get_or vs k nan)) (eq-eqb c (base + j) b))
 
 -- ---- a test of the columns in the window, at one column
 
@@ -100,22 +97,26 @@ module _ (cs : List ℕ) (base : ℕ) (sums : List Float) (k : ℕ) (inv : sums_
         every_more (λ c. not (in_window base (length sums) c) || finite (get_or sums (c - base) nan)) cs k inv 0 h
         (t ∙ ap (λ (c : ℕ). not (in_window base (length sums) c) || finite (get_or sums (c - base) nan)) e)
 
-    pub sums_before : c < base → sums_finite base sums cs ≡ sums_finite base sums (drop (k + 1) cs)
-    sums_before b = next (test_before base (length sums) c (finite (get_or sums (c - base) nan)) b)
-
-    pub sums_past : base ≤ c → length sums ≤ c - base → sums_finite base sums cs ≡ sums_finite base sums (drop (k + 1) cs)
-    sums_past b g = next (test_past base (length sums) c (finite (get_or sums (c - base) nan)) b g)
+    pub sums_other : (base ≤ c → length sums ≤ c - base) → sums_finite base sums cs ≡ sums_finite base sums (drop (k + 1) cs)
+    sums_other g = go (dec_lt c base)
+      where
+        go : Dec (c < base) → sums_finite base sums cs ≡ sums_finite base sums (drop (k + 1) cs)
+        go (yes b) = next (test_before base (length sums) c (finite (get_or sums (c - base) nan)) b)
+        go (no b) = next (test_past base (length sums) c (finite (get_or sums (c - base) nan)) (omega arith) (g (omega arith)))
 
     -- t is the test of the column's sum, as the code finds it
-    module _ (b : base ≤ c) (g : c - base < length sums) (t : Bool) (f : t ≡ finite (get_or sums (c - base) nan)) where
+    module _ (i : ℕ) (b : c ≡ base + i) (g : i < length sums) (t : Bool) (f : t ≡ finite (get_or sums i nan)) where
+      found : t ≡ finite (get_or sums (c - base) nan)
+      found = let z : i ≡ c - base = omega arith in f ∙ ap (λ (j : ℕ). finite (get_or sums j nan)) z
+
       pub sums_more : not t ≡ false → sums_finite base sums cs ≡ sums_finite base sums (drop (k + 1) cs)
-      sums_more q = next (test_in base (length sums) c (finite (get_or sums (c - base) nan)) b g true (flag_on (finite (get_or sums (c - base) nan)) t f q))
+      sums_more q = next (test_in base (length sums) c (finite (get_or sums (c - base) nan)) (omega arith) (omega arith) true (flag_on (finite (get_or sums (c - base) nan)) t found q))
 
       pub sums_fails : not t ≡ true → false ≡ sums_finite base sums cs
       unfolding sums_finite
       sums_fails q =
           every_fails (λ c. not (in_window base (length sums) c) || finite (get_or sums (c - base) nan)) cs k inv 0 h
-          (test_in base (length sums) c (finite (get_or sums (c - base) nan)) b g false (flag_off (finite (get_or sums (c - base) nan)) t f q)
+          (test_in base (length sums) c (finite (get_or sums (c - base) nan)) (omega arith) (omega arith) false (flag_off (finite (get_or sums (c - base) nan)) t found q)
           ∙ ap (λ (c : ℕ). not (in_window base (length sums) c) || finite (get_or sums (c - base) nan)) e)
 
 -- ---- the window of a whole row

@@ -1,14 +1,11 @@
 -- A window of a row: so many columns from `base` on. What the private functions that sum and test one require and ensure.
-use Rattle.std.specs.Prelude.{ℕ, ◌-◌, Bool, not, ◌&&◌, ◌||◌, leb, ltb, length, get_or, Float}
+use Rattle.std.specs.Prelude.{ℕ, ◌-◌, Bool, not, ◌||◌, length, get_or, Float}
 use mathlib.Core.List.{List, zip}
 use Rattle.std.specs.Float.{nan}
 use Rattle.hybit_core.specs.Floats.{finite}
 use Rattle.lent.specs.Lists.{every}
 use Rattle.csr32.specs.Csr.{merged}
-
--- column c lies in the window
-abbrev pub in_window : ℕ → ℕ → ℕ → Bool
-in_window base width c = leb base c && ltb (c - base) width
+use Rattle.csr32.specs.Window.{in_window}
 
 -- the sums of the columns in the window are finite
 unfoldable pub sums_finite : ℕ → List Float → List ℕ → Bool

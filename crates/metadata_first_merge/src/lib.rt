@@ -1,10 +1,8 @@
 // metadata_first.rs: the merging of `AbtmMetadataFirstMatrix::from_csr32`. Whether every merged value of a plot list is finite,
 // found through a window of local sums, without a list to write to: a list that is too short must not hide refusal 4.
 // The sums are written, so contracts say that they are zeros: a struct of them would have to name the list in every contract.
-// The window's test stands in each loop: a struct of base and width would have to be told that the width is that of the sums.
 // Rows go through a loop and no `all`: its closure would write the sums, whose zeros are asked at each turn. Rows of words and of
 // tiles are of other types.
-// That a row's columns are inside is asked for: CsrRow has no column count to say it with.
 #![tactic(auto)]
 
 ghost use Rattle.std.specs.Prelude.{◌≡◌, true, ◌+◌, ◌≤◌, ◌<◌, ◌^◌, ltb, length, replicate};
@@ -28,15 +26,9 @@ fn add_window(row: CsrRow, base: usize, sums: &mut [f64])
 {
     let width = sums.len();
     for (k, col) in row.cols.iter().enumerate() {
-        let c = *col as usize;
-        if c < base {
-            continue;
+        if let Some(i) = csr32::place_in_window(*col, base, width) {
+            sums[i] = sums[i] + row.vals[k];
         }
-        let i = c - base;
-        if i >= width {
-            continue;
-        }
-        sums[i] = sums[i] + row.vals[k];
     }
 }
 
@@ -45,14 +37,9 @@ fn sums_hold(cols: &[u32], base: usize, sums: &[f64]) -> bool
     ensures { result ≡ sums_finite base sums.now cols.now }
 {
     for col in cols {
-        let c = *col as usize;
-        if c < base {
+        let Some(i) = csr32::place_in_window(*col, base, sums.len()) else {
             continue;
-        }
-        let i = c - base;
-        if i >= sums.len() {
-            continue;
-        }
+        };
         if !hybit_core::is_finite(sums[i]) {
             return false;
         }
@@ -67,15 +54,9 @@ fn clear_window(cols: &[u32], base: usize, sums: &mut [f64])
 {
     let width = sums.len();
     for col in cols {
-        let c = *col as usize;
-        if c < base {
-            continue;
+        if let Some(i) = csr32::place_in_window(*col, base, width) {
+            sums[i] = 0.0;
         }
-        let i = c - base;
-        if i >= width {
-            continue;
-        }
-        sums[i] = 0.0;
     }
 }
 
@@ -92,15 +73,14 @@ fn window_holds(row: CsrRow, base: usize, sums: &mut [f64]) -> bool
 }
 
 // Whether the row's merged values are finite, window after window.
-fn row_holds(ncols: usize, row: CsrRow, sums: &mut [f64]) -> bool
-    requires sizes { (ncols ≤ 2 ^ 20) × (0 < length sums.old) × (length sums.old ≤ 2 ^ 20) }
-    requires columns { every (λ c. ltb c ncols) row.cols.now ≡ true }
+fn row_holds(row: CsrRow, sums: &mut [f64]) -> bool
+    requires sizes { (0 < length sums.old) × (length sums.old ≤ 2 ^ 20) }
     requires window { sums.old ≡ replicate (length sums.old) zero64 }
-    ensures answer { result ≡ every finite (row_values ncols (entries_of row.entry)) }
+    ensures answer { result ≡ every finite (row_values row.entry.ncols (entries_of row.entry)) }
     ensures window { sums.new ≡ replicate (length sums.old) zero64 }
 {
     let width = sums.len();
-    for base in (0..ncols).step_by(width) {
+    for base in (0..row.ncols).step_by(width) {
         if !window_holds(row, base, sums) {
             return false;
         }
@@ -114,7 +94,7 @@ fn rows_hold(csr: CheckedCsr32, sums: &mut [f64]) -> bool
     ensures { result ≡ merged_finite (lent_csr csr.entry.matrix) }
 {
     for row in 0..csr.matrix.nrows {
-        if !row_holds(csr.matrix.ncols, csr.row(row), sums) {
+        if !row_holds(csr.row(row), sums) {
             return false;
         }
     }
@@ -134,9 +114,7 @@ fn merged_finite(csr: CheckedCsr32) -> bool
 pub fn check(csr: Csr32Matrix) -> Result<(), HybitError>
     ensures { told result ≡ merge_answer (lent_csr csr.entry) }
 {
-    // No checked(): what it promises is of the list that it hands back, and here the refusal is handed on.
-    csr.check()?;
-    if !merged_finite(CheckedCsr32 { matrix: csr }) {
+    if !merged_finite(csr.checked()?) {
         return Err(HybitError::NotFinite);
     }
     Ok(())

@@ -17,7 +17,7 @@ gather-next-requires c = record { window = omega (arith, c.loop-next-test.true, 
 
 pub emit_window-at-requires : goal.emit_window-at-requires
 emit_window-at-requires c = let t = c.loop-next-test.true in
-    record { fact_1 = sized_as _ _ _ _ _ _ (c.gather-next.auto.sums ∙ c.loop-next.invariant.2) (c.gather-next.auto.words ∙ c.loop-next.invariant.3) (c.gather-next.auto.blocks ∙ c.loop-next.invariant.4) c.requires.sized; fact_2 = omega (arith, t, c.requires.few); fact_3 = c.gather-next.ensures.words; fact_4 = c.gather-next.ensures.blocks; fact_5 = (emitting_bounded _ _ _ _ _ _ _ _ _ _ _ _ _ _ c.loop-next.invariant.0 (2 ^ 36) (2 ^ 38) c.requires.lists.0 (omega (arith, t, c.requires.few)), emitting_lists _ _ _ _ _ _ _ _ _ _ _ _ _ _ c.loop-next.invariant.0 c.requires.lists.1) }
+    record { fact_1 = sized_as _ _ _ _ _ _ (c.gather-next.auto.sums ∙ c.loop-next.invariant.2) (c.gather-next.auto.words ∙ c.loop-next.invariant.3) (c.gather-next.auto.blocks ∙ c.loop-next.invariant.4) c.requires.sized; fact_2 = omega (arith, t, c.args.row.few); fact_3 = c.gather-next.ensures.words; fact_4 = c.gather-next.ensures.blocks; fact_5 = (emitting_bounded _ _ _ _ _ _ _ _ _ _ _ _ _ _ c.loop-next.invariant.0 (2 ^ 36) (2 ^ 38) c.requires.lists.0 (omega (arith, t, c.args.row.few)), emitting_lists _ _ _ _ _ _ _ _ _ _ _ _ _ _ c.loop-next.invariant.0 c.requires.lists.1) }
 
 pub clear_window-requires : goal.clear_window-requires
 clear_window-requires c = record { fact_1 = window_outside c.args.row.cols.now c.args.row.vals.now c.args.row.paired _ _ _ c.gather-next.ensures.sums; fact_2 = sized_as _ _ _ _ _ _ (c.gather-next.auto.sums ∙ c.loop-next.invariant.2) (c.gather-next.auto.words ∙ c.loop-next.invariant.3) (c.gather-next.auto.blocks ∙ c.loop-next.invariant.4) c.requires.sized }
@@ -37,4 +37,4 @@ loop-next-preserved c = let z : length c.loop-next.sums ≡ 64 * length c.args.w
 )
 
 pub returns : goal.returns
-returns c = record { tiles = filling_done _ c.args.row.cols.now c.args.row.vals.now c.args.row.paired _ c.loop-next.next c.requires.inside (omega arith) c.loop-next.invariant.6 _ _ _ _ _ _ _ _ _ _ c.loop-next.invariant.0; window = c.loop-next.invariant.5 }
+returns c = record { tiles = filling_done _ c.args.row.cols.now c.args.row.vals.now c.args.row.paired _ c.loop-next.next c.args.row.inside (omega arith) c.loop-next.invariant.6 _ _ _ _ _ _ _ _ _ _ c.loop-next.invariant.0; window = c.loop-next.invariant.5 }

@@ -10,8 +10,8 @@ use Rattle.abtm_build.proofs.fill_row.Given as goal
 
 abbrev pub invariant-loop-next : goal.invariant-loop-next
 invariant-loop-next l = Emitting l.config (merged_nonzero (zip l.row.cols.now l.row.vals.now)) 0 (l.next / 64) l.initial.at l.at l.initial.masks l.masks l.initial.value_offsets l.value_offsets l.initial.metas l.metas l.initial.values l.values
-    × (l.past ≡ l.ncols + length l.initial.sums) × (length l.sums ≡ length l.initial.sums) × (length l.words ≡ length l.initial.words) × (length l.blocks ≡ length l.initial.blocks)
+    × (l.past ≡ l.row.ncols + length l.initial.sums) × (length l.sums ≡ length l.initial.sums) × (length l.words ≡ length l.initial.words) × (length l.blocks ≡ length l.initial.blocks)
     × (l.sums ≡ replicate (length l.initial.sums) zero64) × Passed (merged_nonzero (zip l.row.cols.now l.row.vals.now)) l.next
 
 abbrev pub decreases-loop-next : goal.decreases-loop-next
-decreases-loop-next l = l.ncols - l.next
+decreases-loop-next l = l.row.ncols - l.next

@@ -1,7 +1,7 @@
 -- `abtm_build::fill_rows` meets its contract. Assumes nothing.
 use mathlib.Core.Path.{refl, sym, ◌∙◌}
 use native.Mathlib.Omega.{arith}
-use Rattle.csr32.proofs.CsrLaws.{valid, row_columns}
+use Rattle.csr32.proofs.CsrLaws.{valid}
 use Rattle.csr32.proofs.WindowLaws.{zeros_as}
 use Rattle.abtm_build.proofs.WindowLaws.{sized_as}
 use Rattle.abtm_build.proofs.RowsLaws.{entries_as, filling_none, filling_bounded, filling_more, filling_done}
@@ -13,12 +13,12 @@ loop-row-init c = (refl, refl, refl, c.requires.zeros, filling_none _ _ _ _ _ _ 
 pub fill_row-at-requires : goal.fill_row-at-requires
 fill_row-at-requires c = let ok = valid _ c.args.csr.valid in
     let f = c.loop-row.invariant.4 in
-    record { few = ok.cols_in; inside = rw c.row.ensures.cols (row_columns ok c.loop-row.row); sized = sized_as _ _ _ _ _ _ c.loop-row.invariant.0 c.loop-row.invariant.1 c.loop-row.invariant.2 c.requires.sized; zeros = c.loop-row.invariant.3; lists = (filling_bounded _ _ _ _ _ _ _ ok _ _ _ _ _ _ _ f, record { offsets_same = omega (arith, f.same_offsets, f.same_masks, c.requires.lists.offsets_same); metas_same = omega (arith, f.same_metas, f.same_masks, c.requires.lists.metas_same); few_tiles = omega (arith, f.same_masks, c.requires.lists.few_tiles); few_slots = omega (arith, f.same_vals, c.requires.lists.few_slots) }) }
+    record { sized = sized_as _ _ _ _ _ _ c.loop-row.invariant.0 c.loop-row.invariant.1 c.loop-row.invariant.2 c.requires.sized; zeros = c.loop-row.invariant.3; lists = (filling_bounded _ _ _ _ _ _ _ ok _ _ _ _ _ _ _ f, record { offsets_same = omega (arith, f.same_offsets, f.same_masks, c.requires.lists.offsets_same); metas_same = omega (arith, f.same_metas, f.same_masks, c.requires.lists.metas_same); few_tiles = omega (arith, f.same_masks, c.requires.lists.few_tiles); few_slots = omega (arith, f.same_vals, c.requires.lists.few_slots) }) }
 
 pub loop-row-preserved : goal.loop-row-preserved
 loop-row-preserved c = let ok = valid _ c.args.csr.valid in
     let f = c.loop-row.invariant.4 in
-    (c.fill_row-at.auto.sums ∙ c.loop-row.invariant.0, c.fill_row-at.auto.words ∙ c.loop-row.invariant.1, c.fill_row-at.auto.blocks ∙ c.loop-row.invariant.2, zeros_as _ _ _ c.fill_row-at.ensures.window (sym c.fill_row-at.auto.sums), filling_more _ _ _ _ _ _ _ ok _ _ _ _ _ _ _ f c.loop-row-test.true _ (entries_as _ _ _ _ c.row.ensures.cols c.row.ensures.vals) _ _ _ _ _ c.fill_row-at.ensures.tiles _ c.narrow.ensures c.requires.lists.few_tiles c.requires.pointers c.fill_row-at.auto.masks c.fill_row-at.auto.values c.fill_row-at.auto.value_offsets c.fill_row-at.auto.metas)
+    (c.fill_row-at.auto.sums ∙ c.loop-row.invariant.0, c.fill_row-at.auto.words ∙ c.loop-row.invariant.1, c.fill_row-at.auto.blocks ∙ c.loop-row.invariant.2, zeros_as _ _ _ c.fill_row-at.ensures.window (sym c.fill_row-at.auto.sums), filling_more _ _ _ _ _ _ _ ok _ _ _ _ _ _ _ f c.loop-row-test.true _ (entries_as _ _ _ _ c.row.ensures.cols c.row.ensures.vals) _ _ _ _ _ (rw c.row.ensures.ncols at c.fill_row-at.ensures.tiles) _ c.narrow.ensures c.requires.lists.few_tiles c.requires.pointers c.fill_row-at.auto.masks c.fill_row-at.auto.values c.fill_row-at.auto.value_offsets c.fill_row-at.auto.metas)
 
 pub shape_of-sums : goal.shape_of-sums
 shape_of-sums c = c.loop-row.invariant.0

@@ -6,4 +6,4 @@ use Rattle.metadata_first_merge.proofs.WindowLaws.{Searched}
 use Rattle.metadata_first_merge.proofs.row_holds.Given as goal
 
 abbrev pub invariant-loop-base : goal.invariant-loop-base
-invariant-loop-base l = (l.width ≡ length l.initial.sums) × (l.base ≤ l.ncols + l.width) × (length l.sums ≡ length l.initial.sums) × (l.sums ≡ replicate (length l.initial.sums) zero64) × Searched l.row.cols.now l.row.vals.now l.base
+invariant-loop-base l = (l.width ≡ length l.initial.sums) × (l.base ≤ l.row.ncols + l.width) × (length l.sums ≡ length l.initial.sums) × (l.sums ≡ replicate (length l.initial.sums) zero64) × Searched l.row.cols.now l.row.vals.now l.base

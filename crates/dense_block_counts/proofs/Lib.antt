@@ -1,3 +1,2 @@
 pub mod DistinctLaws
-pub mod HandedLaws
 pub mod SlotLaws

@@ -48,32 +48,28 @@ module _ (m : Csr) (row slots : ℕ) (bits : List ℕ) (inv : Summed m row slots
   words_in_lem : ceil64 m.cols ≤ 16384
   words_in_lem = omega (arith, inv.good.cols_in)
 
-  summed-empty : take (ceil64 m.cols) bits ≡ mask_words (λ c. false) m.cols
+  pub summed-empty : take (ceil64 m.cols) bits ≡ mask_words (λ c. false) m.cols
   summed-empty = zeros_empty m.cols 16384 bits inv.zeros words_in_lem
 
-  -- the row, as the code lends it from a up to z
-  module _ (a z : ℕ) (p : a ≡ get_or m.ptr row 0) (q : z ≡ get_or m.ptr (row + 1) 0) where
-    pub summed_asks : (m.cols ≤ 2 ^ 20) × ((every (λ c. ltb c m.cols) (take (z - a) (drop a m.col)) ≡ true) × (take (ceil64 m.cols) bits ≡ mask_words (λ c. false) m.cols))
-    summed_asks =
-        (inv.good.cols_in, (ap (every (λ c. ltb c m.cols)) (part_lent m.ptr m.col row a z p q) ∙ row_columns inv.good row, summed-empty))
-
-    module _ (r : ℕ) (g : r ≡ count (listed (take (z - a) (drop a m.col))) m.cols) where
+  -- the row's columns, as the code has them
+  module _ (cs : List ℕ) (p : cs ≡ part m.ptr m.col row) where
+    module _ (r : ℕ) (g : r ≡ count (listed cs) m.cols) where
       row_is : r ≡ length (columns_of m row)
       unfolding listed
       row_is =
-          g ∙ ap (λ (l : List ℕ). count (listed l) m.cols) (part_lent m.ptr m.col row a z p q)
+          g ∙ ap (λ (l : List ℕ). count (listed l) m.cols) p
           ∙ ap length (below_same (listed (part m.ptr m.col row)) (present (entries m row)) m.cols
           (λ c. ap (λ (t : ℕ → Bool). some t (part m.ptr m.col row)) (λ i d. eqb_turned c d i) ∙ sym (present_row inv.good row c)))
 
       pub summed_fits : row < m.rows → slots + r < 2 ^ 64
-      summed_fits h = omega (arith, inv.few, inv.good.rows_in, inv.good.cols_in, g, length-below-le (listed (take (z - a) (drop a m.col))) m.cols)
+      summed_fits h = omega (arith, inv.few, inv.good.rows_in, inv.good.cols_in, g, length-below-le (listed cs) m.cols)
 
       -- front is what the callee leaves in the bitmap
       pub summed_more : (front : List ℕ) → front ≡ mask_words (λ c. false) m.cols → Summed m (row + 1) (slots + r) (front ++ drop (ceil64 m.cols) bits)
       unfolding joined
       summed_more front e = record {
         good = inv.good;
-        few = omega (arith, inv.few, inv.good.cols_in, g, length-below-le (listed (take (z - a) (drop a m.col))) m.cols);
+        few = omega (arith, inv.few, inv.good.cols_in, g, length-below-le (listed cs) m.cols);
         is =
             ap₂ (λ (s t : ℕ). s + t) inv.is row_is ∙ sym (length-append (joined (columns_of m) row) (columns_of m row))
             ∙ ap (λ (k : ℕ). length (joined (columns_of m) k)) (sym (add-one row));

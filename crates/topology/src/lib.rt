@@ -22,7 +22,7 @@ mod row;
 
 pub use framed::FramedTopology;
 pub use matrix::AbtmTopology;
-pub use row::AbtmTopologyRow;
+pub use row::{AbtmTopologyRow, CheckedTopologyRow};
 
 // A word of a row by value.
 #[derive(Clone, Copy)]

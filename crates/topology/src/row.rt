@@ -1,5 +1,6 @@
 // A row of a record: the numbers of its words, and their masks.
-ghost use Rattle.std.specs.Prelude.{◌≡◌, ℕ, ◌<◌, ◌^◌, length, get_or};
+ghost use Rattle.std.specs.Prelude.{◌≡◌, ℕ, true, ◌<◌, ◌^◌, length, get_or};
+ghost use Rattle.topology.specs.Words.{row_rule};
 
 #[derive(Clone, Copy)]
 pub struct AbtmTopologyRow<'a> {
@@ -8,4 +9,12 @@ pub struct AbtmTopologyRow<'a> {
     pub ghost paired: { length masks.now ≡ length words.now },
     // What the masks' type says: for the proofs that read no mask.
     pub ghost masks_fit: { (k : ℕ) → get_or masks.now k 0 < 2 ^ 64 },
+}
+
+// A row of `ncols` columns whose words keep the rule of 11.
+#[derive(Clone, Copy)]
+pub struct CheckedTopologyRow<'a> {
+    pub ncols: usize,
+    pub row: AbtmTopologyRow<'a>,
+    pub ghost rule: { row_rule ncols row.words.now row.masks.now ≡ true },
 }

@@ -1,6 +1,5 @@
 // topology.rs: the questions of `AbtmTopology` to a row. Each checks the record and the row: 1, 11, 7.
 // A row's words are looked through one by one: the check before has read all of the record's, and rank adds the masks on its way.
-// rank_in and select_in ask that the row keeps the rule: AbtmTopologyRow has no column count to say it with.
 #![tactic(auto)]
 
 ghost use Rattle.std.specs.Prelude.{◌≡◌, true, ◌≤◌, length};
@@ -13,7 +12,7 @@ ghost use Rattle.topology.specs.Calls.{row_answer, rank_answer, select};
 ghost use Rattle.topology.specs.Matrix.{lent_topology};
 
 use hybit_core::HybitError;
-use topology::{AbtmTopology, AbtmTopologyRow, FramedTopology};
+use topology::{AbtmTopology, AbtmTopologyRow, CheckedTopologyRow, FramedTopology};
 
 fn check_row(topology: AbtmTopology, row: usize) -> Result<(), HybitError>
     ensures { told result ≡ row_answer (lent_topology topology.entry) row }
@@ -29,40 +28,44 @@ fn check_row(topology: AbtmTopology, row: usize) -> Result<(), HybitError>
 fn checked_row<'a>(
     topology: AbtmTopology<'a>,
     row: usize,
-) -> Result<AbtmTopologyRow<'a>, HybitError>
-    ensures words { on_given (λ r. r.words.now) (given result) ≡ answers (row_answer (lent_topology topology.entry) row) (part topology.entry.row_word_ptr.now topology.entry.word_indices.now row) }
-    ensures masks { on_given (λ r. r.masks.now) (given result) ≡ answers (row_answer (lent_topology topology.entry) row) (part topology.entry.row_word_ptr.now topology.entry.masks.now row) }
+) -> Result<CheckedTopologyRow<'a>, HybitError>
+    ensures ncols { on_given (λ r. r.ncols) (given result) ≡ answers (row_answer (lent_topology topology.entry) row) topology.entry.ncols }
+    ensures words { on_given (λ r. r.row.words.now) (given result) ≡ answers (row_answer (lent_topology topology.entry) row) (part topology.entry.row_word_ptr.now topology.entry.word_indices.now row) }
+    ensures masks { on_given (λ r. r.row.masks.now) (given result) ≡ answers (row_answer (lent_topology topology.entry) row) (part topology.entry.row_word_ptr.now topology.entry.masks.now row) }
 {
     check_row(topology, row)?;
     let framed = FramedTopology { topology };
-    Ok(framed.row(row))
+    Ok(CheckedTopologyRow {
+        ncols: topology.ncols,
+        row: framed.row(row),
+    })
 }
 
 // The row's word numbers, as that part of the lent list.
 pub fn row_word_indices<'a>(topology: AbtmTopology<'a>, row: usize) -> Result<&'a [u32], HybitError>
     ensures { on_given (λ s. s.now) (given result) ≡ answers (row_answer (lent_topology topology.entry) row) (part topology.entry.row_word_ptr.now topology.entry.word_indices.now row) }
 {
-    Ok(checked_row(topology, row)?.words)
+    Ok(checked_row(topology, row)?.row.words)
 }
 
 // The row's masks, in the same way.
 pub fn row_masks<'a>(topology: AbtmTopology<'a>, row: usize) -> Result<&'a [u64], HybitError>
     ensures { on_given (λ s. s.now) (given result) ≡ answers (row_answer (lent_topology topology.entry) row) (part topology.entry.row_word_ptr.now topology.entry.masks.now row) }
 {
-    Ok(checked_row(topology, row)?.masks)
+    Ok(checked_row(topology, row)?.row.masks)
 }
 
 pub fn row_nonempty_words(topology: AbtmTopology, row: usize) -> Result<usize, HybitError>
     ensures { given result ≡ answers (row_answer (lent_topology topology.entry) row) (length (words_of (member (lent_topology topology.entry) row) topology.entry.ncols)) }
 {
-    Ok(checked_row(topology, row)?.words.len())
+    Ok(checked_row(topology, row)?.row.words.len())
 }
 
 // How many columns the row holds.
 pub fn row_popcount(topology: AbtmTopology, row: usize) -> Result<usize, HybitError>
     ensures { given result ≡ answers (row_answer (lent_topology topology.entry) row) (count (member (lent_topology topology.entry) row) topology.entry.ncols) }
 {
-    Ok(topology::count_bits(checked_row(topology, row)?.masks))
+    Ok(topology::count_bits(checked_row(topology, row)?.row.masks))
 }
 
 // A loop and no `position`: the definition goes through words and masks together, and so does this.
@@ -88,16 +91,15 @@ pub fn row_contains(topology: AbtmTopology, row: usize, col: usize) -> Result<bo
     if col >= topology.ncols {
         return Ok(false);
     }
-    Ok(contains_in(found, col))
+    Ok(contains_in(found.row, col))
 }
 
-fn rank_in(ncols: usize, row: AbtmTopologyRow, col: usize) -> usize
-    requires rule { row_rule ncols row.words.now row.masks.now ≡ true }
-    requires column { col ≤ ncols }
-    ensures { result ≡ count (row_member row.entry.words.now row.entry.masks.now) col }
+fn rank_in(checked: CheckedTopologyRow, col: usize) -> usize
+    requires { col ≤ checked.ncols }
+    ensures { result ≡ count (row_member checked.entry.row.words.now checked.entry.row.masks.now) col }
 {
-    let words = row.words;
-    let masks = row.masks;
+    let words = checked.row.words;
+    let masks = checked.row.masks;
     let target = col / 64;
     let mut rank: usize = 0;
     for i in 0..words.len() {
@@ -121,15 +123,14 @@ pub fn row_rank(topology: AbtmTopology, row: usize, col: usize) -> Result<usize,
     if col > topology.ncols {
         return Err(HybitError::NoSuchPlace);
     }
-    Ok(rank_in(topology.ncols, found, col))
+    Ok(rank_in(found, col))
 }
 
-fn select_in(ncols: usize, row: AbtmTopologyRow, ordinal: usize) -> Option<usize>
-    requires { row_rule ncols row.words.now row.masks.now ≡ true }
-    ensures { result ≡ selected (row_member row.entry.words.now row.entry.masks.now) ncols ordinal }
+fn select_in(checked: CheckedTopologyRow, ordinal: usize) -> Option<usize>
+    ensures { result ≡ selected (row_member checked.entry.row.words.now checked.entry.row.masks.now) checked.entry.ncols ordinal }
 {
-    let words = row.words;
-    let masks = row.masks;
+    let words = checked.row.words;
+    let masks = checked.row.masks;
     let mut left = ordinal;
     for k in 0..words.len() {
         let ones = word::popcount(masks[k]);
@@ -155,5 +156,5 @@ pub fn row_select(
     ensures { given result ≡ answers (row_answer (lent_topology topology.entry) row) (select (lent_topology topology.entry) row ordinal) }
 {
     let found = checked_row(topology, row)?;
-    Ok(select_in(topology.ncols, found, ordinal))
+    Ok(select_in(found, ordinal))
 }

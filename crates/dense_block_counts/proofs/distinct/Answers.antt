@@ -7,7 +7,7 @@ use borrow.Author.Rules.{rules}
 use Rattle.dense_block_counts.proofs.distinct.Goals as goal
 
 pub loop-column-init : goal.loop-column-init
-loop-column-init c = distinct_none _ _ _ c.requires.few c.requires.inside c.requires.empty
+loop-column-init c = distinct_none _ _ _ c.args.row.few c.args.row.inside c.requires
 
 pub bounds-bits-col : goal.bounds-bits-col
 bounds-bits-col c = distinct_place _ _ _ _ _ c.loop-column.invariant (search rules) _ refl

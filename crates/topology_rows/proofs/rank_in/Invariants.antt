@@ -3,4 +3,4 @@ use Rattle.topology.specs.Words.{row_member}
 use Rattle.topology_rows.proofs.rank_in.Given as goal
 
 abbrev pub invariant-loop-i : goal.invariant-loop-i
-invariant-loop-i l = Ranking (row_member l.words l.masks) l.ncols l.col l.i l.rank
+invariant-loop-i l = Ranking (row_member l.words l.masks) l.checked.ncols l.col l.i l.rank

@@ -1,5 +1,5 @@
 use Rattle.topology.proofs.CallLaws.{row_ok, contains_is, contains_past}
-use Rattle.topology_rows.proofs.FoundLaws.{found_accepted, found_is, found_gives}
+use Rattle.hybit_core.proofs.HandedLaws.{found_accepted, found_is, found_gives}
 use Rattle.topology_rows.proofs.row_contains.Goals as goal
 
 pub returns-then-col-topology : goal.returns-then-col-topology

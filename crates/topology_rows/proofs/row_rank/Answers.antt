@@ -1,9 +1,10 @@
 use Rattle.std.proofs.Common.{rules}
+use native.Mathlib.Omega.{arith}
 use Rattle.hybit_core.proofs.AnswerLaws.{given_refused_by}
 use Rattle.hybit_core.proofs.BoolLaws.{is_within, is_above}
 use Rattle.topology.specs.Calls.{rank_answer}
-use Rattle.topology.proofs.CallLaws.{row_ok, rank_is, rule_lent}
-use Rattle.topology_rows.proofs.FoundLaws.{found_refused, found_accepted, found_is, found_then_gives, found_then_fails}
+use Rattle.topology.proofs.CallLaws.{row_ok, rank_is}
+use Rattle.hybit_core.proofs.HandedLaws.{found_refused, found_accepted, found_is, found_then_gives, found_then_fails}
 use Rattle.topology_rows.proofs.row_rank.Goals as goal
 
 pub returns-in_err-found : goal.returns-in_err-found
@@ -14,9 +15,8 @@ pub returns-then-col-topology : goal.returns-then-col-topology
 unfolding rank_answer
 returns-then-col-topology c = found_then_fails _ _ _ c.in_ok-found.ensures.words _ 7 _ (is_above _ _ c.if-col-topology.true)
 
-pub rank_in-requires-clause-rule : goal.rank_in-requires-clause-rule
-rank_in-requires-clause-rule c = let e = c.in_ok-found.ensures.words in
-    rule_lent _ _ (row_ok _ _ (found_accepted _ _ _ e)) _ _ (found_is _ _ _ e) (found_is _ _ _ c.in_ok-found.ensures.masks)
+pub rank_in-requires : goal.rank_in-requires
+rank_in-requires c = omega (arith, found_is _ _ _ c.in_ok-found.ensures.ncols, c.if-col-topology.false)
 
 pub returns : goal.returns
 unfolding rank_answer

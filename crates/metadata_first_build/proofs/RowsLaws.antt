@@ -202,9 +202,6 @@ module _ (m : Csr) (list : csr_answer m ≡ accepted) (t : Words) (src : t ≡ t
             same = ap₂ (λ (cs : List ℕ) (vs : List Float). zip cs vs) ec ev
 
             -- what `pack_row` requires
-            pub packing_columns : (m.cols ≤ 2 ^ 20) × (every (λ c. ltb c m.cols) cs ≡ true)
-            packing_columns = (ok.cols_in, ap (every (λ c. ltb c m.cols)) ec ∙ row_columns ok r)
-
             pub packing_row : Row (present (zip cs vs)) m.cols (take (l - f) (drop f t.word)) (take (l - f) (drop f t.mask))
             packing_row = subst (λ (es : List Entry). Row (present es) m.cols (take (l - f) (drop f t.word)) (take (l - f) (drop f t.mask))) (sym same) row
 

@@ -1,7 +1,6 @@
 // metadata_first.rs: `AbtmMetadataFirstMatrix::from_csr32`, packing. The Rust sorts each row's entries. Here the words are built
 // first, as in the Rust, and each entry is then added at its column's rank among the row's words: a row takes as many steps as it
 // has entries, and copies of a column are added in stored order.
-// A row's rule and that its columns are inside are asked for: a row's structs have no column count to say them with.
 #![tactic(auto)]
 
 ghost use Rattle.std.specs.Prelude.{◌≡◌, true, ◌+◌, ◌≤◌, ◌<◌, ◌^◌, ltb, length, replicate};
@@ -16,7 +15,7 @@ ghost use Rattle.levels.specs.Ranks.{Ranks};
 ghost use Rattle.csr32.specs.Csr.{present};
 ghost use Rattle.csr32.specs.Matrix.{lent_csr};
 ghost use Rattle.csr32.specs.Row.{entries_of};
-ghost use Rattle.topology.specs.Words.{row_member, row_rule};
+ghost use Rattle.topology.specs.Words.{row_member};
 ghost use Rattle.topology.specs.Calls.{used_of};
 ghost use Rattle.topology.specs.Matrix.{lent_topology};
 ghost use Rattle.topology.proofs.RowLaws.{Row};
@@ -27,7 +26,7 @@ ghost use Rattle.metadata_first_build.specs.Making.{Valued, last_refusal};
 
 use csr32::{CheckedCsr32, Csr32Matrix, CsrRow};
 use hybit_core::HybitError;
-use topology::{AbtmTopology, AbtmTopologyRow, TopologySize};
+use topology::{AbtmTopology, AbtmTopologyRow, CheckedTopologyRow, TopologySize};
 
 // What the values are packed from: an accepted plot list, and its words.
 #[derive(Clone, Copy)]
@@ -38,14 +37,12 @@ struct Source<'a, 'b> {
 }
 
 // Notes each word of a row: its mask, and the place of its first value in the row.
-fn place_words(ncols: usize, row: AbtmTopologyRow, bits: &mut [u64], starts: &mut [u32])
-    requires columns { ncols ≤ 2 ^ 20 }
-    requires rule { row_rule ncols row.words.now row.masks.now ≡ true }
-    requires room { (ceil64 ncols ≤ length bits.old) × (ceil64 ncols ≤ length starts.old) }
-    ensures { Ranks (row_member row.entry.words.now row.entry.masks.now) ncols bits.new starts.new }
+fn place_words(checked: CheckedTopologyRow, bits: &mut [u64], starts: &mut [u32])
+    requires { (ceil64 checked.ncols ≤ length bits.old) × (ceil64 checked.ncols ≤ length starts.old) }
+    ensures { Ranks (row_member checked.entry.row.words.now checked.entry.row.masks.now) checked.entry.ncols bits.new starts.new }
 {
-    let words = row.words;
-    let masks = row.masks;
+    let words = checked.row.words;
+    let masks = checked.row.masks;
     let mut place: usize = 0;
     for (i, word) in words.iter().enumerate() {
         let index = *word as usize;
@@ -57,11 +54,10 @@ fn place_words(ncols: usize, row: AbtmTopologyRow, bits: &mut [u64], starts: &mu
 
 // Adds a row's entries, in stored order, each at its column's rank. The bitmap and its starts are only read here; above they are
 // written.
-fn add_entries(ncols: usize, entries: CsrRow, bits: &[u64], starts: &[u32], out: &mut [f64])
-    requires columns { (ncols ≤ 2 ^ 20) × (every (λ c. ltb c ncols) entries.cols.now ≡ true) }
-    requires ranks { Ranks (present (entries_of entries)) ncols bits.now starts.now }
-    requires zeros { out.old ≡ replicate (count (present (entries_of entries)) ncols) zero64 }
-    ensures { out.new ≡ row_values ncols (entries_of entries.entry) }
+fn add_entries(entries: CsrRow, bits: &[u64], starts: &[u32], out: &mut [f64])
+    requires ranks { Ranks (present (entries_of entries)) entries.ncols bits.now starts.now }
+    requires zeros { out.old ≡ replicate (count (present (entries_of entries)) entries.ncols) zero64 }
+    ensures { out.new ≡ row_values entries.entry.ncols (entries_of entries.entry) }
 {
     for (k, col) in entries.cols.iter().enumerate() {
         let c = *col as usize;
@@ -73,21 +69,23 @@ fn add_entries(ncols: usize, entries: CsrRow, bits: &[u64], starts: &[u32], out:
 
 // One row: its words, its entries, and its part of the values, all 0.0.
 fn pack_row(
-    ncols: usize,
     row: AbtmTopologyRow,
     entries: CsrRow,
     bits: &mut [u64],
     starts: &mut [u32],
     out: &mut [f64],
 )
-    requires columns { (ncols ≤ 2 ^ 20) × (every (λ c. ltb c ncols) entries.cols.now ≡ true) }
-    requires words { Row (present (entries_of entries)) ncols row.words.now row.masks.now }
-    requires room { (ceil64 ncols ≤ length bits.old) × (ceil64 ncols ≤ length starts.old) }
-    requires zeros { out.old ≡ replicate (count (present (entries_of entries)) ncols) zero64 }
-    ensures { out.new ≡ row_values ncols (entries_of entries.entry) }
+    requires words { Row (present (entries_of entries)) entries.ncols row.words.now row.masks.now }
+    requires room { (ceil64 entries.ncols ≤ length bits.old) × (ceil64 entries.ncols ≤ length starts.old) }
+    requires zeros { out.old ≡ replicate (count (present (entries_of entries)) entries.ncols) zero64 }
+    ensures { out.new ≡ row_values entries.entry.ncols (entries_of entries.entry) }
 {
-    place_words(ncols, row, bits, starts);
-    add_entries(ncols, entries, bits, starts, out);
+    let checked = CheckedTopologyRow {
+        ncols: entries.ncols,
+        row,
+    };
+    place_words(checked, bits, starts);
+    add_entries(entries, bits, starts, out);
 }
 
 // All rows, and where each starts. The values are 0.0 before.
@@ -118,7 +116,6 @@ fn pack_rows(
         };
         let to = at + topology::count_bits(row_words.masks);
         pack_row(
-            csr.matrix.ncols,
             row_words,
             csr.row(row),
             bits,

@@ -1,5 +1,5 @@
 // A row of a record: the numbers of its words, and their masks.
-ghost use Rattle.std.specs.Prelude.{◌≡◌, ℕ, true, ◌<◌, ◌^◌, length, get_or};
+ghost use Rattle.std.specs.Prelude.{◌≡◌, ℕ, true, ◌<◌, ◌≤◌, ◌^◌, length, get_or};
 ghost use Rattle.topology.specs.Words.{row_rule};
 
 #[derive(Clone, Copy)]
@@ -16,5 +16,6 @@ pub struct AbtmTopologyRow<'a> {
 pub struct CheckedTopologyRow<'a> {
     pub ncols: usize,
     pub row: AbtmTopologyRow<'a>,
+    pub ghost few: { ncols ≤ 2 ^ 20 },
     pub ghost rule: { row_rule ncols row.words.now row.masks.now ≡ true },
 }

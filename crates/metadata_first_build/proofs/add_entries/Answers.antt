@@ -9,40 +9,40 @@ pub loop-k-init : goal.loop-k-init
 loop-k-init c = adding_none _ _ _ _ c.requires.zeros
 
 pub offset_bounds-starts-index : goal.offset_bounds-starts-index
-offset_bounds-starts-index c = let h = adding_starts _ _ _ _ _ c.loop-k.invariant _ _ c.requires.ranks c.args.entries.paired c.requires.columns.1 (omega arith) _ refl in
+offset_bounds-starts-index c = let h = adding_starts _ _ _ _ _ c.loop-k.invariant _ _ c.requires.ranks c.args.entries.paired c.args.entries.inside (omega arith) _ refl in
     search rules
 
 pub bounds-starts-index : goal.bounds-starts-index
-bounds-starts-index c = adding_starts _ _ _ _ _ c.loop-k.invariant _ _ c.requires.ranks c.args.entries.paired c.requires.columns.1 (omega arith) _ refl
+bounds-starts-index c = adding_starts _ _ _ _ _ c.loop-k.invariant _ _ c.requires.ranks c.args.entries.paired c.args.entries.inside (omega arith) _ refl
 
 pub offset_bounds-bits-index : goal.offset_bounds-bits-index
-offset_bounds-bits-index c = let h = adding_bits _ _ _ _ _ c.loop-k.invariant _ _ c.requires.ranks c.args.entries.paired c.requires.columns.1 (omega arith) _ refl in
+offset_bounds-bits-index c = let h = adding_bits _ _ _ _ _ c.loop-k.invariant _ _ c.requires.ranks c.args.entries.paired c.args.entries.inside (omega arith) _ refl in
     search rules
 
 pub bounds-bits-index : goal.bounds-bits-index
-bounds-bits-index c = adding_bits _ _ _ _ _ c.loop-k.invariant _ _ c.requires.ranks c.args.entries.paired c.requires.columns.1 (omega arith) _ refl
+bounds-bits-index c = adding_bits _ _ _ _ _ c.loop-k.invariant _ _ c.requires.ranks c.args.entries.paired c.args.entries.inside (omega arith) _ refl
 
 pub overflow_add-place : goal.overflow_add-place
-overflow_add-place c = omega (arith, adding_fits _ _ _ _ _ c.loop-k.invariant _ _ c.requires.ranks c.args.entries.paired c.requires.columns.1 (omega arith) _ refl _ _ refl c.ones_below.ensures, c.requires.columns.0)
+overflow_add-place c = omega (arith, adding_fits _ _ _ _ _ c.loop-k.invariant _ _ c.requires.ranks c.args.entries.paired c.args.entries.inside (omega arith) _ refl _ _ refl c.ones_below.ensures, c.args.entries.few)
 
 pub offset_bounds-out-place : goal.offset_bounds-out-place
-offset_bounds-out-place c = let h = adding_fits _ _ _ _ _ c.loop-k.invariant _ _ c.requires.ranks c.args.entries.paired c.requires.columns.1 (omega arith) _ refl _ _ refl c.ones_below.ensures in
-    let k = c.requires.columns.0 in
+offset_bounds-out-place c = let h = adding_fits _ _ _ _ _ c.loop-k.invariant _ _ c.requires.ranks c.args.entries.paired c.args.entries.inside (omega arith) _ refl _ _ refl c.ones_below.ensures in
+    let k = c.args.entries.few in
     search rules
 
 pub bounds-out-place : goal.bounds-out-place
-bounds-out-place c = adding_place _ _ _ _ _ c.loop-k.invariant _ _ c.requires.ranks c.args.entries.paired c.requires.columns.1 (omega arith) _ refl _ _ refl c.ones_below.ensures
+bounds-out-place c = adding_place _ _ _ _ _ c.loop-k.invariant _ _ c.requires.ranks c.args.entries.paired c.args.entries.inside (omega arith) _ refl _ _ refl c.ones_below.ensures
 
 pub offset_bounds-out-place-in-loop-k : goal.offset_bounds-out-place-in-loop-k
-offset_bounds-out-place-in-loop-k c = let h = adding_fits _ _ _ _ _ c.loop-k.invariant _ _ c.requires.ranks c.args.entries.paired c.requires.columns.1 (omega arith) _ refl _ _ refl c.ones_below.ensures in
-    let k = c.requires.columns.0 in
+offset_bounds-out-place-in-loop-k c = let h = adding_fits _ _ _ _ _ c.loop-k.invariant _ _ c.requires.ranks c.args.entries.paired c.args.entries.inside (omega arith) _ refl _ _ refl c.ones_below.ensures in
+    let k = c.args.entries.few in
     search rules
 
 pub bounds-out-place-in-loop-k : goal.bounds-out-place-in-loop-k
-bounds-out-place-in-loop-k c = adding_place _ _ _ _ _ c.loop-k.invariant _ _ c.requires.ranks c.args.entries.paired c.requires.columns.1 (omega arith) _ refl _ _ refl c.ones_below.ensures
+bounds-out-place-in-loop-k c = adding_place _ _ _ _ _ c.loop-k.invariant _ _ c.requires.ranks c.args.entries.paired c.args.entries.inside (omega arith) _ refl _ _ refl c.ones_below.ensures
 
 pub loop-k-preserved : goal.loop-k-preserved
-loop-k-preserved c = adding_more _ _ _ _ _ c.loop-k.invariant _ _ c.requires.ranks c.args.entries.paired c.requires.columns.1 (omega arith) _ refl _ _ refl c.ones_below.ensures
+loop-k-preserved c = adding_more _ _ _ _ _ c.loop-k.invariant _ _ c.requires.ranks c.args.entries.paired c.args.entries.inside (omega arith) _ refl _ _ refl c.ones_below.ensures
 
 pub shape_of-out : goal.shape_of-out
 shape_of-out c = adding_same _ _ _ _ _ c.loop-k.invariant _ c.requires.zeros

@@ -2,7 +2,7 @@
 use mathlib.Core.Path.{refl}
 use native.Mathlib.Omega.{arith}
 use lib.ListN.{length-set}
-use Rattle.metadata_first_build.proofs.RowsLaws.{packing_none, packing_few, packing_words, packing_masks, packing_sides, packing_fit, packing_part, packing_columns, packing_row, packing_room, packing_zeros, packing_more, packing_same, packing_done}
+use Rattle.metadata_first_build.proofs.RowsLaws.{packing_none, packing_few, packing_words, packing_masks, packing_sides, packing_fit, packing_part, packing_row, packing_room, packing_zeros, packing_more, packing_same, packing_done}
 use borrow.Author.Rules.{rules}
 use Rattle.metadata_first_build.proofs.pack_rows.Goals as goal
 
@@ -76,10 +76,10 @@ slice_bounds-pack_row-end c = let h = packing_part _ c.args.source.csr.valid _ c
     search rules
 
 pub pack_row-requires : goal.pack_row-requires
-pack_row-requires c = record { columns = packing_columns _ c.args.source.csr.valid _ c.args.source.built _ _ _ _ _ _ _ _ c.loop-row.invariant c.loop-row-test.true _ _ refl refl _ c.count_bits.ensures _ _ c.row.ensures.cols c.row.ensures.vals; words = packing_row _ c.args.source.csr.valid _ c.args.source.built _ _ _ _ _ _ _ _ c.loop-row.invariant c.loop-row-test.true _ _ refl refl _ c.count_bits.ensures _ _ c.row.ensures.cols c.row.ensures.vals; room = packing_room _ c.args.source.csr.valid _ c.args.source.built _ _ _ _ _ _ _ _ c.loop-row.invariant c.loop-row-test.true _ _ refl refl _ c.count_bits.ensures _ _ c.row.ensures.cols c.row.ensures.vals c.requires.room; zeros = packing_zeros _ c.args.source.csr.valid _ c.args.source.built _ _ _ _ _ _ _ _ c.loop-row.invariant c.loop-row-test.true _ _ refl refl _ c.count_bits.ensures _ _ c.row.ensures.cols c.row.ensures.vals }
+pack_row-requires c = rw c.row.ensures.ncols (record { words = packing_row _ c.args.source.csr.valid _ c.args.source.built _ _ _ _ _ _ _ _ c.loop-row.invariant c.loop-row-test.true _ _ refl refl _ c.count_bits.ensures _ _ c.row.ensures.cols c.row.ensures.vals; room = packing_room _ c.args.source.csr.valid _ c.args.source.built _ _ _ _ _ _ _ _ c.loop-row.invariant c.loop-row-test.true _ _ refl refl _ c.count_bits.ensures _ _ c.row.ensures.cols c.row.ensures.vals c.requires.room; zeros = packing_zeros _ c.args.source.csr.valid _ c.args.source.built _ _ _ _ _ _ _ _ c.loop-row.invariant c.loop-row-test.true _ _ refl refl _ c.count_bits.ensures _ _ c.row.ensures.cols c.row.ensures.vals })
 
 pub loop-row-preserved : goal.loop-row-preserved
-loop-row-preserved c = packing_more _ c.args.source.csr.valid _ c.args.source.built _ _ _ _ _ _ _ _ c.loop-row.invariant c.loop-row-test.true _ _ refl refl _ c.count_bits.ensures _ _ c.row.ensures.cols c.row.ensures.vals _ _ _ _ c.narrow.ensures c.pack_row.auto.bits c.pack_row.auto.starts c.pack_row.ensures
+loop-row-preserved c = packing_more _ c.args.source.csr.valid _ c.args.source.built _ _ _ _ _ _ _ _ c.loop-row.invariant c.loop-row-test.true _ _ refl refl _ c.count_bits.ensures _ _ c.row.ensures.cols c.row.ensures.vals _ _ _ _ c.narrow.ensures c.pack_row.auto.bits c.pack_row.auto.starts (rw c.row.ensures.ncols at c.pack_row.ensures)
 
 pub bounds-row_value_ptr-csr : goal.bounds-row_value_ptr-csr
 bounds-row_value_ptr-csr c = omega (arith, c.loop-row.invariant.long_ptr)

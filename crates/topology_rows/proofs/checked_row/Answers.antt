@@ -5,4 +5,5 @@ pub invariant_of-framed : goal.invariant_of-framed
 invariant_of-framed c = record { framed = (row_checked _ _ _ c.check_row.ensures c.in_ok-check_row.was).facts.lists }
 
 pub invariant_of-result : goal.invariant_of-result
-invariant_of-result c = record { rule = rule_lent _ _ (row_checked _ _ _ c.check_row.ensures c.in_ok-check_row.was) _ _ c.row.ensures.words c.row.ensures.masks }
+invariant_of-result c = let ok = row_checked _ _ _ c.check_row.ensures c.in_ok-check_row.was in
+    record { few = ok.facts.cols_in; rule = rule_lent _ _ ok _ _ c.row.ensures.words c.row.ensures.masks }

@@ -13,7 +13,7 @@ use borrow.Author.Tests.{eq-eqb, ne_eqb, eqb-true, ltb-true, lt-ltb, le-ltb}
 use Rattle.hybit_core.specs.Answer.{accepted}
 use Rattle.hybit_core.specs.Floats.{zero64}
 use Rattle.hybit_core.proofs.BoolLaws.{same_test}
-use Rattle.lent.specs.Lists.{joined, each, only, every, some, spread}
+use Rattle.lent.specs.Lists.{part, joined, each, only, every, some, spread}
 use Rattle.lent.proofs.ListLaws.{each_cong, each_is, each_same, get_or-each, length-each, every_by, every-at, every-listed, some_left, some_by, joined_at}
 use Rattle.word.specs.Bits.{below, count}
 use Rattle.word.proofs.BelowLaws.{below_cong}
@@ -23,8 +23,7 @@ use Rattle.mask.specs.Calls.{listed}
 use Rattle.mask.proofs.MaskLaws.{bit_of_words}
 use Rattle.levels.specs.Ranks.{Ranks}
 use Rattle.csr32.specs.Csr.{Csr, Entry, csr_answer, entries, merged, of_column}
-use Rattle.csr32.proofs.FrameLaws.{RowIn}
-use Rattle.csr32.proofs.CsrLaws.{valid, row_of, entries_lent, row_lent}
+use Rattle.csr32.proofs.CsrLaws.{valid, row_sides, row_columns}
 use Rattle.dense_block.specs.Blocks.{width_of, blocks_for, inside, band, block_has, row_blocks, place_value, block_of}
 use Rattle.dense_block.specs.declared.DenseBlockSize.{DenseBlockSize}
 use Rattle.dense_block.specs.declared.DenseBlockSize.TheVariants.{B3, B6}
@@ -190,21 +189,11 @@ module _ (m : Csr) (s : DenseBlockSize) (R : ℕ) (ok : csr_answer m ≡ accepte
     pub band-few : v * R + k + 1 ≤ 2 ^ 20
     band-few = omega (arith, band_row, (valid m ok).rows_in)
 
-    pub band_pointers : RowIn m.ptr (length m.col) (v * R + k)
-    band_pointers = row_of (valid m ok) band_row
-
-    module _ (a b : ℕ) (ea : a ≡ get_or m.ptr (v * R + k) 0) (eb : b ≡ get_or m.ptr (v * R + k + 1) 0) where
-      pub band_order : a ≤ b
-      band_order = omega (arith, band_pointers.order)
-
-      pub band-left : b ≤ length m.col
-      band-left = omega (arith, band_pointers.inside)
-
-      pub band_right : b ≤ length m.val
-      band_right = omega (arith, band-left, (valid m ok).sides)
-
-      pub band-entries : zip (take (b - a) (drop a m.col)) (take (b - a) (drop a m.val)) ≡ entries m (width_of s * R + k)
-      band-entries = entries_lent m (v * R + k) a b ea eb ∙ ap (λ (u : ℕ). entries m (u * R + k)) e
+    -- cs and vs are the columns and values of the row's entries
+    module _ (cs : List ℕ) (vs : List Float) (ec : cs ≡ part m.ptr m.col (v * R + k)) (ev : vs ≡ part m.ptr m.val (v * R + k)) where
+      pub band-entries : zip cs vs ≡ entries m (width_of s * R + k)
+      unfolding entries
+      band-entries = ap₂ (λ (a : List ℕ) (b : List Float). zip a b) ec ev ∙ ap (λ (u : ℕ). entries m (u * R + k)) e
 
       -- the bits are the block row's block columns
       module _ (bits : List ℕ) (is : bits ≡ mask_words (listed (row_blocks m (width_of s) R)) (blocks_for (width_of s) m.cols)) where
@@ -222,14 +211,8 @@ module _ (m : Csr) (s : DenseBlockSize) (R : ℕ) (ok : csr_answer m ≡ accepte
         unfolding row_blocks
         band_columns = below_cong (bit_at bits) (block_has m (width_of s) R) n (λ c l. bit_is c l ∙ has_block c l)
 
-        abbrev cs : List ℕ
-        cs = take (b - a) (drop a m.col)
-
-        abbrev vs : List Float
-        vs = take (b - a) (drop a m.val)
-
         lent : (length vs ≡ length cs) × (every (λ c. ltb c m.cols) cs ≡ true)
-        lent = row_lent (valid m ok) (v * R + k) a b m.cols ea eb refl
+        lent = rw (ec, ev) (sym (row_sides (valid m ok) (v * R + k)), row_columns (valid m ok) (v * R + k))
 
         in_block_lem : (c : ℕ) → some (λ d. eqb d c) cs ≡ true → block_has m (width_of s) R (c / width_of s) ≡ true
         unfolding block_has band

@@ -5,10 +5,11 @@ use mathlib.Core.List.{List, map, zip}
 use mathlib.Core.Path.{◌≡◌, refl, sym, ap, ap₂, ◌∙◌}
 use Prim.Native.Nat.{ℕ, suc, ◌^◌, ◌≤◌, ◌<◌}
 use native.Mathlib.Omega.{arith}
-use lib.Dec.{eqb, ltb}
+use native.Mathlib.Decide.{dec_lt}
+use lib.Dec.{eqb, leb, ltb}
 use lib.ListN.{length, length-map}
 use lib.Ieee.{Float}
-use borrow.Author.Tests.{le-leb, eq-eqb}
+use borrow.Author.Tests.{le-leb, lt-leb, lt-ltb, le-ltb, eq-eqb}
 use Rattle.hybit_core.specs.Answer.{Answer, accepted, demand, ◌and_then◌}
 use Rattle.hybit_core.specs.Domain.{few, many, sizes_fit}
 use Rattle.hybit_core.specs.Floats.{zero64, finite}
@@ -17,7 +18,7 @@ use Rattle.lent.specs.Lists.{joined, starts, part, every}
 use Rattle.lent.proofs.ListLaws.{map-joined, part-joined, zip_maps, map_id, length-starts, every-joined, every_map, every_by, every-all}
 use Rattle.lent.proofs.LentLaws.{handed_used}
 use Rattle.csr32.specs.Csr.{Csr, Entry, framed, framed_lists, csr_sizes, csr_rules, csr_answer, entries}
-use Rattle.csr32.specs.Made.{csr_of, CsrRoom, csr_left}
+use Rattle.csr32.specs.Made.{csr_of, CsrRoom, fits_csr, csr_left}
 use Rattle.csr32.proofs.FrameLaws.{framed-starts}
 
 -- ---- its rows
@@ -94,3 +95,17 @@ module _ (rows cols : ℕ) (row : ℕ → List Entry) where
       let col = handed_used 0 room.col a (length m.val) m.col e (made_columns ∙ sym made_values) in
       let val = handed_used zero64 room.val a (length m.val) m.val e refl in
       λ i. record { rows = rows; cols = cols; ptr = ptr i; col = col i; val = val i }
+
+-- ---- room for a plot list
+
+pub below_is : (m n : ℕ) → ltb m n ≡ leb (suc m) n
+below_is m n = go (dec_lt m n)
+  where
+    go : Dec (m < n) → ltb m n ≡ leb (suc m) n
+    go (yes h) = lt-ltb m n h ∙ sym (le-leb (suc m) n (omega arith))
+    go (no h) = le-ltb m n (omega arith) ∙ sym (lt-leb (suc m) n (omega arith))
+
+-- as `holds` answers
+pub room_fits : (m : Csr) (room : CsrRoom) (rows kept : ℕ) → length m.ptr ≡ suc rows → length m.col ≡ kept → length m.val ≡ kept → (ltb rows room.ptr && leb kept room.col && leb kept room.val) ≡ fits_csr m room
+unfolding fits_csr
+room_fits m room rows kept p c v = rw (p, c, v, below_is rows room.ptr)

@@ -5,6 +5,7 @@ use Rattle.hybit_core.specs.Floats.{zero64}
 use Rattle.lent.specs.Lists.{joined, starts, only}
 use Rattle.lent.specs.Lent.{handed}
 use Rattle.csr32.specs.Csr.{Csr, Entry}
+use Rattle.csr32.specs.declared.capacity.CsrCapacity.{CsrCapacity}
 
 -- the entries in the columns of a test, in stored order
 abbrev pub entries_in : (ℕ → Bool) → List Entry → List Entry
@@ -28,6 +29,9 @@ pub record CsrRoom : Type 0 where
 
 abbrev pub as_csr_room : ℕ → ℕ → ℕ → CsrRoom
 as_csr_room p c v = record { ptr = p; col = c; val = v }
+
+abbrev pub room_of : CsrCapacity → CsrRoom
+room_of c = as_csr_room c.row_ptr c.col_idx c.values
 
 -- 13 finds nothing
 unfoldable pub fits_csr : Csr → CsrRoom → Bool

@@ -1,7 +1,7 @@
 // csr32.rs: `Csr32Matrix`, the plot list. Its lists are lent by the caller, and every call checks them.
 #![tactic(auto)]
 
-ghost use Rattle.std.specs.Prelude.{◌≡◌, true, cond, ◌&&◌, ◌-◌, ltb, length};
+ghost use Rattle.std.specs.Prelude.{◌≡◌, true, cond, ◌&&◌, ◌-◌, leb, ltb, length};
 ghost use Rattle.hybit_core.specs.Answer.{answers, on_given};
 ghost use Rattle.hybit_core.specs.Domain.{few};
 ghost use Rattle.hybit_core.specs.Floats.{finite};
@@ -9,13 +9,16 @@ ghost use Rattle.hybit_core.specs.Table.{told, given};
 ghost use Rattle.lent.specs.Lists.{every, rises, part};
 ghost use Rattle.csr32.specs.Matrix.{lent_csr};
 ghost use Rattle.csr32.specs.Window.{in_window};
+ghost use Rattle.csr32.specs.Made.{as_csr_room, room_of};
 ghost use Rattle.csr32.specs.Csr.{framed, framed_lists, csr_answer, csr_metadata_bytes, csr_storage_bytes};
 
 use hybit_core::HybitError;
 
+mod capacity;
 mod checked;
 mod matrix;
 
+pub use capacity::CsrCapacity;
 pub use checked::{CheckedCsr32, CsrRow};
 pub use matrix::Csr32Matrix;
 
@@ -138,6 +141,25 @@ pub fn place_in_window(column: u32, base: usize, width: usize) -> Option<usize>
         return None;
     }
     Some(place)
+}
+
+impl CsrCapacity {
+    pub fn of(row_ptr: &[u32], col_idx: &[u32], values: &[f64]) -> CsrCapacity
+        ensures { room_of result ≡ as_csr_room (length row_ptr.now) (length col_idx.now) (length values.now) }
+    {
+        CsrCapacity {
+            row_ptr: row_ptr.len(),
+            col_idx: col_idx.len(),
+            values: values.len(),
+        }
+    }
+
+    // Whether so many rows with so many entries in all fit.
+    pub fn holds(self, nrows: usize, entries: usize) -> bool
+        ensures { result ≡ (ltb nrows self.row_ptr && leb entries self.col_idx && leb entries self.values) }
+    {
+        nrows < self.row_ptr && entries <= self.col_idx && entries <= self.values
+    }
 }
 
 impl<'a> Csr32Matrix<'a> {

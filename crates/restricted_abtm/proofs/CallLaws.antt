@@ -1,12 +1,12 @@
 -- The checks at each return of the code, and what a call answers. Assumes nothing.
 use Rattle.std.specs.Prelude.{Result, Ok, Err}
-use mathlib.Core.Bool.{Bool, true, false, ◌&&◌}
+use mathlib.Core.Bool.{Bool, true, false, not, ◌&&◌}
 use mathlib.Core.List.{List, [], zip}
 use mathlib.Core.Path.{◌≡◌, refl, sym, ap, ◌∙◌}
 use Prim.Native.Nat.{ℕ, ◌+◌, ◌≤◌, ◌<◌, ◌^◌, min}
 use native.Mathlib.Numerals.{add-one}
 use native.Mathlib.Omega.{arith}
-use lib.Dec.{leb}
+use lib.Dec.{leb, ltb}
 use lib.ListN.{length, get_or, take}
 use lib.Ieee.{Float}
 use borrow.Author.Tests.{leb-true}
@@ -15,7 +15,7 @@ use Rattle.hybit_core.specs.Domain.{few, many}
 use Rattle.hybit_core.specs.Floats.{finite}
 use Rattle.hybit_core.specs.Table.{paper, told, given}
 use Rattle.hybit_core.specs.declared.HybitError.{HybitError}
-use Rattle.hybit_core.proofs.BoolLaws.{and_first, and-next, and_left, and_right, is_within, is_above}
+use Rattle.hybit_core.proofs.BoolLaws.{and_first, and-next, and_left, and_right, flag_on, flag_off, is_within, is_above}
 use Rattle.hybit_core.proofs.AnswerLaws.{demand_accepted, accepted_by, then_second, test_fails, test_passes, last_fails, last_passes, last_length_wrong, last_length_right, call_refused, call_accepted, by_records}
 use Rattle.lent.specs.Lists.{joined, every}
 use Rattle.lent.specs.Lent.{Appended, padded}
@@ -24,7 +24,7 @@ use Rattle.mask.specs.Mask.{Mask, as_mask, mask_rules, mask_answer}
 use Rattle.mask.proofs.MaskLaws.{Valid}
 use Rattle.csr32.specs.Csr.{Csr, Entry}
 use Rattle.csr32.specs.Made.{csr_of, CsrRoom, as_csr_room, fits_csr}
-use Rattle.csr32.proofs.MadeLaws.{made_columns, made_values, made_pointers}
+use Rattle.csr32.proofs.MadeLaws.{made_columns, made_values, made_pointers, below_is}
 use Rattle.abtm.specs.Tiles.{Tiles, tile_sizes, tiles_rules, tiles_answer, listed_tiles}
 use Rattle.abtm_check.proofs.TilesLaws.{AcceptedTiles}
 use Rattle.restricted.specs.declared.ColumnRestriction.{ColumnRestriction}
@@ -50,22 +50,16 @@ module _ (rows : ℕ) (kept : List Entry) (np nc nv : ℕ) where
       unfolding kept_answer
       by_room a e = test_passes (every (λ (e : Entry). finite e.1) kept) 4 _ _ f (test_passes (many (length kept)) 1 _ _ (m ∙ ap many ek) e)
 
-      pub few_pointers : np ≤ rows → refused (plain 13) ≡ kept_answer rows kept (as_csr_room np nc nv)
-      few_pointers l = by_room _ (last_fails _ 13 (and_first (leb (rows + 1) np && leb (length kept) nc) (leb (length kept) nv) (and_first (leb (rows + 1) np) (leb (length kept) nc) (is_above (rows + 1) np (omega arith)))))
+      -- r tells whether they fit, as the code finds it
+      module _ (r : Bool) (e : r ≡ (ltb rows np && leb k nc && leb k nv)) where
+        held : r ≡ (leb (rows + 1) np && leb (length kept) nc && leb (length kept) nv)
+        held = rw (add-one rows, ← ek, ← below_is rows np) e
 
-      module _ (p : rows < np) where
-        pub few_columns : nc < k → refused (plain 13) ≡ kept_answer rows kept (as_csr_room np nc nv)
-        few_columns l = by_room _ (last_fails _ 13 (and_first (leb (rows + 1) np && leb (length kept) nc) (leb (length kept) nv) (and-next (leb (rows + 1) np) (leb (length kept) nc) false (is_within (rows + 1) np (omega arith)) (is_above (length kept) nc (omega arith)))))
+        pub few_places : not r ≡ true → refused (plain 13) ≡ kept_answer rows kept (as_csr_room np nc nv)
+        few_places f = by_room _ (last_fails _ 13 (flag_off (leb (rows + 1) np && leb (length kept) nc && leb (length kept) nv) r held f))
 
-        module _ (c : k ≤ nc) where
-          columns_in_lem : true ≡ (leb (rows + 1) np && leb (length kept) nc)
-          columns_in_lem = and-next (leb (rows + 1) np) (leb (length kept) nc) true (is_within (rows + 1) np (omega arith)) (is_within (length kept) nc (omega arith))
-
-          pub few_values : nv < k → refused (plain 13) ≡ kept_answer rows kept (as_csr_room np nc nv)
-          few_values l = by_room _ (last_fails _ 13 (and-next (leb (rows + 1) np && leb (length kept) nc) (leb (length kept) nv) false columns_in_lem (is_above (length kept) nv (omega arith))))
-
-          pub kept-good : k ≤ nv → accepted ≡ kept_answer rows kept (as_csr_room np nc nv)
-          kept-good l = by_room _ (last_passes _ 13 (and-next (leb (rows + 1) np && leb (length kept) nc) (leb (length kept) nv) true columns_in_lem (is_within (length kept) nv (omega arith))))
+        pub kept-good : not r ≡ false → accepted ≡ kept_answer rows kept (as_csr_room np nc nv)
+        kept-good f = by_room _ (last_passes _ 13 (flag_on (leb (rows + 1) np && leb (length kept) nc && leb (length kept) nv) r held f))
 
 -- ---- the checks of the two records, as the calls of theirs give them
 

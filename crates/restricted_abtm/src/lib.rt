@@ -14,7 +14,7 @@ ghost use Rattle.lent.specs.Lists.{every};
 ghost use Rattle.lent.specs.Lent.{Appended, built, padded};
 ghost use Rattle.word.specs.Bits.{members};
 ghost use Rattle.csr32.specs.Csr.{Entry};
-ghost use Rattle.csr32.specs.Made.{as_csr_room};
+ghost use Rattle.csr32.specs.Made.{as_csr_room, room_of};
 ghost use Rattle.abtm.specs.Tiles.{word_in};
 ghost use Rattle.restricted.specs.Restricted.{restricted_tiles, restrict_tiles_answer, tile_restriction_of};
 ghost use Rattle.restricted_abtm.specs.Kept.{place_in, value_in, kept_all, kept_count, kept_answer, bits_inside, tile_ready, records_answer, last_answer, Restriction};
@@ -23,6 +23,7 @@ ghost use Rattle.abtm.specs.Row.{listed_of};
 ghost use Rattle.mask.specs.Dof.{lent_mask};
 
 use abtm::{AbtmMatrix, TileDesc, TileRow};
+use csr32::CsrCapacity;
 use hybit_core::HybitError;
 use mask::DofMask;
 use restricted::ColumnRestriction;
@@ -220,16 +221,10 @@ fn count_kept(listed: ReadyTiles) -> usize
     kept
 }
 
-// The tests of what is kept: 4, 1, 13. The rooms are three numbers of this call alone: a struct of them would be no plainer.
-fn examine_kept(
-    nrows: usize,
-    listed: ReadyTiles,
-    pointer_room: usize,
-    column_room: usize,
-    value_room: usize,
-) -> Result<(), HybitError>
+// The tests of what is kept: 4, 1, 13.
+fn examine_kept(nrows: usize, listed: ReadyTiles, capacity: CsrCapacity) -> Result<(), HybitError>
     requires { length listed.tiles.masks.now ≤ 2 ^ 24 }
-    ensures { told result ≡ kept_answer nrows (kept_all listed.entry.values.now listed.entry.mask.now (listed_of listed.entry.tiles)) (as_csr_room pointer_room column_room value_room) }
+    ensures { told result ≡ kept_answer nrows (kept_all listed.entry.values.now listed.entry.mask.now (listed_of listed.entry.tiles)) (room_of capacity) }
 {
     if !kept_finite(listed) {
         return Err(HybitError::NotFinite);
@@ -238,13 +233,7 @@ fn examine_kept(
     if !hybit_core::entries_fit(kept) {
         return Err(HybitError::SizeOverflow);
     }
-    if pointer_room <= nrows {
-        return Err(HybitError::ShortList);
-    }
-    if column_room < kept {
-        return Err(HybitError::ShortList);
-    }
-    if value_room < kept {
+    if !capacity.holds(nrows, kept) {
         return Err(HybitError::ShortList);
     }
     Ok(())
@@ -305,26 +294,15 @@ fn fill<'a>(
         values: tiles.values,
         mask: mask.words,
     };
+    let capacity = CsrCapacity::of(out_row_ptr, out_col_idx, out_values);
     if out_row_ptr.len() <= tiles.nrows {
-        examine_kept(
-            tiles.nrows,
-            listed,
-            out_row_ptr.len(),
-            out_col_idx.len(),
-            out_values.len(),
-        )?;
+        examine_kept(tiles.nrows, listed, capacity)?;
         return Err(HybitError::ShortList);
     }
     let room = out_col_idx.len().min(out_values.len());
     let kept = fill_rows(tiles, mask, room, out_row_ptr, out_col_idx, out_values);
     if room < kept {
-        examine_kept(
-            tiles.nrows,
-            listed,
-            out_row_ptr.len(),
-            out_col_idx.len(),
-            out_values.len(),
-        )?;
+        examine_kept(tiles.nrows, listed, capacity)?;
         return Err(HybitError::ShortList);
     }
     examine_written(&out_values[..kept])?;

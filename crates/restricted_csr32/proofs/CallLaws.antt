@@ -1,42 +1,28 @@
 -- The checks of a restriction at each return of the code, and what an accepted one leaves. Assumes nothing.
 use Rattle.std.specs.Prelude.{Result, Ok, Err}
-use mathlib.Core.Bool.{Bool, true, false, ◌&&◌}
+use mathlib.Core.Bool.{Bool, true, false, not, ◌&&◌}
 use mathlib.Core.Path.{◌≡◌, refl, sym, ap, ◌∙◌}
 use Prim.Native.Nat.{ℕ, suc, ◌≤◌, ◌<◌}
 use native.Mathlib.Omega.{arith}
-use lib.Dec.{leb}
+use lib.Dec.{leb, ltb}
 use lib.ListN.{length}
 use Rattle.hybit_core.specs.Answer.{Answer, accepted, refused, plain, lengths_differ, demand, length_is, ◌and_then◌}
 use Rattle.hybit_core.specs.Domain.{few}
 use Rattle.hybit_core.specs.Table.{paper, told}
 use Rattle.hybit_core.specs.declared.HybitError.{HybitError}
-use Rattle.hybit_core.proofs.BoolLaws.{and_first, is_within, is_above}
+use Rattle.hybit_core.proofs.BoolLaws.{and_first, flag_on, flag_off}
 use Rattle.hybit_core.proofs.AnswerLaws.{test_fails, last_fails, last_passes, length_wrong, length_right, call_refused, call_accepted, by_records}
 use Rattle.lent.specs.Lists.{only}
 use Rattle.mask.specs.Mask.{Mask, active, mask_rules, mask_answer}
 use Rattle.csr32.specs.Csr.{Csr, csr_sizes, csr_rules, csr_answer}
 use Rattle.csr32.specs.Made.{CsrRoom, fits_csr}
 use Rattle.csr32.proofs.CsrLaws.{checked}
-use Rattle.csr32.proofs.MadeLaws.{made_pointers, made_columns, made_values}
+use Rattle.csr32.proofs.MadeLaws.{made_pointers, made_columns, made_values, room_fits}
 use Rattle.restricted.specs.Restricted.{restricted, restrict_answer, restriction_of}
 use Rattle.restricted.specs.declared.ColumnRestriction.{ColumnRestriction}
 use Rattle.restricted_csr32.proofs.FillLaws.{kept_row, kept-count}
 
 -- ---- the checks, as the calls of the two records' checks give them
-
-second_fails : (p c v : Bool) → false ≡ c → false ≡ (p && c && v)
-second_fails true c v e = and_first c v e
-second_fails false c v e = refl
-
-third_fails : (p c v : Bool) → false ≡ v → false ≡ (p && c && v)
-third_fails true true v e = e
-third_fails true false v e = refl
-third_fails false c v e = refl
-
-all_pass : (p c v : Bool) → true ≡ p → true ≡ c → true ≡ v → true ≡ (p && c && v)
-all_pass true true v a b e = e
-all_pass true false v a b e = b
-all_pass false c v a b e = a
 
 abbrev own_checks : Csr → Mask → CsrRoom → Answer
 own_checks m a room = length_is m.cols a.size and_then demand (fits_csr (restricted m a) room) 13
@@ -85,27 +71,16 @@ module _ (m : Csr) (a : Mask) (room : CsrRoom) where
           unfolding restricted
           values = made_values m.rows m.cols (kept_row m a) ∙ kept-count m a (checked m v h k)
 
-          pub short_pointers : room.ptr ≤ m.rows → refused (plain 13) ≡ restrict_answer m a room
-          unfolding fits_csr
-          short_pointers s = by_room _ (last_fails (fits_csr (restricted m a) room) 13 (and_first _ _ (and_first _ _ (is_above (length (restricted m a).ptr) room.ptr (omega (arith, pointers))))))
+          -- n entries are kept, and r tells whether they fit, as the code finds both
+          module _ (n : ℕ) (e : n ≡ length (only (active a) m.col)) (r : Bool) (f : r ≡ (ltb m.rows room.ptr && leb n room.col && leb n room.val)) where
+            fits : r ≡ fits_csr (restricted m a) room
+            fits = f ∙ room_fits (restricted m a) room m.rows n pointers (columns ∙ sym e) (values ∙ sym e)
 
-          -- n entries are kept, as the code counts them
-          module _ (n : ℕ) (e : n ≡ length (only (active a) m.col)) where
-            pub short_columns : room.col < n → refused (plain 13) ≡ restrict_answer m a room
-            unfolding fits_csr
-            short_columns s = by_room _ (last_fails (fits_csr (restricted m a) room) 13 (second_fails (leb (length (restricted m a).ptr) room.ptr) _ (leb (length (restricted m a).val) room.val) (is_above (length (restricted m a).col) room.col (omega (arith, columns)))))
+            pub no_room : not r ≡ true → refused (plain 13) ≡ restrict_answer m a room
+            no_room q = by_room _ (last_fails (fits_csr (restricted m a) room) 13 (flag_off (fits_csr (restricted m a) room) r fits q))
 
-            pub short_values : room.val < n → refused (plain 13) ≡ restrict_answer m a room
-            unfolding fits_csr
-            short_values s = by_room _ (last_fails (fits_csr (restricted m a) room) 13 (third_fails (leb (length (restricted m a).ptr) room.ptr) (leb (length (restricted m a).col) room.col) _ (is_above (length (restricted m a).val) room.val (omega (arith, values)))))
-
-            pub all-good : m.rows < room.ptr → n ≤ room.col → n ≤ room.val → accepted ≡ restrict_answer m a room
-            unfolding fits_csr
-            all-good p q r =
-                by_room _ (last_passes (fits_csr (restricted m a) room) 13 (all_pass _ _ _
-                (is_within (length (restricted m a).ptr) room.ptr (omega (arith, pointers)))
-                (is_within (length (restricted m a).col) room.col (omega (arith, columns)))
-                (is_within (length (restricted m a).val) room.val (omega (arith, values)))))
+            pub all-good : not r ≡ false → accepted ≡ restrict_answer m a room
+            all-good q = by_room _ (last_passes (fits_csr (restricted m a) room) 13 (flag_on (fits_csr (restricted m a) room) r fits q))
 
 -- ---- the numbers that an accepted one answers
 

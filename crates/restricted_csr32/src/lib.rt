@@ -12,13 +12,13 @@ ghost use Rattle.hybit_core.specs.Table.{told, given};
 ghost use Rattle.lent.specs.Lent.{Appended, built};
 ghost use Rattle.mask.specs.Mask.{active};
 ghost use Rattle.csr32.specs.Csr.{Entry};
-ghost use Rattle.csr32.specs.Made.{entries_in, as_csr_room};
+ghost use Rattle.csr32.specs.Made.{entries_in, as_csr_room, room_of};
 ghost use Rattle.restricted.specs.Restricted.{restricted, restrict_answer, restriction_of};
 ghost use Rattle.csr32.specs.Matrix.{lent_csr};
 ghost use Rattle.csr32.specs.Row.{entries_of};
 ghost use Rattle.mask.specs.Dof.{lent_mask};
 
-use csr32::{CheckedCsr32, Csr32Matrix, CsrRow};
+use csr32::{CheckedCsr32, Csr32Matrix, CsrCapacity, CsrRow};
 use hybit_core::HybitError;
 use mask::DofMask;
 use restricted::ColumnRestriction;
@@ -72,16 +72,10 @@ fn fill_rows(
     at
 }
 
-// The rooms are three numbers of this one call, and the mismatch stands beside its test: a struct and a function are no plainer.
+// The mismatch stands beside its test: a function for it would be no plainer.
 // restricted_abtm asks the same of tiles, demand_examine of a list with its question: the record or what follows differs.
-fn examine(
-    csr: Csr32Matrix,
-    mask: DofMask,
-    pointer_room: usize,
-    column_room: usize,
-    value_room: usize,
-) -> Result<(), HybitError>
-    ensures { told result ≡ restrict_answer (lent_csr csr.entry) (lent_mask mask.entry) (as_csr_room pointer_room column_room value_room) }
+fn examine(csr: Csr32Matrix, mask: DofMask, capacity: CsrCapacity) -> Result<(), HybitError>
+    ensures { told result ≡ restrict_answer (lent_csr csr.entry) (lent_mask mask.entry) (room_of capacity) }
 {
     if !hybit_core::dimension_fits(mask.len) {
         return Err(HybitError::SizeOverflow);
@@ -95,13 +89,7 @@ fn examine(
         });
     }
     let kept = restricted::count_active(csr.col_idx, mask);
-    if pointer_room <= csr.nrows {
-        return Err(HybitError::ShortList);
-    }
-    if column_room < kept {
-        return Err(HybitError::ShortList);
-    }
-    if value_room < kept {
+    if !capacity.holds(csr.nrows, kept) {
         return Err(HybitError::ShortList);
     }
     Ok(())
@@ -121,13 +109,8 @@ pub fn from_csr32(
     ensures columns { out_col_idx.new ≡ built 0 (length out_col_idx.old) (restrict_answer (lent_csr csr.entry) (lent_mask mask.entry) (as_csr_room (length out_row_ptr.old) (length out_col_idx.old) (length out_values.old))) (restricted (lent_csr csr.entry) (lent_mask mask.entry)).col }
     ensures values { out_values.new ≡ built zero64 (length out_values.old) (restrict_answer (lent_csr csr.entry) (lent_mask mask.entry) (as_csr_room (length out_row_ptr.old) (length out_col_idx.old) (length out_values.old))) (restricted (lent_csr csr.entry) (lent_mask mask.entry)).val }
 {
-    let v = examine(
-        csr,
-        mask,
-        out_row_ptr.len(),
-        out_col_idx.len(),
-        out_values.len(),
-    );
+    let capacity = CsrCapacity::of(out_row_ptr, out_col_idx, out_values);
+    let v = examine(csr, mask, capacity);
     if let Err(e) = v {
         lent::clear_from(out_row_ptr, 0);
         lent::clear_from(out_col_idx, 0);

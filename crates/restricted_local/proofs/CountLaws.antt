@@ -1,6 +1,6 @@
 -- The numbers of a region: counted row by row, what they are of the local list, and that a count of entries stays below 2^24.
 -- Assumes nothing.
-use mathlib.Core.Bool.{Bool, true, false, ◌&&◌}
+use mathlib.Core.Bool.{Bool, true, false, not, ◌&&◌}
 use mathlib.Core.List.{List, [], ◌∷◌, ◌++◌, append-nil, append_assoc, map}
 use mathlib.Core.Path.{◌≡◌, refl, sym, ap, ◌∙◌}
 use Prim.Native.Nat.{ℕ, zero, suc, ◌+◌, ◌*◌, ◌^◌, ◌≤◌, ◌<◌}
@@ -9,7 +9,7 @@ use lib.Dec.{leb, ltb}
 use lib.ListN.{length, get_or, length-append, length-map}
 use lib.Ieee.{Float}
 use borrow.Author.Tests.{leb-true, le-leb}
-use Rattle.hybit_core.proofs.BoolLaws.{and_left, and_right, and_both}
+use Rattle.hybit_core.proofs.BoolLaws.{and_left, and_right, and_first, and_second, and-next, flag_on, flag_off, is_within, is_above}
 use Rattle.lent.specs.Lists.{cons_if, every, joined, only, part, spread}
 use Rattle.lent.proofs.ListLaws.{joined_lengths, joined-le, length-only, length-joined-suc, spread-append}
 use Rattle.lent.proofs.PartLaws.{length-zip}
@@ -20,7 +20,7 @@ use Rattle.csr32.specs.Csr.{Csr, Entry, entries}
 use Rattle.csr32.specs.Made.{entries_in, CsrRoom, fits_csr}
 use Rattle.csr32.proofs.FrameLaws.{part_length, parts_all}
 use Rattle.csr32.proofs.CsrLaws.{Valid, valid, row_of, row_sides, row_columns}
-use Rattle.csr32.proofs.MadeLaws.{made_columns, made_values, made_pointers}
+use Rattle.csr32.proofs.MadeLaws.{made_columns, made_values, made_pointers, room_fits}
 use Rattle.restricted.specs.Local.{region_members, renumbered, local_list, region_entries, fits_local, region_of}
 use Rattle.restricted.specs.declared.LocalRegion.{LocalRegion}
 use Rattle.restricted.proofs.KeepLaws.{length-kept}
@@ -224,29 +224,20 @@ module _ (m : Csr) (a : Mask) (room : CsrRoom) where
       unfolding region_of
       kept_is = ap (λ (t : LocalRegion). t.local_nnz) is
 
-      pub room_fails : (Held s.local_nodes s.local_nnz places room → ⊥) → false ≡ fits_local m a places room
-      room_fails not = go (fits_local m a places room) refl
-        where
-          go : (t : Bool) → fits_local m a places room ≡ t → false ≡ t
-          go false e = refl
-          go true e =
-              let f = local_fits e in
-              let h = fits_facts f.1 in
-              absurd (not (record {
-                members_in = omega (arith, nodes_is, f.0);
-                pointers_in = omega (arith, nodes_is, h.pointers_in);
-                columns_in = omega (arith, kept_is, h.columns_in);
-                values_in = omega (arith, kept_is, h.values_in);
-              }))
+      pub members_short : places < s.local_nodes → false ≡ fits_local m a places room
+      unfolding fits_local
+      members_short h = and_first (leb (length (region_members a)) places) (fits_csr (local_list m a) room) (is_above (length (region_members a)) places (omega (arith, nodes_is)))
 
-      pub room_holds : Held s.local_nodes s.local_nnz places room → true ≡ fits_local m a places room
-      unfolding fits_local fits_csr
-      room_holds h =
-          let n : Bool = leb (length (region_members a)) places in
-          let p : Bool = leb (length (local_list m a).ptr) room.ptr in
-          let c : Bool = leb (length (local_list m a).col) room.col in
-          let v : Bool = leb (length (local_list m a).val) room.val in
-          sym (and_both n (p && c && v) (le-leb (length (region_members a)) places (omega (arith, nodes_is, h.members_in)))
-          (and_both (p && c) v
-          (and_both p c (le-leb (length (local_list m a).ptr) room.ptr (omega (arith, nodes_is, local_pointers m a, h.pointers_in))) (le-leb (length (local_list m a).col) room.col (omega (arith, kept_is, local_columns m a, local_values m a, h.columns_in))))
-          (le-leb (length (local_list m a).val) room.val (omega (arith, kept_is, h.values_in)))))
+      -- r tells whether the list fits, as the code finds it
+      module _ (r : Bool) (e : r ≡ (ltb s.local_nodes room.ptr && leb s.local_nnz room.col && leb s.local_nnz room.val)) where
+        fits : r ≡ fits_csr (local_list m a) room
+        fits =
+            e ∙ room_fits (local_list m a) room s.local_nodes s.local_nnz (local_pointers m a ∙ ap suc (sym nodes_is)) (local_columns m a ∙ sym (local_values m a) ∙ sym kept_is) (sym kept_is)
+
+        pub room_fails : not r ≡ true → false ≡ fits_local m a places room
+        unfolding fits_local
+        room_fails f = and_second (leb (length (region_members a)) places) (fits_csr (local_list m a) room) (flag_off (fits_csr (local_list m a) room) r fits f)
+
+        pub room_holds : s.local_nodes ≤ places → not r ≡ false → true ≡ fits_local m a places room
+        unfolding fits_local
+        room_holds h f = and-next (leb (length (region_members a)) places) (fits_csr (local_list m a) room) true (is_within (length (region_members a)) places (omega (arith, nodes_is))) (flag_on (fits_csr (local_list m a) room) r fits f)

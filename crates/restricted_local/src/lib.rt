@@ -16,14 +16,14 @@ ghost use Rattle.lent.specs.Lent.{Appended, padded, built};
 ghost use Rattle.word.specs.Bits.{count};
 ghost use Rattle.mask.specs.Mask.{active, bit_at};
 ghost use Rattle.csr32.specs.Csr.{Entry};
-ghost use Rattle.csr32.specs.Made.{entries_in, as_csr_room, fits_csr};
+ghost use Rattle.csr32.specs.Made.{entries_in, as_csr_room, room_of, fits_csr};
 ghost use Rattle.restricted.specs.Local.{region_members, renumbered, local_list, local_answer, region_of};
 ghost use Rattle.restricted_local.specs.Region.{region_checks, region_answer, Region, Numbered};
 ghost use Rattle.csr32.specs.Matrix.{lent_csr};
 ghost use Rattle.csr32.specs.Row.{entries_of};
 ghost use Rattle.mask.specs.Dof.{lent_mask};
 
-use csr32::{CheckedCsr32, Csr32Matrix, CsrRow};
+use csr32::{CheckedCsr32, Csr32Matrix, CsrCapacity, CsrRow};
 use hybit_core::HybitError;
 use mask::DofMask;
 use restricted::LocalRegion;
@@ -92,29 +92,20 @@ fn examine_region(csr: Csr32Matrix, region: DofMask) -> Result<(), HybitError>
 }
 
 // All checks, and the region's numbers where they find nothing: 13 is known before anything is written.
-// The rooms are four numbers of this one call: a struct of them would be no plainer.
 fn examine(
     csr: Csr32Matrix,
     region: DofMask,
     member_room: usize,
-    pointer_room: usize,
-    column_room: usize,
-    value_room: usize,
+    capacity: CsrCapacity,
 ) -> Result<LocalRegion, HybitError>
-    ensures { given result ≡ region_answer (lent_csr csr.entry) (lent_mask region.entry) member_room (as_csr_room pointer_room column_room value_room) }
+    ensures { given result ≡ region_answer (lent_csr csr.entry) (lent_mask region.entry) member_room (room_of capacity) }
 {
     examine_region(csr, region)?;
     let s = count_region(csr, region);
     if member_room < s.local_nodes {
         return Err(HybitError::ShortList);
     }
-    if pointer_room <= s.local_nodes {
-        return Err(HybitError::ShortList);
-    }
-    if column_room < s.local_nnz {
-        return Err(HybitError::ShortList);
-    }
-    if value_room < s.local_nnz {
+    if !capacity.holds(s.local_nodes, s.local_nnz) {
         return Err(HybitError::ShortList);
     }
     Ok(s)
@@ -284,14 +275,8 @@ pub fn from_csr32(
     ensures columns { out_col_idx.new ≡ built 0 (length out_col_idx.old) (local_answer (lent_csr csr.entry) (lent_mask region.entry) (length members.old) (as_csr_room (length out_row_ptr.old) (length out_col_idx.old) (length out_values.old))) (local_list (lent_csr csr.entry) (lent_mask region.entry)).col }
     ensures values { out_values.new ≡ built zero64 (length out_values.old) (local_answer (lent_csr csr.entry) (lent_mask region.entry) (length members.old) (as_csr_room (length out_row_ptr.old) (length out_col_idx.old) (length out_values.old))) (local_list (lent_csr csr.entry) (lent_mask region.entry)).val }
 {
-    let v = examine(
-        csr,
-        region,
-        members.len(),
-        out_row_ptr.len(),
-        out_col_idx.len(),
-        out_values.len(),
-    );
+    let capacity = CsrCapacity::of(out_row_ptr, out_col_idx, out_values);
+    let v = examine(csr, region, members.len(), capacity);
     if let Err(e) = v {
         lent::clear_from(members, 0);
         lent::clear_from(out_row_ptr, 0);

@@ -18,11 +18,11 @@ pub examine_kept-requires : goal.examine_kept-requires
 examine_kept-requires c = omega (arith, ap length c.masks_of-masks.ensures, many_tiles _ _ _ c.requires)
 
 pub returns-in_err-examine_kept : goal.returns-in_err-examine_kept
-returns-in_err-examine_kept c = let e = by_kept _ _ _ c.requires _ _ _ _ _ _ _ refl refl refl (rw c.masks_of-masks.ensures at c.examine_kept.ensures) in
+returns-in_err-examine_kept c = let e = by_kept _ _ _ c.requires _ _ _ _ _ _ _ refl refl refl (rw (c.masks_of-masks.ensures, c.of-capacity.ensures) at c.examine_kept.ensures) in
     record { answer = given_refused_by _ _ _ (search rules) (given_refused _ _ _ _ e c.in_err-examine_kept.was); lists = λ k h. search rules }
 
 pub returns-then-out_row_ptr-tiles : goal.returns-then-out_row_ptr-tiles
-returns-then-out_row_ptr-tiles c = let e = by_kept _ _ _ c.requires _ _ _ _ _ _ _ refl refl refl (rw c.masks_of-masks.ensures at c.examine_kept.ensures) in
+returns-then-out_row_ptr-tiles c = let e = by_kept _ _ _ c.requires _ _ _ _ _ _ _ refl refl refl (rw (c.masks_of-masks.ensures, c.of-capacity.ensures) at c.examine_kept.ensures) in
     absurd (pointers_short _ _ _ _ _ _ c.if-out_row_ptr-tiles.true _ e (ap told c.in_ok-examine_kept.was))
 
 pub invariant_of-listed-then-room-kept : goal.invariant_of-listed-then-room-kept
@@ -32,11 +32,11 @@ pub examine_kept-requires-then-room-kept : goal.examine_kept-requires-then-room-
 examine_kept-requires-then-room-kept c = omega (arith, ap length c.masks_of-masks.ensures, many_tiles _ _ _ c.requires)
 
 pub returns-in_err-examine_kept-2 : goal.returns-in_err-examine_kept-2
-returns-in_err-examine_kept-2 c = let e = by_kept _ _ _ c.requires _ _ _ _ _ _ _ c.fill_rows-kept.auto.out_row_ptr c.fill_rows-kept.auto.out_col_idx c.fill_rows-kept.auto.out_values (rw c.masks_of-masks.ensures at c.examine_kept-then-room-kept.ensures) in
+returns-in_err-examine_kept-2 c = let e = by_kept _ _ _ c.requires _ _ _ _ _ _ _ refl refl refl (rw (c.masks_of-masks.ensures, c.of-capacity.ensures) at c.examine_kept-then-room-kept.ensures) in
     record { answer = given_refused_by _ _ _ (search rules) (given_refused _ _ _ _ e c.in_err-examine_kept-2.was); lists = λ k h. search rules }
 
 pub returns-then-room-kept : goal.returns-then-room-kept
-returns-then-room-kept c = let e = by_kept _ _ _ c.requires _ _ _ _ _ _ _ c.fill_rows-kept.auto.out_row_ptr c.fill_rows-kept.auto.out_col_idx c.fill_rows-kept.auto.out_values (rw c.masks_of-masks.ensures at c.examine_kept-then-room-kept.ensures) in
+returns-then-room-kept c = let e = by_kept _ _ _ c.requires _ _ _ _ _ _ _ refl refl refl (rw (c.masks_of-masks.ensures, c.of-capacity.ensures) at c.examine_kept-then-room-kept.ensures) in
     absurd (entries_short _ _ _ _ _ _ _ _ c.fill_rows-kept.ensures.kept c.min-room.ensures c.if-room-kept.true _ e (ap told c.in_ok-examine_kept-2.was))
 
 pub returns-in_err-examine_written : goal.returns-in_err-examine_written

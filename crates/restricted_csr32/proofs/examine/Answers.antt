@@ -3,7 +3,7 @@ use Rattle.std.proofs.Common.{rules}
 use Rattle.hybit_core.proofs.AnswerLaws.{told_refused}
 use native.Mathlib.Omega.{arith}
 use Rattle.hybit_core.proofs.BoolLaws.{flag_on, flag_off}
-use Rattle.restricted_csr32.proofs.CallLaws.{mask_large, list_refused, mask_refused, wrong_size, short_pointers, short_columns, short_values, all-good}
+use Rattle.restricted_csr32.proofs.CallLaws.{mask_large, list_refused, mask_refused, wrong_size, no_room, all-good}
 use mathlib.Core.Path.{ap}
 use mathlib.Core.Bool.{not}
 use Rattle.restricted_csr32.proofs.examine.Goals as goal
@@ -20,14 +20,8 @@ returns-then-not-dimension_fits c = mask_large _ _ _ (flag_off _ _ c.dimension_f
 pub returns-then-mask-csr : goal.returns-then-mask-csr
 returns-then-mask-csr c = wrong_size _ _ _ (flag_on _ _ c.dimension_fits.ensures (ap not c.if-not-dimension_fits.false)) _ c.check.ensures c.in_ok-check.was _ c.check-2.ensures c.in_ok-check-2.was c.if-mask-csr.true
 
-pub returns-then-pointer_room-csr : goal.returns-then-pointer_room-csr
-returns-then-pointer_room-csr c = short_pointers _ _ _ (flag_on _ _ c.dimension_fits.ensures (ap not c.if-not-dimension_fits.false)) _ c.check.ensures c.in_ok-check.was _ c.check-2.ensures c.in_ok-check-2.was (omega arith) c.if-pointer_room-csr.true
-
-pub returns-then-column_room-kept : goal.returns-then-column_room-kept
-returns-then-column_room-kept c = short_columns _ _ _ (flag_on _ _ c.dimension_fits.ensures (ap not c.if-not-dimension_fits.false)) _ c.check.ensures c.in_ok-check.was _ c.check-2.ensures c.in_ok-check-2.was (omega arith) _ c.count_active-kept.ensures c.if-column_room-kept.true
-
-pub returns-then-value_room-kept : goal.returns-then-value_room-kept
-returns-then-value_room-kept c = short_values _ _ _ (flag_on _ _ c.dimension_fits.ensures (ap not c.if-not-dimension_fits.false)) _ c.check.ensures c.in_ok-check.was _ c.check-2.ensures c.in_ok-check-2.was (omega arith) _ c.count_active-kept.ensures c.if-value_room-kept.true
+pub returns-then-not-holds : goal.returns-then-not-holds
+returns-then-not-holds c = no_room _ _ _ (flag_on _ _ c.dimension_fits.ensures (ap not c.if-not-dimension_fits.false)) _ c.check.ensures c.in_ok-check.was _ c.check-2.ensures c.in_ok-check-2.was (omega arith) _ c.count_active-kept.ensures _ c.holds.ensures (ap not c.if-not-holds.true)
 
 pub returns : goal.returns
-returns c = all-good _ _ _ (flag_on _ _ c.dimension_fits.ensures (ap not c.if-not-dimension_fits.false)) _ c.check.ensures c.in_ok-check.was _ c.check-2.ensures c.in_ok-check-2.was (omega arith) _ c.count_active-kept.ensures (omega arith) c.if-column_room-kept.false c.if-value_room-kept.false
+returns c = all-good _ _ _ (flag_on _ _ c.dimension_fits.ensures (ap not c.if-not-dimension_fits.false)) _ c.check.ensures c.in_ok-check.was _ c.check-2.ensures c.in_ok-check-2.was (omega arith) _ c.count_active-kept.ensures _ c.holds.ensures (ap not c.if-not-holds.false)

@@ -1,0 +1,7 @@
+// How many places the three lists have that a plot list is written to.
+#[derive(Clone, Copy)]
+pub struct CsrCapacity {
+    pub row_ptr: usize,
+    pub col_idx: usize,
+    pub values: usize,
+}

@@ -83,9 +83,8 @@ fn fill_active(ncols: usize, words: &mut [u64])
     requires fact_2 { length words.old ≡ ceil64 ncols }
     ensures { words.new ≡ mask_words (λ c. true) ncols }
 {
-    let n = words.len();
-    for w in 0..n {
-        words[w] = word::trimmed(u64::MAX, ncols - 64 * w);
+    for (w, word) in words.iter_mut().enumerate() {
+        *word = word::trimmed(u64::MAX, ncols - 64 * w);
     }
 }
 

@@ -178,7 +178,7 @@ fn two_rows<const WIDTH: usize>(
     let a = matrix.row_ptr[row] as usize;
     let b = matrix.row_ptr[other] as usize;
     let n = full_count(operands, row).min(full_count(operands, other));
-    // The sums of a block's rows, by value.
+    // The sums of a block's rows by value: the library has no heap, and the width is a constant.
     let mut one = [0.0; WIDTH];
     let mut two = [0.0; WIDTH];
     for i in 0..n {

@@ -49,14 +49,11 @@ fn float_of(bits: u64) -> f64 {
     f64::from_bits(bits)
 }
 
-// A list's length, at most the places that there are: two numbers of different width, so it is no min.
+// A list's length, at most the places that there are.
 fn places(n: u64, room: usize) -> usize
     ensures { result ≤ room }
 {
-    if n < room as u64 {
-        return n as usize;
-    }
-    room
+    n.min(room as u64) as usize
 }
 
 // An element of a recorded list: as the input and the output have it.

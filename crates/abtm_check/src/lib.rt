@@ -12,7 +12,7 @@ ghost use Rattle.abtm_values.specs.Values.{solid, plus_zero};
 ghost use Rattle.abtm.specs.Tiles.{Listed, word_in, kind_in, is_dense, places, stored, tile_at, value_rule, gapless, tile_words, tiles_rules, tiles_answer};
 ghost use Rattle.abtm.specs.Matrix.{lent_tiles, all_listed};
 
-use abtm::{AbtmMatrix, TileRow};
+use abtm::{AbtmMatrix, TileDesc, TileRow};
 use hybit_core::HybitError;
 
 // The absent places of a Dense tile; none of another.
@@ -83,6 +83,19 @@ impl<'a> PairedTiles<'a> {
             masks: lent::part(ptr, self.matrix.masks, row),
             value_offsets: lent::part(ptr, self.matrix.value_offsets, row),
             metas: lent::part(ptr, self.matrix.metas, row),
+        }
+    }
+
+    fn tile(self, place: usize) -> TileDesc
+        requires { place < length self.matrix.masks.now }
+        ensures mask { result.mask ≡ slice_index_or self.entry.matrix.masks.now place 0 }
+        ensures offset { result.value_offset ≡ slice_index_or self.entry.matrix.value_offsets.now place 0 }
+        ensures meta { result.meta ≡ slice_index_or self.entry.matrix.metas.now place 0 }
+    {
+        TileDesc {
+            mask: self.matrix.masks[place],
+            value_offset: self.matrix.value_offsets[place],
+            meta: self.matrix.metas[place],
         }
     }
 }
@@ -160,12 +173,13 @@ fn rows_hold(tiles: PairedTiles) -> bool
 }
 
 // Whether a Sparse or Bitmap tile has a column, and its values end at `next`. No test waits for another and the kind stays a number,
-// so that the pass below compiles to vector code.
-// Its three numbers stay apart, since that pass reads three lists; what it takes stands in docs/BENCHMARKS.md under Tiles.
-fn compact_holds(mask: u64, offset: u32, meta: u32, next: usize) -> bool
-    ensures { result ≡ ((not (mask == 0) && nat_le (kind_in meta) 1) && offset + length (places mask meta) == next) }
+// so that the pass below compiles to vector code; what it takes stands in docs/BENCHMARKS.md under Tiles.
+fn compact_holds(tile: TileDesc, next: usize) -> bool
+    ensures { result ≡ ((not (tile.mask == 0) && nat_le (kind_in tile.meta) 1) && tile.value_offset + length (places tile.mask tile.meta) == next) }
 {
-    (mask != 0) & (meta / abtm::KIND_STEP <= 1) & (offset as usize + word::popcount(mask) == next)
+    (tile.mask != 0)
+        & (tile.meta / abtm::KIND_STEP <= 1)
+        & (tile.value_offset as usize + word::popcount(tile.mask) == next)
 }
 
 // Whether no mask is 0, no tile is Dense or of kind 3, the first tile's values start at 0, each tile's end where the next one's start,
@@ -173,24 +187,17 @@ fn compact_holds(mask: u64, offset: u32, meta: u32, next: usize) -> bool
 fn compact_follow(tiles: PairedTiles) -> bool
     ensures { result ≡ ((every (λ m. not (m == 0)) tiles.entry.matrix.masks.now && every (λ m. leb (kind_in m) 1) tiles.entry.matrix.metas.now) && gapless 0 (length tiles.entry.matrix.values.now) (all_listed tiles.entry.matrix)) }
 {
-    let masks = tiles.matrix.masks;
     let value_offsets = tiles.matrix.value_offsets;
-    let metas = tiles.matrix.metas;
+    let count = tiles.matrix.masks.len();
     let end = tiles.matrix.values.len();
-    if masks.len() == 0 {
+    if count == 0 {
         return end == 0;
     }
     let mut holds = value_offsets[0] == 0;
-    for i in 1..masks.len() {
-        holds &= compact_holds(
-            masks[i - 1],
-            value_offsets[i - 1],
-            metas[i - 1],
-            value_offsets[i] as usize,
-        );
+    for i in 1..count {
+        holds &= compact_holds(tiles.tile(i - 1), value_offsets[i] as usize);
     }
-    let last = masks.len() - 1;
-    holds & compact_holds(masks[last], value_offsets[last], metas[last], end)
+    holds & compact_holds(tiles.tile(count - 1), end)
 }
 
 // The same, of tiles with as many values as `matrix_nnz` alone: those of Dense tiles are more, and the pass is spared.
@@ -201,39 +208,34 @@ fn all_compact(tiles: PairedTiles) -> bool
 }
 
 // `compact_holds` of a tile of any kind, in a pass over the same three lists.
-fn tile_holds(mask: u64, offset: u32, meta: u32, next: usize) -> bool
-    ensures { result ≡ ((not (mask == 0) && nat_le (kind_in meta) 2) && offset + length (places mask meta) == next) }
+fn tile_holds(tile: TileDesc, next: usize) -> bool
+    ensures { result ≡ ((not (tile.mask == 0) && nat_le (kind_in tile.meta) 2) && tile.value_offset + length (places tile.mask tile.meta) == next) }
 {
-    (mask != 0)
-        & abtm::kind_in(meta).is_some()
-        & (offset as usize + abtm::slot_count(mask, meta) == next)
+    (tile.mask != 0)
+        & abtm::kind_in(tile.meta).is_some()
+        & (tile.value_offset as usize + abtm::slot_count(tile.mask, tile.meta) == next)
 }
 
 // How many bits are set, where no mask is 0, no kind is 3 and the values follow: one pass over tiles of any kinds.
 fn mixed_follow(tiles: PairedTiles) -> Option<usize>
     ensures { result ≡ then_some ((every (λ m. not (m == 0)) tiles.entry.matrix.masks.now && every (λ m. leb (kind_in m) 2) tiles.entry.matrix.metas.now) && gapless 0 (length tiles.entry.matrix.values.now) (all_listed tiles.entry.matrix)) (set_bits tiles.entry.matrix.masks.now % 2 ^ 64) }
 {
-    let masks = tiles.matrix.masks;
     let value_offsets = tiles.matrix.value_offsets;
-    let metas = tiles.matrix.metas;
+    let count = tiles.matrix.masks.len();
     let end = tiles.matrix.values.len();
-    if masks.len() == 0 {
+    if count == 0 {
         return (end == 0).then_some(0);
     }
     let mut holds = value_offsets[0] == 0;
     let mut bits: usize = 0;
-    for i in 1..masks.len() {
-        bits = bits.wrapping_add(word::popcount(masks[i - 1]));
-        holds &= tile_holds(
-            masks[i - 1],
-            value_offsets[i - 1],
-            metas[i - 1],
-            value_offsets[i] as usize,
-        );
+    for i in 1..count {
+        let tile = tiles.tile(i - 1);
+        bits = bits.wrapping_add(word::popcount(tile.mask));
+        holds &= tile_holds(tile, value_offsets[i] as usize);
     }
-    let last = masks.len() - 1;
-    bits = bits.wrapping_add(word::popcount(masks[last]));
-    holds &= tile_holds(masks[last], value_offsets[last], metas[last], end);
+    let last = tiles.tile(count - 1);
+    bits = bits.wrapping_add(word::popcount(last.mask));
+    holds &= tile_holds(last, end);
     holds.then_some(bits)
 }
 

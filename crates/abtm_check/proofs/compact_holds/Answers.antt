@@ -8,4 +8,4 @@ pub overflow_add-result : goal.overflow_add-result
 overflow_add-result c = omega (arith, ones-few _ _ c.popcount.ensures)
 
 pub returns : goal.returns
-returns c = compact_is c.args.mask c.args.meta c.args.offset _ _ c.popcount.ensures
+returns c = compact_is c.args.tile.mask c.args.tile.meta c.args.tile.value_offset _ _ c.popcount.ensures

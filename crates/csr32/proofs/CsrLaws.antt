@@ -3,11 +3,11 @@ use Rattle.std.specs.Prelude.{Result, Ok}
 use Rattle.hybit_core.specs.declared.HybitError.{HybitError}
 use mathlib.Core.Bool.{Bool, true, false, ◌&&◌}
 use mathlib.Core.List.{List, zip}
-use mathlib.Core.Path.{◌≡◌, refl, sym, ap₂, ◌∙◌}
-use Prim.Native.Nat.{ℕ, suc, ◌+◌, ◌-◌, ◌^◌, ◌≤◌, ◌<◌}
+use mathlib.Core.Path.{◌≡◌, refl, sym, ◌∙◌}
+use Prim.Native.Nat.{ℕ, suc, ◌+◌, ◌^◌, ◌≤◌, ◌<◌}
 use native.Mathlib.Omega.{arith}
 use lib.Dec.{eqb, ltb}
-use lib.ListN.{length, get_or, take, drop}
+use lib.ListN.{length, get_or}
 use lib.Ieee.{Float}
 use borrow.Author.Tests.{leb-true, ltb-true, eqb-true, eq-eqb, ne_eqb}
 use Rattle.hybit_core.specs.Answer.{Answer, accepted, demand, length_is, ◌and_then◌}
@@ -17,7 +17,7 @@ use Rattle.hybit_core.specs.Table.{told}
 use Rattle.hybit_core.proofs.BoolLaws.{and_left, and_right}
 use Rattle.hybit_core.proofs.AnswerLaws.{demand_accepted, then_first, then_second, length_accepted, accepted_by}
 use Rattle.lent.specs.Lists.{every, some, rises, part}
-use Rattle.lent.proofs.ListLaws.{every-get_or, every-part, part_lent, every-left, some_left, some-every}
+use Rattle.lent.proofs.ListLaws.{every-get_or, every-part, every-left, some_left, some-every}
 use Rattle.csr32.specs.Csr.{Csr, Entry, framed, framed_lists, csr_sizes, csr_rules, csr_answer, entries, present, apply_answer}
 use Rattle.csr32.proofs.FrameLaws.{Framed, framed_facts, RowIn, row_in, part_lengths}
 
@@ -118,16 +118,6 @@ module _ {m : Csr} (v : Valid m) where
   pub entries_columns : (r : ℕ) → every (λ (e : Entry). ltb e.0 m.cols) (entries m r) ≡ true
   unfolding entries
   entries_columns r = every-left (λ c. ltb c m.cols) (part m.ptr m.col r) (part m.ptr m.val r) (row_columns r)
-
--- a row as the code lends it: from a, its pointer, up to b, the next one
-
-pub entries_lent : (m : Csr) (r a b : ℕ) → a ≡ get_or m.ptr r 0 → b ≡ get_or m.ptr (r + 1) 0 → zip (take (b - a) (drop a m.col)) (take (b - a) (drop a m.val)) ≡ entries m r
-unfolding entries
-entries_lent m r a b p q = ap₂ (λ (cs : List ℕ) (vs : List Float). zip cs vs) (part_lent m.ptr m.col r a b p q) (part_lent m.ptr m.val r a b p q)
-
-pub row_lent : {m : Csr} → Valid m → (r a b n : ℕ) → a ≡ get_or m.ptr r 0 → b ≡ get_or m.ptr (r + 1) 0 → n ≡ m.cols
-    → (length (take (b - a) (drop a m.val)) ≡ length (take (b - a) (drop a m.col))) × (every (λ c. ltb c n) (take (b - a) (drop a m.col)) ≡ true)
-row_lent {m} v r a b n p q e = rw (part_lent m.ptr m.col r a b p q, part_lent m.ptr m.val r a b p q, e) (sym (row_sides v r), row_columns v r)
 
 -- ---- which columns a row has
 

@@ -1,5 +1,5 @@
 -- Laws of a window of a row: the place of a column in it, and clearing it. Assumes nothing.
-use mathlib.Core.Bool.{Bool, true, false, ◌||◌, ◌&&◌, cond}
+use mathlib.Core.Bool.{Bool, false, ◌||◌, cond}
 use Rattle.std.specs.Prelude.{Option, Some, None}
 use mathlib.Core.List.{List}
 use mathlib.Core.Path.{◌≡◌, sym, ap, ap₂, ◌∙◌}

@@ -1,24 +1,23 @@
 -- The distinct places with an entry, row after row. Assumes nothing.
-use mathlib.Core.Bool.{Bool, true, false}
+use mathlib.Core.Bool.{Bool, false}
 use mathlib.Core.List.{List, ◌++◌}
 use mathlib.Core.Path.{◌≡◌, refl, sym, ap, ap₂, ◌∙◌}
-use Prim.Native.Nat.{ℕ, ◌+◌, ◌-◌, ◌*◌, ◌^◌, ◌≤◌, ◌<◌}
+use Prim.Native.Nat.{ℕ, ◌+◌, ◌*◌, ◌^◌, ◌≤◌, ◌<◌}
 use native.Mathlib.Nat.{le_refl}
 use native.Mathlib.Numerals.{add-one}
 use native.Mathlib.Omega.{arith}
-use lib.Dec.{ltb}
-use lib.ListN.{length, get_or, take, drop, replicate, length-append, take-append-drop}
+use lib.ListN.{length, take, drop, replicate, length-append, take-append-drop}
 use Rattle.hybit_core.specs.Answer.{accepted}
 use Rattle.hybit_core.proofs.BoolLaws.{eqb_turned}
-use Rattle.lent.specs.Lists.{joined, part, every, some}
-use Rattle.lent.proofs.ListLaws.{part_lent, zeros_front}
+use Rattle.lent.specs.Lists.{joined, part, some}
+use Rattle.lent.proofs.ListLaws.{zeros_front}
 use Rattle.word.specs.Bits.{below, count, ceil64}
 use Rattle.word.proofs.BelowLaws.{below_same, length-below-le}
 use Rattle.mask.specs.Mask.{mask_words}
 use Rattle.mask.specs.Calls.{listed}
 use Rattle.mask.proofs.CallLaws.{empty-words}
 use Rattle.csr32.specs.Csr.{Csr, csr_answer, entries, present}
-use Rattle.csr32.proofs.CsrLaws.{Valid, valid, row_columns, present_row}
+use Rattle.csr32.proofs.CsrLaws.{Valid, valid, present_row}
 use Rattle.dense_block.specs.Blocks.{structural_slots}
 
 -- the columns of row r

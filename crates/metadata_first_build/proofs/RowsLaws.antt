@@ -1,26 +1,25 @@
 -- The rows of a plot list packed one after the other: each has as many values as present columns. Assumes nothing.
-use mathlib.Core.Bool.{Bool, true}
+use mathlib.Core.Bool.{Bool}
 use mathlib.Core.List.{List, [], ◌∷◌, ◌++◌, map, zip, append_assoc, append-nil}
 use mathlib.Core.Path.{◌≡◌, refl, sym, ap, ap₂, ◌∙◌, subst}
 use Prim.Native.Nat.{ℕ, suc, ◌+◌, ◌-◌, ◌%◌, ◌^◌, ◌≤◌, ◌<◌, zero-le}
 use native.Mathlib.Nat.{mod-eq_of_lt, sub-zero}
 use native.Mathlib.Numerals.{add-one}
 use native.Mathlib.Omega.{arith}
-use lib.Dec.{ltb}
 use lib.ListN.{length, get_or, take, drop, set, replicate, length-set, length-map, length-append, length-replicate, replicate-append-replicate}
 use lib.Seq.{take-suc-set, take_all, take_at, drop_at}
 use lib.Ieee.{Float}
 use Rattle.hybit_core.specs.Answer.{accepted}
 use Rattle.hybit_core.specs.Floats.{zero64}
 use Rattle.hybit_core.proofs.BoolLaws.{eqb_turned}
-use Rattle.lent.specs.Lists.{joined, each, starts, part, every, some}
+use Rattle.lent.specs.Lists.{joined, each, starts, part, some}
 use Rattle.lent.proofs.ListLaws.{joined_lengths, joined-le, length-joined-le, length-joined-suc, part_lent, part_mid}
 use Rattle.word.specs.Bits.{below, count, mask_of, words_of, ceil64}
 use Rattle.word.proofs.BelowLaws.{below_same, length-below-le}
 use Rattle.mask.specs.Calls.{listed}
 use Rattle.csr32.specs.Csr.{Csr, Entry, csr_answer, entries, present, merged}
 use Rattle.csr32.proofs.FrameLaws.{Framed, RowIn, row_left, row_right, parts_all}
-use Rattle.csr32.proofs.CsrLaws.{Valid, valid, row_columns, present_row}
+use Rattle.csr32.proofs.CsrLaws.{Valid, valid, present_row}
 use Rattle.topology.specs.Words.{Words, topology_of, set_bits}
 use Rattle.topology.proofs.RowLaws.{Row}
 use Rattle.topology.proofs.TopologyLaws.{Accepted, accepted_facts, row_bits, row_words_lem, row_masks_lem}

@@ -115,13 +115,7 @@ fn pack_rows(
             masks: &topology.masks[first..last],
         };
         let to = at + topology::count_bits(row_words.masks);
-        pack_row(
-            row_words,
-            csr.row(row),
-            bits,
-            starts,
-            &mut packed[at..to],
-        );
+        pack_row(row_words, csr.row(row), bits, starts, &mut packed[at..to]);
         at = to;
     }
     row_value_ptr[csr.matrix.nrows] = hybit_core::narrow(at);

@@ -15,7 +15,7 @@ use Rattle.hybit_core.specs.Domain.{few, many}
 use Rattle.hybit_core.specs.Floats.{finite}
 use Rattle.hybit_core.specs.Table.{paper, told, given}
 use Rattle.hybit_core.specs.declared.HybitError.{HybitError}
-use Rattle.hybit_core.proofs.BoolLaws.{and_first, and-next, and_left, and_right, flag_on, flag_off, is_within, is_above}
+use Rattle.hybit_core.proofs.BoolLaws.{and_first, and-next, and_left, and_right, flag_on, flag_off, is_within}
 use Rattle.hybit_core.proofs.AnswerLaws.{demand_accepted, accepted_by, then_second, test_fails, test_passes, last_fails, last_passes, last_length_wrong, last_length_right, call_refused, call_accepted, by_records}
 use Rattle.lent.specs.Lists.{joined, every}
 use Rattle.lent.specs.Lent.{Appended, padded}

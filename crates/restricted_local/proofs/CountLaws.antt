@@ -8,7 +8,7 @@ use native.Mathlib.Omega.{arith}
 use lib.Dec.{leb, ltb}
 use lib.ListN.{length, get_or, length-append, length-map}
 use lib.Ieee.{Float}
-use borrow.Author.Tests.{leb-true, le-leb}
+use borrow.Author.Tests.{leb-true}
 use Rattle.hybit_core.proofs.BoolLaws.{and_left, and_right, and_first, and_second, and-next, flag_on, flag_off, is_within, is_above}
 use Rattle.lent.specs.Lists.{cons_if, every, joined, only, part, spread}
 use Rattle.lent.proofs.ListLaws.{joined_lengths, joined-le, length-only, length-joined-suc, spread-append}

@@ -1,6 +1,6 @@
 -- `demand_routes::fill_active` meets its contract. Assumes nothing.
 use native.Mathlib.Omega.{arith}
-use Rattle.lent.proofs.LentLaws.{filled_none, filled_length, filled_more, filled_done}
+use Rattle.lent.proofs.LentLaws.{filled_none, filled_more, filled_done}
 use Rattle.mask.specs.Mask.{mask_words}
 use Rattle.demand_routes.proofs.AllLaws.{active_word}
 use Rattle.demand_routes.proofs.fill_active.Goals as goal

@@ -1,8 +1,6 @@
 -- `dense_block_build::add_band` meets its contract. Assumes nothing.
-use mathlib.Core.Path.{refl}
 use Rattle.dense_block_build.proofs.SizeLaws.{width_pos}
 use Rattle.dense_block_build.proofs.BandLaws.{banding_none, banding_long, banding_more, banding_done, band-below, band_end, band-entries, band_asks, band-added}
-use borrow.Author.Rules.{rules}
 use Rattle.dense_block_build.proofs.add_band.Goals as goal
 
 pub loop-row-init : goal.loop-row-init

@@ -1,5 +1,5 @@
 -- `dense_block_counts::count_structural` meets its contract. Assumes nothing.
-use mathlib.Core.Path.{◌≡◌, refl}
+use mathlib.Core.Path.{◌≡◌}
 use native.Mathlib.Omega.{arith}
 use Rattle.word.specs.Bits.{ceil64}
 use Rattle.dense_block_counts.proofs.SlotLaws.{summed-none, summed-empty, summed_fits, summed_more, summed_done}

@@ -1,7 +1,6 @@
 -- `metadata_first_merge::rows_hold` meets its contract. Assumes nothing.
 use mathlib.Core.Path.{refl, sym, ◌∙◌, ap}
 use native.Mathlib.Omega.{arith}
-use Rattle.csr32.proofs.CsrLaws.{valid, row_columns}
 use Rattle.csr32.proofs.WindowLaws.{zeros_as}
 use Rattle.metadata_first_merge.proofs.MergeLaws.{rows_none, rows_more, rows_fails, rows_done}
 use mathlib.Core.Bool.{not}

@@ -1,6 +1,5 @@
 -- `restricted_abtm::examine_kept` meets its contract. Assumes nothing.
 use mathlib.Core.Path.{sym, ◌∙◌, ap}
-use native.Mathlib.Omega.{arith}
 use Rattle.hybit_core.proofs.BoolLaws.{flag_on, flag_off}
 use Rattle.restricted_abtm.proofs.ReadyLaws.{kept-length}
 use Rattle.restricted_abtm.proofs.CallLaws.{kept_infinite, kept-many, few_places, kept-good}

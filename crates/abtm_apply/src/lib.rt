@@ -75,6 +75,7 @@ fn row_sum(row: TileRow, values: &[f64], x: &[f64]) -> f64
 {
     let mut sum: f64 = 0.0;
     for (i, mask) in row.masks.iter().enumerate() {
+        // By hand: a public function asks nothing, so one for a tile would test the place.
         let tile = TileDesc {
             mask: *mask,
             value_offset: row.value_offsets[i],

@@ -86,6 +86,7 @@ fn gather(
             add_at(i, value, sums, words, blocks);
             continue;
         }
+        // Not in the window: before it, or past it.
         let c = *column as usize;
         if base <= c {
             next = next.min(c);
@@ -119,14 +120,20 @@ fn also_marked(mask: u64, i: usize, v: f64) -> u64
     word::with_bit(mask, i)
 }
 
+// The sums of a word's 64 columns.
+#[derive(Clone, Copy)]
+struct WordSums<'a> {
+    list: &'a [f64],
+    ghost long: { length list.now ≡ 64 },
+}
+
 // The places of a word's 64 sums that are not zero. The loop is over 64 places, not over the list, so that its length is known.
-fn word_mask(sums: &[f64]) -> u64
-    requires { length sums.now ≡ 64 }
-    ensures { result ≡ word_of (λ i. not (is_zero (get_or sums.now i nan))) }
+fn word_mask(sums: WordSums) -> u64
+    ensures { result ≡ word_of (λ i. not (is_zero (get_or sums.entry.list.now i nan))) }
 {
     let mut mask: u64 = 0;
     for i in 0..64 {
-        mask = also_marked(mask, i, sums[i]);
+        mask = also_marked(mask, i, sums.list[i]);
     }
     mask
 }
@@ -142,37 +149,34 @@ fn dense_value(v: f64) -> f64
 }
 
 // The same 64 places, as in `word_mask`.
-fn write_dense(sums: &[f64], from: usize, values: &mut [f64])
-    requires fact_1 { length sums.now ≡ 64 }
-    requires fact_2 { from + 64 ≤ length values.old }
-    ensures { Appended (map (λ i. cond (not (is_zero (get_or sums.now i nan))) (get_or sums.now i nan) zero64) (below (λ i. true) 64)) from (from + 64) values.old values.new }
+fn write_dense(sums: WordSums, from: usize, values: &mut [f64])
+    requires { from + 64 ≤ length values.old }
+    ensures { Appended (map (λ i. cond (not (is_zero (get_or sums.entry.list.now i nan))) (get_or sums.entry.list.now i nan) zero64) (below (λ i. true) 64)) from (from + 64) values.old values.new }
 {
     for i in 0..64 {
-        values[from + i] = dense_value(sums[i]);
+        values[from + i] = dense_value(sums.list[i]);
     }
 }
 
-fn write_present(mask: u64, sums: &[f64], from: usize, values: &mut [f64])
-    requires fact_1 { length sums.now ≡ 64 }
-    requires fact_2 { from + length (members mask) ≤ length values.old }
-    ensures { Appended (map (λ i. get_or sums.now i nan) (members mask)) from (from + length (members mask)) values.old values.new }
+fn write_present(mask: u64, sums: WordSums, from: usize, values: &mut [f64])
+    requires { from + length (members mask) ≤ length values.old }
+    ensures { Appended (map (λ i. get_or sums.entry.list.now i nan) (members mask)) from (from + length (members mask)) values.old values.new }
 {
     let mut rest = mask;
     let mut at = from;
     // The set bits of a word, lowest first, and the values beside: an iterator of our own would be a type more, for three lines.
     while rest != 0 {
-        values[at] = sums[word::lowest(rest)];
+        values[at] = sums.list[word::lowest(rest)];
         at += 1;
         rest = word::without_lowest(rest);
     }
 }
 
 // The values of a tile of this mask and kind, from place `from` on.
-fn write_slots(kind: TileKind, mask: u64, sums: &[f64], from: usize, values: &mut [f64])
-    requires fact_1 { length sums.now ≡ 64 }
-    requires fact_2 { mask ≡ word_of (λ i. not (is_zero (get_or sums.now i nan))) }
-    requires fact_3 { from + length (places_of (kind_number kind) mask) ≤ length values.old }
-    ensures { Appended (map (λ i. cond (has mask i) (get_or sums.now i nan) zero64) (places_of (kind_number kind) mask)) from (from + length (places_of (kind_number kind) mask)) values.old values.new }
+fn write_slots(kind: TileKind, mask: u64, sums: WordSums, from: usize, values: &mut [f64])
+    requires mask { mask ≡ word_of (λ i. not (is_zero (get_or sums.list.now i nan))) }
+    requires room { from + length (places_of (kind_number kind) mask) ≤ length values.old }
+    ensures { Appended (map (λ i. cond (has mask i) (get_or sums.entry.list.now i nan) zero64) (places_of (kind_number kind) mask)) from (from + length (places_of (kind_number kind) mask)) values.old values.new }
 {
     match kind {
         TileKind::Dense => write_dense(sums, from, values),
@@ -183,7 +187,7 @@ fn write_slots(kind: TileKind, mask: u64, sums: &[f64], from: usize, values: &mu
 // The tile of one word, if it has a value; answers the next places.
 fn emit_word(
     number: usize,
-    sums: &[f64],
+    sums: WordSums,
     config: AbtmConfig,
     at: TilesSize,
     masks: &mut [u64],
@@ -191,10 +195,9 @@ fn emit_word(
     metas: &mut [u32],
     values: &mut [f64],
 ) -> TilesSize
-    requires fact_1 { length sums.now ≡ 64 }
-    requires fact_2 { number < 2 ^ 30 }
-    requires fact_3 { Bounded (2 ^ 40) at × Lists (length masks.old) (length value_offsets.old) (length metas.old) (length values.old) }
-    ensures { Wrote (tiles_between config (window_value (64 * number) sums.now) number (number + 1)) at result masks.old masks.new value_offsets.old value_offsets.new metas.old metas.new values.old values.new }
+    requires number { number < 2 ^ 30 }
+    requires lists { Bounded (2 ^ 40) at × Lists (length masks.old) (length value_offsets.old) (length metas.old) (length values.old) }
+    ensures { Wrote (tiles_between config (window_value (64 * number) sums.entry.list.now) number (number + 1)) at result masks.old masks.new value_offsets.old value_offsets.new metas.old metas.new values.old values.new }
 {
     let mask = word_mask(sums);
     if mask == 0 {
@@ -248,7 +251,9 @@ fn emit_block(
         }
         at = emit_word(
             first + w,
-            &sums[64 * w..64 * w + 64],
+            WordSums {
+                list: &sums[64 * w..64 * w + 64],
+            },
             config,
             at,
             masks,

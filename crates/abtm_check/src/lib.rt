@@ -107,17 +107,15 @@ fn values_hold(tiles: PairedTiles) -> bool
     requires total { tiles.matrix.matrix_nnz ≡ set_bits tiles.matrix.masks.now }
     ensures { result ≡ every (λ (e : Listed). every (value_rule e.0) (stored (tile_at tiles.entry.matrix.values.now e))) (all_listed tiles.entry.matrix) }
 {
-    let masks = tiles.matrix.masks;
-    let value_offsets = tiles.matrix.value_offsets;
-    let metas = tiles.matrix.metas;
     let values = tiles.matrix.values;
     let mut done = Counted { upto: 0, solid: 0 };
-    for i in 0..masks.len() {
-        let absent = absent_in(masks[i], metas[i]);
+    for i in 0..tiles.matrix.masks.len() {
+        let tile = tiles.tile(i);
+        let absent = absent_in(tile.mask, tile.meta);
         if absent == 0 {
             continue;
         }
-        let at = value_offsets[i] as usize;
+        let at = tile.value_offset as usize;
         done = count_ahead(values, done, at + 64);
         if !all_plus_zero(absent, &values[at..at + 64]) {
             return false;
@@ -173,7 +171,7 @@ fn rows_hold(tiles: PairedTiles) -> bool
 }
 
 // Whether a Sparse or Bitmap tile has a column, and its values end at `next`. No test waits for another and the kind stays a number,
-// so that the pass below compiles to vector code; what it takes stands in docs/BENCHMARKS.md under Tiles.
+// so that the pass below compiles to vector code; the times stand in docs/DESIGN-PASS.md under Speed.
 fn compact_holds(tile: TileDesc, next: usize) -> bool
     ensures { result ≡ ((not (tile.mask == 0) && nat_le (kind_in tile.meta) 1) && tile.value_offset + length (places tile.mask tile.meta) == next) }
 {
@@ -207,7 +205,7 @@ fn all_compact(tiles: PairedTiles) -> bool
     tiles.matrix.matrix_nnz == tiles.matrix.values.len() && compact_follow(tiles)
 }
 
-// `compact_holds` of a tile of any kind, in a pass over the same three lists.
+// `compact_holds` of a tile of any kind.
 fn tile_holds(tile: TileDesc, next: usize) -> bool
     ensures { result ≡ ((not (tile.mask == 0) && nat_le (kind_in tile.meta) 2) && tile.value_offset + length (places tile.mask tile.meta) == next) }
 {

@@ -1,4 +1,4 @@
-// How many places the three lists have that a plot list is written to.
+// The lengths of the three lists that a plot list is written to.
 #[derive(Clone, Copy)]
 pub struct CsrCapacity {
     pub row_ptr: usize,

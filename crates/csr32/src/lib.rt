@@ -128,7 +128,7 @@ pub fn all_finite(values: &[f64]) -> bool
     most & each_finite(&values[4 * q..])
 }
 
-// The place of a column among the `width` columns from `base` on.
+// The place of a column among the `width` columns from `base` on; None before and past them.
 pub fn place_in_window(column: u32, base: usize, width: usize) -> Option<usize>
     ensures { result ≡ cond (in_window base width column) (Some (column - base)) None }
 {
@@ -144,6 +144,7 @@ pub fn place_in_window(column: u32, base: usize, width: usize) -> Option<usize>
 }
 
 impl CsrCapacity {
+    // Its parameters are what the struct tells of: a caller's three lists have no other use together.
     pub fn of(row_ptr: &[u32], col_idx: &[u32], values: &[f64]) -> CsrCapacity
         ensures { room_of result ≡ as_csr_room (length row_ptr.now) (length col_idx.now) (length values.now) }
     {
@@ -192,8 +193,8 @@ impl<'a> Csr32Matrix<'a> {
         Ok(())
     }
 
-    // `check`, which hands back the list that it accepts. Where a check comes before for another reason, as in a build that clears its
-    // lists when it refuses, the struct is made there: `checked` would read the list twice.
+    // `check`, which hands back the list that it accepts. A build that clears its lists where it refuses, and a call after another
+    // call's check, make the struct themselves.
     pub fn checked(self) -> Result<CheckedCsr32<'a>, HybitError>
         ensures { on_given (λ c. lent_csr c.matrix) (given result) ≡ answers (csr_answer (lent_csr self.entry)) (lent_csr self.entry) }
     {

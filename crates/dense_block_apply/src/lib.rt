@@ -16,7 +16,7 @@ ghost use Rattle.dense_block.specs.Operator.{lent_blocks};
 use dense_block::{DenseBlockCsrOperator, DenseBlockSize};
 use hybit_core::HybitError;
 
-// A full block's terms in one row, as one number.
+// A full block's terms in one row, as one number. The width is a constant and no value that a struct could tell of.
 #[inline(always)]
 fn full_terms<const WIDTH: usize>(values: &[f64], at: usize, x: &[f64], col: usize) -> f64
     requires width { Width WIDTH }
@@ -111,7 +111,8 @@ struct Operands<'a, const WIDTH: usize> {
     ghost valid: { apply_blocks_answer (lent_blocks matrix) x.now matrix.nrows ≡ accepted },
 }
 
-// How many full blocks full block row `row` starts with.
+// How many full blocks full block row `row` starts with. That a block row is full is asked for: a struct of the operands and the row
+// would hold the operands once more for each of the two rows that go side by side.
 #[inline(always)]
 fn full_count<const WIDTH: usize>(operands: Operands<WIDTH>, row: usize) -> usize
     requires { WIDTH * row + WIDTH ≤ operands.matrix.nrows }

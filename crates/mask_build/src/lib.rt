@@ -98,9 +98,7 @@ pub fn from_indices(len: usize, indices: &[usize], words: &mut [u64]) -> Result<
 {
     let v = examine_indices(len, indices, words.len());
     lent::clear_from(words, 0);
-    if let Err(e) = v {
-        return Err(e);
-    }
+    v?;
     set_all(len, indices, words);
     Ok(())
 }

@@ -67,7 +67,7 @@ fn add_entries(entries: CsrRow, bits: &[u64], starts: &[u32], out: &mut [f64])
     }
 }
 
-// One row: its words, its entries, and its part of the values, all 0.0.
+// One row: its words, its entries, and its part of the values, all 0.0 before.
 fn pack_row(
     row: AbtmTopologyRow,
     entries: CsrRow,

@@ -219,7 +219,7 @@ fn show_operations(rt: &impl Print, a: u64, b: u64) -> io::Result<()> {
 // The mask of 70 columns with two active plots.
 fn show_mask(rt: &impl Print) -> io::Result<()> {
     let plots = [65usize, 3];
-    // The mask's words, of its own length.
+    // The library writes to lent lists of a length that is known here.
     let mut bits = [0u64; 2];
     let mut members = [9usize; 4];
     let built = mask_build::from_indices(70, &plots, &mut bits);
@@ -255,8 +255,7 @@ fn show_asked(rt: &impl Print, mask: DofMask) -> io::Result<()> {
 
 // ---- words of a plot list
 
-// One row of 70 columns.
-// Its parameters are the record's fields.
+// One row of 70 columns. The parameters are the record's fields: there is no record to take yet.
 fn row_of_70<'a>(row_ptr: &'a [u32], col_idx: &'a [u32], values: &'a [f64]) -> Csr32Matrix<'a> {
     Csr32Matrix {
         nrows: 1,
@@ -267,8 +266,7 @@ fn row_of_70<'a>(row_ptr: &'a [u32], col_idx: &'a [u32], values: &'a [f64]) -> C
     }
 }
 
-// Its words, with this total.
-// Its parameters are the record's fields.
+// Its words, with this total; the parameters as above.
 fn words_of_70<'a>(
     row_word_ptr: &'a [u32],
     word_indices: &'a [u32],
@@ -373,7 +371,7 @@ fn row_of_64<'a>(row_word_ptr: &'a [u32], masks: &'a [u64]) -> AbtmTopology<'a> 
     }
 }
 
-// Takes the operation by the library's name for it.
+// The library takes the operation by its name, and so does this.
 fn show_combined(
     rt: &impl Print,
     name: &str,

@@ -27,10 +27,10 @@ use restricted::{ColumnRestriction, LocalRegion};
 use topology::{AbtmTopology, AbtmTopologyWord};
 use word::Operation;
 
-// The most places of a recorded list. The rooms are fixed lists: a Vec's memory can be refused, which each call would hand on.
+// The most places of a recorded list. All rooms are fixed lists: a Vec's memory can be refused, which each call would hand on.
 const ROOM: usize = 4096;
 
-// The places of the words of one mask: one more than a mask of 2^20 has.
+// The most places of the words of one mask, one more than a mask of 2^20 has: a fixed list for the same reason.
 const MASK_ROOM: usize = 16385;
 
 // Ten times v and one digit more, the low 64 bits.

@@ -104,6 +104,7 @@ fn keep_row(
 {
     let mut at = from;
     for (k, columns) in listed.tiles.masks.iter().enumerate() {
+        // By hand: a public function asks nothing, so one for a tile would test the place.
         let tile = TileDesc {
             mask: *columns,
             value_offset: listed.tiles.value_offsets[k],
@@ -184,6 +185,7 @@ fn active_finite(listed: ReadyTiles) -> bool
     ensures { result ≡ every (λ (e : Entry). finite e.1) (kept_all listed.entry.values.now listed.entry.mask.now (listed_of listed.entry.tiles)) }
 {
     for (k, columns) in listed.tiles.masks.iter().enumerate() {
+        // By hand: a public function asks nothing, so one for a tile would test the place.
         let tile = TileDesc {
             mask: *columns,
             value_offset: listed.tiles.value_offsets[k],

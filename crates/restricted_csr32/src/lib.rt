@@ -24,7 +24,7 @@ use mask::DofMask;
 use restricted::ColumnRestriction;
 
 // Appends a row's entries in active columns, in stored order, from place `from` on; answers the next place.
-// Not inlined: in its caller the loop has too few registers, and the whole call took 1.15 times as long.
+// Not inlined: in its caller the loop has too few registers, and a call takes longer (docs/DESIGN-PASS.md, Speed).
 #[inline(never)]
 fn keep_row(
     row: CsrRow,

@@ -11,7 +11,7 @@ pub struct AbtmTopologyRow<'a> {
     pub ghost masks_fit: { (k : ℕ) → get_or masks.now k 0 < 2 ^ 64 },
 }
 
-// A row of `ncols` columns whose words keep the rule of 11.
+// A row of `ncols` columns in which refusal 11 finds nothing.
 #[derive(Clone, Copy)]
 pub struct CheckedTopologyRow<'a> {
     pub ncols: usize,

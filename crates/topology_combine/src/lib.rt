@@ -1,6 +1,6 @@
 // topology.rs: `AbtmTopology::combine`, with union, intersection, and_not and xor named by an enum. Two rows are merged by
 // their word numbers in one walk over both.
-// The operation is named by an enum, as document 01 has it: a closure would have to be shown to act bit by bit at each caller.
+// The operation is named as document 01 has it: a closure would have to be shown to act bit by bit at each caller.
 // The two records stay parameters: examine asks nothing of them, count_words that they are a pair, merge_rows that the lists fit
 // too. Lists that are written stay apart: a struct of them would have to name each in every contract.
 #![tactic(auto)]
@@ -22,7 +22,8 @@ use hybit_core::HybitError;
 use topology::{AbtmTopology, AbtmTopologyRow, FramedTopology, TopologySize};
 use word::Operation;
 
-// One row of each record, side by side.
+// One row of each record, side by side. One column count for both: two `CheckedTopologyRow` would have one each, and a fact that the
+// two are the same.
 #[derive(Clone, Copy)]
 struct Rows<'a, 'b> {
     operation: Operation,
@@ -182,7 +183,7 @@ fn merge_rows(
     to
 }
 
-// All checks. The rooms are three lengths, as topology_pair takes them. The words are counted only where the lists could be too
+// All checks. The rooms are three lengths: topology_pair says why no struct. The words are counted only where the lists could be too
 // short for the words of both records.
 fn examine(
     operation: Operation,

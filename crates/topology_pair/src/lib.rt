@@ -10,8 +10,8 @@ ghost use Rattle.topology.specs.Matrix.{lent_topology};
 use hybit_core::HybitError;
 use topology::AbtmTopology;
 
-// Whether `words` words of so many rows fit the domain and the lists: 1, 13. The rooms are three lengths: a struct of them would
-// be made for each call and taken apart here. Other builds have other lists.
+// Whether `words` words of so many rows fit the domain and the lists: 1, 13. The rooms are three lengths, which topology_combine's
+// examine takes as well: for two functions a struct of them is no plainer.
 pub fn examine_room(
     nrows: usize,
     words: usize,

@@ -135,9 +135,7 @@ fn select_in(checked: CheckedTopologyRow, ordinal: usize) -> Option<usize>
     for k in 0..words.len() {
         let ones = word::popcount(masks[k]);
         if left < ones {
-            let Some(offset) = word::select(masks[k], left) else {
-                return None;
-            };
+            let offset = word::select(masks[k], left)?;
             let base = 64 * words[k] as usize;
             let col = base + offset;
             return Some(col);
@@ -147,7 +145,7 @@ fn select_in(checked: CheckedTopologyRow, ordinal: usize) -> Option<usize>
     None
 }
 
-// The row's column with `ordinal` columns below it, or Nothing exactly if there is none.
+// The row's column with `ordinal` columns below it, or None exactly if there is none.
 pub fn row_select(
     topology: AbtmTopology,
     row: usize,

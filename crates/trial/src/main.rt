@@ -21,6 +21,7 @@ use std::fmt;
 // The plots, the lines, and the entries of a line that the lists below have room for: fixed lists, so that no trial runs out of memory.
 const ROOM: usize = 65536;
 
+// The words of a mask of as many plots.
 const WORD_ROOM: usize = 1024;
 
 // Six plots, the third too moist, and three lines; the second line was read twice in plot 4.

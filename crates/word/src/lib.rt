@@ -114,7 +114,7 @@ pub fn xor(a: u64, b: u64) -> u64
     a ^ b
 }
 
-// The operation by its name.
+// The operation by its name, since document 01 names it so.
 pub fn combine(operation: Operation, a: u64, b: u64) -> u64
     ensures { result ≡ word_of (λ i. combined operation (has a i) (has b i)) }
 {

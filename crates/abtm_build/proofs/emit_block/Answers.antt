@@ -8,8 +8,11 @@ use Rattle.abtm_build.proofs.emit_block.Goals as goal
 pub loop-w-init : goal.loop-w-init
 loop-w-init c = (emitting_none _ _ _ _ _ _ _ _ _ (omega arith), omega arith, omega arith, omega arith)
 
+pub invariant_of-emit_word : goal.invariant_of-emit_word
+invariant_of-emit_word c = record { long = lent_length c.args.first c.args.sums.now c.loop-w.w (omega (arith, c.requires.fact_1, c.loop-w-test.true)) }
+
 pub emit_word-at-requires : goal.emit_word-at-requires
-emit_word-at-requires c = record { fact_1 = lent_length c.args.first c.args.sums.now c.loop-w.w (omega (arith, c.requires.fact_1, c.loop-w-test.true)); fact_2 = omega (arith, c.requires.fact_1); fact_3 = (emitting_bounded _ _ _ _ _ _ _ _ _ _ _ _ _ _ c.loop-w.invariant.0 (2 ^ 39) (2 ^ 40) c.requires.fact_3.0 (omega arith), emitting_lists _ _ _ _ _ _ _ _ _ _ _ _ _ _ c.loop-w.invariant.0 c.requires.fact_3.1) }
+emit_word-at-requires c = record { number = omega (arith, c.requires.fact_1); lists = (emitting_bounded _ _ _ _ _ _ _ _ _ _ _ _ _ _ c.loop-w.invariant.0 (2 ^ 39) (2 ^ 40) c.requires.fact_3.0 (omega arith), emitting_lists _ _ _ _ _ _ _ _ _ _ _ _ _ _ c.loop-w.invariant.0 c.requires.fact_3.1) }
 
 pub loop-w-preserved : goal.loop-w-preserved
 loop-w-preserved c = let r = lent_value c.args.first c.args.sums.now c.loop-w.w in (

@@ -11,7 +11,7 @@ pub loop-i-init : goal.loop-i-init
 loop-i-init c = first-none _
 
 pub loop-i-preserved : goal.loop-i-preserved
-loop-i-preserved c = first_more _ c.loop-i.i _ _ (is_zero (get_or c.args.sums.now c.loop-i.i nan)) c.loop-i-test.true refl c.loop-i.invariant c.also_marked-mask.ensures
+loop-i-preserved c = first_more _ c.loop-i.i _ _ (is_zero (get_or c.args.sums.list.now c.loop-i.i nan)) c.loop-i-test.true refl c.loop-i.invariant c.also_marked-mask.ensures
 
 pub returns : goal.returns
 returns c = first_done _ c.loop-i.i _ (omega arith) c.loop-i.invariant

@@ -8,4 +8,4 @@ use Rattle.abtm_values.specs.Values.{is_zero}
 use Rattle.abtm_build.proofs.word_mask.Given as goal
 
 abbrev pub invariant-loop-i : goal.invariant-loop-i
-invariant-loop-i l = l.mask ≡ word_of (λ j. ltb j l.i && not (is_zero (get_or l.sums j nan)))
+invariant-loop-i l = l.mask ≡ word_of (λ j. ltb j l.i && not (is_zero (get_or l.sums.list.now j nan)))

@@ -11,4 +11,4 @@ use Rattle.abtm_values.specs.Values.{is_zero}
 use Rattle.abtm_build.proofs.write_dense.Given as goal
 
 abbrev pub invariant-loop-i : goal.invariant-loop-i
-invariant-loop-i l = (length l.values ≡ length l.initial.values) × Appended (map (λ j. cond (not (is_zero (get_or l.sums j nan))) (get_or l.sums j nan) zero64) (below (λ j'. true) l.i)) l.from (l.from + l.i) l.initial.values l.values × (l.i ≤ 64)
+invariant-loop-i l = (length l.values ≡ length l.initial.values) × Appended (map (λ j. cond (not (is_zero (get_or l.sums.list.now j nan))) (get_or l.sums.list.now j nan) zero64) (below (λ j'. true) l.i)) l.from (l.from + l.i) l.initial.values l.values × (l.i ≤ 64)

@@ -17,13 +17,13 @@ pub bounds-sums-lowest : goal.bounds-sums-lowest
 bounds-sums-lowest c = omega (arith, lowest_small _ c.loop-rest.invariant.fits c.loop-rest-test.true _ c.lowest.ensures)
 
 pub bounds-values-at : goal.bounds-values-at
-bounds-values-at c = walking_room _ _ _ _ _ _ _ c.loop-rest.invariant c.loop-rest-test.true c.requires.fact_2
+bounds-values-at c = walking_room _ _ _ _ _ _ _ c.loop-rest.invariant c.loop-rest-test.true c.requires
 
 pub loop-rest-smaller : goal.loop-rest-smaller
 loop-rest-smaller c = walk_less _ c.loop-rest.invariant.fits c.loop-rest-test.true _ c.without_lowest-rest.ensures
 
 pub loop-rest-preserved : goal.loop-rest-preserved
-loop-rest-preserved c = walking_more _ _ _ _ _ _ _ c.loop-rest.invariant _ _ _ c.loop-rest-test.true c.requires.fact_2 c.lowest.ensures c.without_lowest-rest.ensures refl c.without_lowest-rest.type_inv
+loop-rest-preserved c = walking_more _ _ _ _ _ _ _ c.loop-rest.invariant _ _ _ c.loop-rest-test.true c.requires c.lowest.ensures c.without_lowest-rest.ensures refl c.without_lowest-rest.type_inv
 
 pub shape_of-values : goal.shape_of-values
 shape_of-values c = c.loop-rest.invariant.same

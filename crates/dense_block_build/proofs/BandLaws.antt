@@ -27,7 +27,6 @@ use Rattle.csr32.proofs.CsrLaws.{valid, row_sides, row_columns}
 use Rattle.dense_block.specs.Blocks.{width_of, blocks_for, inside, band, block_has, row_blocks, place_value, block_of}
 use Rattle.dense_block.specs.declared.DenseBlockSize.{DenseBlockSize}
 use Rattle.dense_block.specs.declared.DenseBlockSize.TheVariants.{B3, B6}
-use Rattle.dense_block_columns.proofs.BandLaws.{blocks_few}
 use Rattle.dense_block_build.specs.Making.{add_values, in_row}
 use Rattle.dense_block_build.proofs.FlatLaws.{even_length, even_at}
 use Rattle.dense_block_build.proofs.RowLaws.{row_length, row_at_lem, value_at}
@@ -174,6 +173,10 @@ block_low : (s : DenseBlockSize) (c n : ℕ) → c < n → c / width_of s < bloc
 block_low B3 c n h = omega arith
 block_low B6 c n h = omega arith
 
+-- the block columns of columns inside the frame
+pub blocks_low : (s : DenseBlockSize) (n : ℕ) (cs : List ℕ) → every (λ c. ltb c n) cs ≡ true → every (λ c. ltb (c / width_of s) (blocks_for (width_of s) n)) cs ≡ true
+blocks_low s n cs h = every_by (λ c. ltb c n) (λ c. ltb c n) (λ c. ltb (c / width_of s) (blocks_for (width_of s) n)) cs (λ c x y. lt-ltb (c / width_of s) (blocks_for (width_of s) n) (block_low s c n (ltb-true c n x))) h h
+
 module _ (m : Csr) (s : DenseBlockSize) (R : ℕ) (ok : csr_answer m ≡ accepted) where
   -- row k of the block row is row r of the plot list, where k is below the width as the code holds it
   pub band-below : (v x k : ℕ) → v ≡ width_of s → x ≡ min v (m.rows - v * R) → k < x → k < inside (width_of s) m.rows R
@@ -221,18 +224,12 @@ module _ (m : Csr) (s : DenseBlockSize) (R : ℕ) (ok : csr_answer m ≡ accepte
             every-listed (λ c. bit_at bits (c / width_of s)) cs
             (λ c x. let l : c / width_of s < n = block_low s c m.cols (ltb-true c m.cols (every-at (λ c. ltb c m.cols) cs c lent.1 x)) in bit_is (c / width_of s) l ∙ has_block (c / width_of s) l ∙ in_block_lem c x)
 
-        low : every (λ c. ltb (c / width_of s) n) cs ≡ true
-        low = every_by (λ c. ltb c m.cols) (λ c. ltb c m.cols) (λ c. ltb (c / width_of s) n) cs (λ c x y. lt-ltb (c / width_of s) n (block_low s c m.cols (ltb-true c m.cols x))) lent.1 lent.1
-
         -- what `add_row` requires
-        pub band_asks : (starts : List ℕ) (x : ℕ) (out : List Float) → x ≡ n → Ranks (listed (row_blocks m (width_of s) R)) n bits starts → length out ≡ length (row_blocks m (width_of s) R) * (width_of s * width_of s)
-            → ((x ≤ 349526) × (k < width_of s)) × ((every (λ c. ltb (c / width_of s) x) cs ≡ true) × ((every (λ c. bit_at bits (c / width_of s)) cs ≡ true) × (Ranks (bit_at bits) x bits starts × (length out ≡ count (bit_at bits) x * (width_of s * width_of s)))))
-        band_asks starts x out ex ranks long =
-            subst
-            (λ (x : ℕ). ((x ≤ 349526) × (k < width_of s)) × ((every (λ c. ltb (c / width_of s) x) cs ≡ true) × ((every (λ c. bit_at bits (c / width_of s)) cs ≡ true) × (Ranks (bit_at bits) x bits starts × (length out ≡ count (bit_at bits) x * (width_of s * width_of s))))))
-            (sym ex)
-            ((blocks_few s m.cols (valid m ok).cols_in, omega arith), (low, (noted, (ranks_same (listed (row_blocks m (width_of s) R)) (bit_at bits) n bits starts (λ c l. sym (bit_is c l)) ranks, long ∙ ap (λ (l : List ℕ). length l * (width_of s * width_of s)) (sym band_columns)))))
+        pub band_asks : (starts : List ℕ) (out : List Float) → Ranks (listed (row_blocks m (width_of s) R)) n bits starts → length out ≡ length (row_blocks m (width_of s) R) * (width_of s * width_of s)
+            → (k < width_of s) × ((every (λ c. bit_at bits (c / width_of s)) cs ≡ true) × (Ranks (bit_at bits) n bits starts × (length out ≡ count (bit_at bits) n * (width_of s * width_of s))))
+        band_asks starts out ranks long =
+            (omega arith, (noted, (ranks_same (listed (row_blocks m (width_of s) R)) (bit_at bits) n bits starts (λ c l. sym (bit_is c l)) ranks, long ∙ ap (λ (l : List ℕ). length l * (width_of s * width_of s)) (sym band_columns))))
 
         -- the row is added
-        pub band-added : (x : ℕ) (out new : List Float) → x ≡ n → new ≡ in_row (width_of s) k (below (bit_at bits) x) (zip cs vs) out → new ≡ in_row (width_of s) k (row_blocks m (width_of s) R) (zip cs vs) out
-        band-added x out new ex q = q ∙ ap (λ (l : List ℕ). in_row (width_of s) k l (zip cs vs) out) (ap (below (bit_at bits)) ex ∙ band_columns)
+        pub band-added : (out new : List Float) → new ≡ in_row (width_of s) k (below (bit_at bits) n) (zip cs vs) out → new ≡ in_row (width_of s) k (row_blocks m (width_of s) R) (zip cs vs) out
+        band-added out new q = q ∙ ap (λ (l : List ℕ). in_row (width_of s) k l (zip cs vs) out) band_columns

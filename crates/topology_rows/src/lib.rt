@@ -135,7 +135,9 @@ fn select_in(checked: CheckedTopologyRow, ordinal: usize) -> Option<usize>
     for k in 0..words.len() {
         let ones = word::popcount(masks[k]);
         if left < ones {
-            let offset = word::select(masks[k], left)?;
+            let Some(offset) = word::select(masks[k], left) else {
+                return None;
+            };
             let base = 64 * words[k] as usize;
             let col = base + offset;
             return Some(col);

@@ -9,16 +9,16 @@ use mathlib.Core.Bool.{not}
 use Rattle.abtm_check.proofs.values_hold.Goals as goal
 
 pub count_ahead-done-requires : goal.count_ahead-done-requires
-count_ahead-done-requires c = record { inside = (c.loop-i.invariant.2, dense_inside _ _ _ _ _ c.loop-i.invariant.0 (search rules) _ (rw (c.tile-tile.ensures.mask, c.tile-tile.ensures.meta) at c.absent_in-absent.ensures) c.if-absent-eq0.false _ refl); counted = c.loop-i.invariant.3 }
+count_ahead-done-requires c = record { inside = (c.loop-i.invariant.2, dense_inside _ _ _ _ _ c.loop-i.invariant.0 (search rules) _ (rw (c.tile-tile.ensures.mask, c.tile-tile.ensures.meta) at c.absent_in-absent.ensures) c.if-absent-eq0.false _ c.tile-tile.ensures.offset); counted = c.loop-i.invariant.3 }
 
 pub slice_bounds-all_plus_zero-end : goal.slice_bounds-all_plus_zero-end
-slice_bounds-all_plus_zero-end c = dense_inside _ _ _ _ _ c.loop-i.invariant.0 (search rules) _ (rw (c.tile-tile.ensures.mask, c.tile-tile.ensures.meta) at c.absent_in-absent.ensures) c.if-absent-eq0.false _ refl
+slice_bounds-all_plus_zero-end c = dense_inside _ _ _ _ _ c.loop-i.invariant.0 (search rules) _ (rw (c.tile-tile.ensures.mask, c.tile-tile.ensures.meta) at c.absent_in-absent.ensures) c.if-absent-eq0.false _ c.tile-tile.ensures.offset
 
 pub returns-then-not-all_plus_zero : goal.returns-then-not-all_plus_zero
-returns-then-not-all_plus_zero c = dense_fails _ _ _ _ _ c.loop-i.invariant.0 (search rules) _ (rw (c.tile-tile.ensures.mask, c.tile-tile.ensures.meta) at c.absent_in-absent.ensures) c.if-absent-eq0.false _ refl (flag_off _ _ c.all_plus_zero.ensures (ap not c.if-not-all_plus_zero.true))
+returns-then-not-all_plus_zero c = dense_fails _ _ _ _ _ c.loop-i.invariant.0 (search rules) _ (rw (c.tile-tile.ensures.mask, c.tile-tile.ensures.meta) at c.absent_in-absent.ensures) c.if-absent-eq0.false _ c.tile-tile.ensures.offset (flag_off _ _ c.all_plus_zero.ensures (ap not c.if-not-all_plus_zero.true))
 
 pub loop-i-preserved : goal.loop-i-preserved
-loop-i-preserved c = (tested_dense _ _ _ _ _ c.loop-i.invariant.0 (search rules) _ (rw (c.tile-tile.ensures.mask, c.tile-tile.ensures.meta) at c.absent_in-absent.ensures) c.if-absent-eq0.false _ refl (flag_on _ _ c.all_plus_zero.ensures (ap not c.if-not-all_plus_zero.false)), c.loop-i.invariant.1, c.count_ahead-done.ensures.0, c.count_ahead-done.ensures.1)
+loop-i-preserved c = (tested_dense _ _ _ _ _ c.loop-i.invariant.0 (search rules) _ (rw (c.tile-tile.ensures.mask, c.tile-tile.ensures.meta) at c.absent_in-absent.ensures) c.if-absent-eq0.false _ c.tile-tile.ensures.offset (flag_on _ _ c.all_plus_zero.ensures (ap not c.if-not-all_plus_zero.false)), c.loop-i.invariant.1, c.count_ahead-done.ensures.0, c.count_ahead-done.ensures.1)
 
 pub loop-i-preserved-then-absent-eq0 : goal.loop-i-preserved-then-absent-eq0
 loop-i-preserved-then-absent-eq0 c = (tested_full _ _ _ _ _ c.loop-i.invariant.0 (search rules) _ (rw (c.tile-tile.ensures.mask, c.tile-tile.ensures.meta) at c.absent_in-absent.ensures) c.if-absent-eq0.true, c.loop-i.invariant.1, c.loop-i.invariant.2, c.loop-i.invariant.3)

@@ -2,7 +2,7 @@
 use Rattle.std.specs.Prelude.{Result, Ok, Err}
 use mathlib.Core.Bool.{Bool, true, false, not, ◌&&◌, true≢false, false≢true}
 use mathlib.Core.List.{List, [], ◌++◌}
-use mathlib.Core.Path.{◌≡◌, refl, sym, ap, ap₂, ◌∙◌}
+use mathlib.Core.Path.{◌≡◌, refl, sym, ap, ap₂, ◌∙◌, subst}
 use Prim.Native.Nat.{ℕ, ◌+◌, ◌^◌, ◌≤◌, ◌<◌}
 use native.Mathlib.Omega.{arith}
 use lib.Dec.{leb}
@@ -19,13 +19,14 @@ use Rattle.hybit_core.proofs.AnswerLaws.{demand_accepted, then_first, then_secon
 use Rattle.lent.specs.Lists.{every}
 use Rattle.lent.specs.Lent.{padded, built}
 use Rattle.lent.proofs.LentLaws.{handed_used, front_zeros, written_front}
-use Rattle.csr32.specs.Csr.{Csr, csr_answer, entries, present}
+use Rattle.csr32.specs.Csr.{Csr, framed_lists, csr_answer, entries, present}
 use Rattle.csr32.proofs.CsrLaws.{valid}
 use Rattle.topology.specs.declared.TopologySize.{TopologySize}
 use Rattle.topology.specs.Words.{Words, as_words, topology_of}
 use Rattle.topology.specs.Calls.{as_room, fits_words, as_size, used_of}
-use Rattle.topology.proofs.TopologyLaws.{topology_pointers, topology_sides}
+use Rattle.topology.proofs.TopologyLaws.{accepted_facts, topology_pointers, topology_sides}
 use Rattle.topology_build.specs.Build.{topology_from, build_answer}
+use Rattle.topology_build.proofs.AnswerLaws.{built_accepted}
 use Rattle.metadata_first.specs.Store.{Store, packed_of}
 use Rattle.metadata_first.proofs.StoreLaws.{packed_total, packed_pointers}
 use Rattle.metadata_first_merge.specs.Merge.{row_values, merged_finite, merge_answer}
@@ -123,6 +124,11 @@ module _ (m : Csr) (np nw nm : ℕ) (t : Result TopologySize HybitError) (e : gi
           let masks : take s.words om ≡ (topology_from m).mask = front nm s.words om (topology_from m).mask em (sym (topology_sides m.rows m.cols (λ r. present (entries m r))) ∙ sym made.1.0) in
           let total : s.structural_nnz ≡ (topology_from m).total = made.1.1 in
           λ i. record { rows = m.rows; cols = m.cols; ptr = pointers i; word = words i; mask = masks i; total = total i }
+
+      -- so their pointers fit their words and masks
+      pub pack_framed : framed_lists m.rows (take (m.rows + 1) op) (length (take s.words ow)) (length (take s.words om)) ≡ true
+      pack_framed =
+          subst (λ (t : Words). framed_lists t.rows t.ptr (length t.word) (length t.mask) ≡ true) (sym pack_source) (accepted_facts (topology_from m) (built_accepted m list_is)).lists
 
 -- ---- an accepted build, as facts
 

@@ -1,20 +1,19 @@
 -- The words of a row, noted one after the other: their masks, and the places of their first values. Assumes nothing.
 use mathlib.Core.Bool.{Bool, true, true≢false}
-use mathlib.Core.List.{List, [], ◌∷◌, map}
+use mathlib.Core.List.{List}
 use mathlib.Core.Path.{◌≡◌, refl, sym, ap, ap₂, ◌∙◌}
-use Prim.Native.Nat.{ℕ, zero, suc, ◌+◌, ◌*◌, ◌/◌, ◌%◌, ◌^◌, ◌≤◌, ◌<◌}
+use Prim.Native.Nat.{ℕ, ◌+◌, ◌*◌, ◌/◌, ◌%◌, ◌^◌, ◌≤◌, ◌<◌}
 use native.Mathlib.Nat.{mod-eq_of_lt}
 use native.Mathlib.Decide.{dec_lt}
 use native.Mathlib.Omega.{arith}
 use lib.Dec.{ltb}
-use lib.ListN.{length, get_or, set, length-set, length-map}
-use lib.Pow.{pow_pos}
+use lib.ListN.{length, get_or, set, length-set}
 use lib.Seq.{get_or-set_same, get_or-set_other}
 use Rattle.hybit_core.proofs.BoolLaws.{and_right}
 use Rattle.lent.specs.Lists.{joined}
 use Rattle.word.specs.Bits.{has, count, within, mask_of, hit, ceil64, words_of}
 use Rattle.word.proofs.BelowLaws.{below-zero, below_cong, length-below-le}
-use Rattle.word.proofs.BitLaws.{number_lt, within_in, has_listed}
+use Rattle.word.proofs.BitLaws.{within_in, has_listed}
 use Rattle.topology.specs.Words.{Words, topology_of, member, row_member, row_rule}
 use Rattle.topology.proofs.RowLaws.{Row, row_is, small_is}
 use Rattle.topology.proofs.TopologyLaws.{row_words_lem, row_masks_lem, member_in, topology_checked, accepted_facts}
@@ -111,18 +110,6 @@ module _ (n : ℕ) (ws ms : List ℕ) (same : length ms ≡ length ws) (rule : r
 -- ---- the words of a test keep the rule of a row, and their membership is the test
 
 module _ (p : ℕ → Bool) (n : ℕ) (ws ms : List ℕ) (row : Row p n ws ms) (few : n ≤ 2 ^ 20) where
-  pub row_sides : length ms ≡ length ws
-  row_sides = ap length row.masks ∙ length-map (words_of p n) (mask_of p n) ∙ sym (ap length row.words)
-
-  pub row_fits : (k : ℕ) → get_or ms k 0 < 2 ^ 64
-  unfolding mask_of
-  row_fits k = rw row.masks (fits (words_of p n) k)
-    where
-      fits : (vs : List ℕ) (k : ℕ) → get_or (map (mask_of p n) vs) k 0 < 2 ^ 64
-      fits [] k = pow_pos 64
-      fits (v ∷ vs) zero = number_lt (λ i. within n p (64 * v + i)) 64
-      fits (v ∷ vs) (suc k) = fits vs k
-
   -- a record of this row alone
   abbrev alone : Words
   alone = topology_of 1 n (λ r. p)

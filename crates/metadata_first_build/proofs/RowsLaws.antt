@@ -6,30 +6,28 @@ use Prim.Native.Nat.{ℕ, suc, ◌+◌, ◌-◌, ◌%◌, ◌^◌, ◌≤◌, �
 use native.Mathlib.Nat.{mod-eq_of_lt, sub-zero}
 use native.Mathlib.Numerals.{add-one}
 use native.Mathlib.Omega.{arith}
-use lib.ListN.{length, get_or, take, drop, set, replicate, length-set, length-map, length-append, length-replicate, replicate-append-replicate}
+use lib.ListN.{length, take, drop, set, replicate, length-set, length-map, length-append, length-replicate, replicate-append-replicate}
 use lib.Seq.{take-suc-set, take_all, take_at, drop_at}
 use lib.Ieee.{Float}
 use Rattle.hybit_core.specs.Answer.{accepted}
 use Rattle.hybit_core.specs.Floats.{zero64}
 use Rattle.hybit_core.proofs.BoolLaws.{eqb_turned}
 use Rattle.lent.specs.Lists.{joined, each, starts, part, some}
-use Rattle.lent.proofs.ListLaws.{joined_lengths, joined-le, length-joined-le, length-joined-suc, part_lent, part_mid}
+use Rattle.lent.proofs.ListLaws.{joined_lengths, joined-le, length-joined-le, length-joined-suc, part_mid}
 use Rattle.word.specs.Bits.{below, count, mask_of, words_of, ceil64}
 use Rattle.word.proofs.BelowLaws.{below_same, length-below-le}
 use Rattle.mask.specs.Calls.{listed}
 use Rattle.csr32.specs.Csr.{Csr, Entry, csr_answer, entries, present, merged}
-use Rattle.csr32.proofs.FrameLaws.{Framed, RowIn, row_left, row_right, parts_all}
+use Rattle.csr32.proofs.FrameLaws.{Framed, parts_all}
 use Rattle.csr32.proofs.CsrLaws.{Valid, valid, present_row}
-use Rattle.topology.specs.Words.{Words, topology_of, set_bits}
+use Rattle.topology.specs.Words.{Words, set_bits}
 use Rattle.topology.proofs.RowLaws.{Row}
-use Rattle.topology.proofs.TopologyLaws.{Accepted, accepted_facts, row_bits, row_words_lem, row_masks_lem}
+use Rattle.topology.proofs.TopologyLaws.{row_bits, row_words_lem, row_masks_lem}
 use Rattle.topology_build.specs.Build.{topology_from}
 use Rattle.levels.proofs.LevelLaws.{columns_few, zeros_long}
-use Rattle.topology_build.proofs.AnswerLaws.{built_accepted}
 use Rattle.metadata_first.specs.Store.{packed_of}
 use Rattle.metadata_first_merge.specs.Merge.{row_values}
 use Rattle.metadata_first_build.specs.Pack.{store_of}
-use Rattle.metadata_first_build.proofs.PlaceLaws.{row_sides, row_fits}
 
 -- ---- the rows of the store
 
@@ -91,9 +89,6 @@ module _ (m : Csr) (list : csr_answer m ≡ accepted) (t : Words) (src : t ≡ t
   ok : Valid m
   ok = valid m list
 
-  facts : Accepted (topology_from m)
-  facts = accepted_facts (topology_from m) (built_accepted m list)
-
   pub packing_none : (vptr : List ℕ) (packed : List Float) → length vptr ≡ m.rows + 1 → packed ≡ replicate (length (store_of m).vals) zero64 → Packing m bits₀ starts₀ 0 0 bits₀ starts₀ vptr packed
   unfolding joined each
   packing_none vptr packed l e = record {
@@ -134,41 +129,22 @@ module _ (m : Csr) (list : csr_answer m ≡ accepted) (t : Words) (src : t ≡ t
         )
 
     module _ (h : r < m.rows) where
-      words_in_lem : RowIn t.ptr (length t.word) r
-      unfolding topology_of
-      words_in_lem = rw src (row_left m.rows (topology_from m).ptr (length (topology_from m).word) (length (topology_from m).mask) facts.lists r h)
+      -- ws and ms are the row's words and masks
+      module _ (ws ms : List ℕ) (ew : ws ≡ part t.ptr t.word r) (em : ms ≡ part t.ptr t.mask r) where
+        words_are : ws ≡ words_of (present (entries m r)) m.cols
+        words_are = ew ∙ ap (λ (t : Words). part t.ptr t.word r) src ∙ row_words_lem m.rows m.cols (λ r. present (entries m r)) r h
 
-      pub packing_words : RowIn t.ptr (length t.mask) r
-      unfolding topology_of
-      packing_words = rw src (row_right m.rows (topology_from m).ptr (length (topology_from m).word) (length (topology_from m).mask) facts.lists r h)
+        masks_are : ms ≡ map (mask_of (present (entries m r)) m.cols) (words_of (present (entries m r)) m.cols)
+        masks_are = em ∙ ap (λ (t : Words). part t.ptr t.mask r) src ∙ row_masks_lem m.rows m.cols (λ r. present (entries m r)) r h
 
-      -- f and l are the pointers of the row's words
-      module _ (f l : ℕ) (ef : f ≡ get_or t.ptr r 0) (el : l ≡ get_or t.ptr (r + 1) 0) where
-        pub packing_masks : Cut f l (length t.word) (length t.mask)
-        packing_masks = record { order = omega (arith, words_in_lem.order); left = omega (arith, words_in_lem.inside); right = omega (arith, packing_words.inside) }
-
-        words_are : take (l - f) (drop f t.word) ≡ words_of (present (entries m r)) m.cols
-        words_are =
-            part_lent t.ptr t.word r f l ef el ∙ ap (λ (t : Words). part t.ptr t.word r) src ∙ row_words_lem m.rows m.cols (λ r. present (entries m r)) r h
-
-        masks_are : take (l - f) (drop f t.mask) ≡ map (mask_of (present (entries m r)) m.cols) (words_of (present (entries m r)) m.cols)
-        masks_are =
-            part_lent t.ptr t.mask r f l ef el ∙ ap (λ (t : Words). part t.ptr t.mask r) src ∙ row_masks_lem m.rows m.cols (λ r. present (entries m r)) r h
-
-        row : Row (present (entries m r)) m.cols (take (l - f) (drop f t.word)) (take (l - f) (drop f t.mask))
+        row : Row (present (entries m r)) m.cols ws ms
         row = record { words = words_are; masks = masks_are }
 
-        pub packing_sides : length (take (l - f) (drop f t.mask)) ≡ length (take (l - f) (drop f t.word))
-        packing_sides = row_sides (present (entries m r)) m.cols _ _ row ok.cols_in
-
-        pub packing_fit : (k : ℕ) → get_or (take (l - f) (drop f t.mask)) k 0 < 2 ^ 64
-        packing_fit = row_fits (present (entries m r)) m.cols _ _ row ok.cols_in
-
         -- k is how many bits the row's masks have
-        module _ (k : ℕ) (ek : k ≡ set_bits (take (l - f) (drop f t.mask)) % 2 ^ 64) where
+        module _ (k : ℕ) (ek : k ≡ set_bits ms % 2 ^ 64) where
           row_long : k ≡ length (columns_at m r)
           row_long =
-              let e : set_bits (take (l - f) (drop f t.mask)) ≡ length (columns_at m r) = ap set_bits masks_are ∙ row_bits (present (entries m r)) m.cols in
+              let e : set_bits ms ≡ length (columns_at m r) = ap set_bits masks_are ∙ row_bits (present (entries m r)) m.cols in
               omega (arith, length-below-le (present (entries m r)) m.cols, ok.cols_in)
 
           next-count : at + k ≡ length (joined (columns_at m) (r + 1))
@@ -201,8 +177,8 @@ module _ (m : Csr) (list : csr_answer m ≡ accepted) (t : Words) (src : t ≡ t
             same = ap₂ (λ (cs : List ℕ) (vs : List Float). zip cs vs) ec ev
 
             -- what `pack_row` requires
-            pub packing_row : Row (present (zip cs vs)) m.cols (take (l - f) (drop f t.word)) (take (l - f) (drop f t.mask))
-            packing_row = subst (λ (es : List Entry). Row (present es) m.cols (take (l - f) (drop f t.word)) (take (l - f) (drop f t.mask))) (sym same) row
+            pub packing_row : Row (present (zip cs vs)) m.cols ws ms
+            packing_row = subst (λ (es : List Entry). Row (present es) m.cols ws ms) (sym same) row
 
             pub packing_room : (ceil64 m.cols ≤ length bits₀) × (ceil64 m.cols ≤ length starts₀) → (ceil64 m.cols ≤ length bits) × (ceil64 m.cols ≤ length starts)
             packing_room h = (omega (arith, inv.same_bits, h.0), omega (arith, inv.same_starts, h.1))

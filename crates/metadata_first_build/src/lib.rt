@@ -26,14 +26,14 @@ ghost use Rattle.metadata_first_build.specs.Making.{Valued, last_refusal};
 
 use csr32::{CheckedCsr32, Csr32Matrix, CsrRow};
 use hybit_core::HybitError;
-use topology::{AbtmTopology, AbtmTopologyRow, CheckedTopologyRow, TopologySize};
+use topology::{AbtmTopology, AbtmTopologyRow, CheckedTopologyRow, FramedTopology, TopologySize};
 
 // What the values are packed from: an accepted plot list, and its words.
 #[derive(Clone, Copy)]
 struct Source<'a, 'b> {
     csr: CheckedCsr32<'a>,
-    topology: AbtmTopology<'b>,
-    ghost built: { lent_topology topology ≡ topology_from (lent_csr csr.matrix) },
+    words: FramedTopology<'b>,
+    ghost built: { lent_topology words.topology ≡ topology_from (lent_csr csr.matrix) },
 }
 
 // Notes each word of a row: its mask, and the place of its first value in the row.
@@ -103,17 +103,10 @@ fn pack_rows(
     ensures values { packed.new ≡ (store_of (lent_csr source.entry.csr.matrix)).vals }
 {
     let csr = source.csr;
-    let topology = source.topology;
     let mut at: usize = 0;
     for row in 0..csr.matrix.nrows {
         row_value_ptr[row] = hybit_core::narrow(at);
-        // Two reads: FramedTopology::row would compare the places first.
-        let first = topology.row_word_ptr[row] as usize;
-        let last = topology.row_word_ptr[row + 1] as usize;
-        let row_words = AbtmTopologyRow {
-            words: &topology.word_indices[first..last],
-            masks: &topology.masks[first..last],
-        };
+        let row_words = source.words.row(row);
         let to = at + topology::count_bits(row_words.masks);
         pack_row(row_words, csr.row(row), bits, starts, &mut packed[at..to]);
         at = to;
@@ -146,7 +139,7 @@ fn fill_values(source: Source, row_value_ptr: &mut [u32], packed: &mut [f64]) ->
     ensures { Valued (lent_csr source.entry.csr.matrix) (length row_value_ptr.old) (length packed.old) result row_value_ptr.new packed.new }
 {
     let nrows = source.csr.matrix.nrows;
-    let count = source.topology.structural_nnz;
+    let count = source.words.topology.structural_nnz;
     if row_value_ptr.len() <= nrows {
         return false;
     }
@@ -224,7 +217,7 @@ pub fn from_csr32(
     // topology_build has checked it: checked() would read the list once more.
     let source = Source {
         csr: CheckedCsr32 { matrix: csr },
-        topology,
+        words: FramedTopology { topology },
     };
     if !fill_values(source, row_value_ptr, packed) {
         clear_all(row_word_ptr, word_indices, masks, row_value_ptr, packed);

@@ -2,7 +2,7 @@
 use mathlib.Core.Path.{◌∙◌, ap}
 use native.Mathlib.Omega.{arith}
 use lib.ListN.{length-take}
-use Rattle.metadata_first_build.proofs.AnswerLaws.{pack_refused, no_words, no_values_written, used, list_is, pack_source, pack_built}
+use Rattle.metadata_first_build.proofs.AnswerLaws.{pack_refused, no_words, no_values_written, used, list_is, pack_source, pack_framed, pack_built}
 use borrow.Author.Rules.{rules}
 use mathlib.Core.Bool.{not}
 use Rattle.metadata_first_build.proofs.from_csr32.Goals as goal
@@ -47,7 +47,10 @@ pub slice_bounds-topology-end-6 : goal.slice_bounds-topology-end-6
 slice_bounds-topology-end-6 c = let u = used _ _ _ _ _ c.from_csr32.ensures.answer _ c.in-Ok.is in simp length-take (omega (arith, u.mask_in, c.from_csr32.auto.masks))
 
 pub invariant_of-source-2 : goal.invariant_of-source-2
-invariant_of-source-2 c = record { built = pack_source _ _ _ _ _ c.from_csr32.ensures.answer _ c.in-Ok.is _ _ _ c.from_csr32.ensures.pointers c.from_csr32.ensures.numbers c.from_csr32.ensures.bits }
+invariant_of-source-2 c = record { framed = pack_framed _ _ _ _ _ c.from_csr32.ensures.answer _ c.in-Ok.is _ _ _ c.from_csr32.ensures.pointers c.from_csr32.ensures.numbers c.from_csr32.ensures.bits }
+
+pub invariant_of-source-3 : goal.invariant_of-source-3
+invariant_of-source-3 c = record { built = pack_source _ _ _ _ _ c.from_csr32.ensures.answer _ c.in-Ok.is _ _ _ c.from_csr32.ensures.pointers c.from_csr32.ensures.numbers c.from_csr32.ensures.bits }
 
 pub invariant_of-source : goal.invariant_of-source
 invariant_of-source c = record { valid = list_is _ _ _ _ _ c.from_csr32.ensures.answer _ c.in-Ok.is }

@@ -1,8 +1,7 @@
 -- `metadata_first_build::pack_rows` meets its contract. Assumes nothing.
-use mathlib.Core.Path.{refl}
 use native.Mathlib.Omega.{arith}
 use lib.ListN.{length-set}
-use Rattle.metadata_first_build.proofs.RowsLaws.{packing_none, packing_few, packing_words, packing_masks, packing_sides, packing_fit, packing_part, packing_row, packing_room, packing_zeros, packing_more, packing_same, packing_done}
+use Rattle.metadata_first_build.proofs.RowsLaws.{packing_none, packing_few, packing_part, packing_row, packing_room, packing_zeros, packing_more, packing_same, packing_done}
 use borrow.Author.Rules.{rules}
 use Rattle.metadata_first_build.proofs.pack_rows.Goals as goal
 
@@ -12,51 +11,8 @@ loop-row-init c = packing_none _ c.args.source.csr.valid _ c.args.source.built _
 pub bounds-row_value_ptr-row : goal.bounds-row_value_ptr-row
 bounds-row_value_ptr-row c = omega (arith, c.loop-row.invariant.long_ptr, c.loop-row-test.true)
 
-pub bounds-topology-row : goal.bounds-topology-row
-bounds-topology-row c = let h = packing_words _ c.args.source.csr.valid _ c.args.source.built _ _ _ _ _ _ _ _ c.loop-row.invariant c.loop-row-test.true in
-    search rules
-
-pub bounds-topology-row-in-loop-row : goal.bounds-topology-row-in-loop-row
-bounds-topology-row-in-loop-row c = let h = packing_words _ c.args.source.csr.valid _ c.args.source.built _ _ _ _ _ _ _ _ c.loop-row.invariant c.loop-row-test.true in
-    search rules
-
-pub offset_bounds-topology-first : goal.offset_bounds-topology-first
-offset_bounds-topology-first c = let h = packing_masks _ c.args.source.csr.valid _ c.args.source.built _ _ _ _ _ _ _ _ c.loop-row.invariant c.loop-row-test.true _ _ refl refl in
-    search rules
-
-pub slice_bounds-row_words-count : goal.slice_bounds-row_words-count
-slice_bounds-row_words-count c = let h = packing_masks _ c.args.source.csr.valid _ c.args.source.built _ _ _ _ _ _ _ _ c.loop-row.invariant c.loop-row-test.true _ _ refl refl in
-    search rules
-
-pub slice_bounds-row_words-start : goal.slice_bounds-row_words-start
-slice_bounds-row_words-start c = let h = packing_masks _ c.args.source.csr.valid _ c.args.source.built _ _ _ _ _ _ _ _ c.loop-row.invariant c.loop-row-test.true _ _ refl refl in
-    search rules
-
-pub slice_bounds-row_words-end : goal.slice_bounds-row_words-end
-slice_bounds-row_words-end c = let h = packing_masks _ c.args.source.csr.valid _ c.args.source.built _ _ _ _ _ _ _ _ c.loop-row.invariant c.loop-row-test.true _ _ refl refl in
-    search rules
-
-pub offset_bounds-topology-first-in-loop-row : goal.offset_bounds-topology-first-in-loop-row
-offset_bounds-topology-first-in-loop-row c = let h = packing_masks _ c.args.source.csr.valid _ c.args.source.built _ _ _ _ _ _ _ _ c.loop-row.invariant c.loop-row-test.true _ _ refl refl in
-    search rules
-
-pub slice_bounds-row_words-count-in-loop-row : goal.slice_bounds-row_words-count-in-loop-row
-slice_bounds-row_words-count-in-loop-row c = let h = packing_masks _ c.args.source.csr.valid _ c.args.source.built _ _ _ _ _ _ _ _ c.loop-row.invariant c.loop-row-test.true _ _ refl refl in
-    search rules
-
-pub slice_bounds-row_words-start-in-loop-row : goal.slice_bounds-row_words-start-in-loop-row
-slice_bounds-row_words-start-in-loop-row c = let h = packing_masks _ c.args.source.csr.valid _ c.args.source.built _ _ _ _ _ _ _ _ c.loop-row.invariant c.loop-row-test.true _ _ refl refl in
-    search rules
-
-pub slice_bounds-row_words-end-in-loop-row : goal.slice_bounds-row_words-end-in-loop-row
-slice_bounds-row_words-end-in-loop-row c = let h = packing_masks _ c.args.source.csr.valid _ c.args.source.built _ _ _ _ _ _ _ _ c.loop-row.invariant c.loop-row-test.true _ _ refl refl in
-    search rules
-
-pub invariant_of-row_words : goal.invariant_of-row_words
-invariant_of-row_words c = record { paired = packing_sides _ c.args.source.csr.valid _ c.args.source.built _ _ _ _ _ _ _ _ c.loop-row.invariant c.loop-row-test.true _ _ refl refl; masks_fit = packing_fit _ c.args.source.csr.valid _ c.args.source.built _ _ _ _ _ _ _ _ c.loop-row.invariant c.loop-row-test.true _ _ refl refl }
-
 pub overflow_add-to : goal.overflow_add-to
-overflow_add-to c = let h = packing_part _ c.args.source.csr.valid _ c.args.source.built _ _ _ _ _ _ _ _ c.loop-row.invariant c.loop-row-test.true _ _ refl refl _ c.count_bits.ensures in
+overflow_add-to c = let h = packing_part _ c.args.source.csr.valid _ c.args.source.built _ _ _ _ _ _ _ _ c.loop-row.invariant c.loop-row-test.true _ _ c.row-row_words.ensures.words c.row-row_words.ensures.masks _ c.count_bits.ensures in
     search rules
 
 pub offset_bounds-packed-at : goal.offset_bounds-packed-at
@@ -64,22 +20,22 @@ offset_bounds-packed-at c = let h = packing_few _ c.args.source.csr.valid _ c.ar
     search rules
 
 pub slice_bounds-pack_row-count : goal.slice_bounds-pack_row-count
-slice_bounds-pack_row-count c = let h = packing_part _ c.args.source.csr.valid _ c.args.source.built _ _ _ _ _ _ _ _ c.loop-row.invariant c.loop-row-test.true _ _ refl refl _ c.count_bits.ensures in
+slice_bounds-pack_row-count c = let h = packing_part _ c.args.source.csr.valid _ c.args.source.built _ _ _ _ _ _ _ _ c.loop-row.invariant c.loop-row-test.true _ _ c.row-row_words.ensures.words c.row-row_words.ensures.masks _ c.count_bits.ensures in
     search rules
 
 pub slice_bounds-pack_row-start : goal.slice_bounds-pack_row-start
-slice_bounds-pack_row-start c = let h = packing_part _ c.args.source.csr.valid _ c.args.source.built _ _ _ _ _ _ _ _ c.loop-row.invariant c.loop-row-test.true _ _ refl refl _ c.count_bits.ensures in
+slice_bounds-pack_row-start c = let h = packing_part _ c.args.source.csr.valid _ c.args.source.built _ _ _ _ _ _ _ _ c.loop-row.invariant c.loop-row-test.true _ _ c.row-row_words.ensures.words c.row-row_words.ensures.masks _ c.count_bits.ensures in
     search rules
 
 pub slice_bounds-pack_row-end : goal.slice_bounds-pack_row-end
-slice_bounds-pack_row-end c = let h = packing_part _ c.args.source.csr.valid _ c.args.source.built _ _ _ _ _ _ _ _ c.loop-row.invariant c.loop-row-test.true _ _ refl refl _ c.count_bits.ensures in
+slice_bounds-pack_row-end c = let h = packing_part _ c.args.source.csr.valid _ c.args.source.built _ _ _ _ _ _ _ _ c.loop-row.invariant c.loop-row-test.true _ _ c.row-row_words.ensures.words c.row-row_words.ensures.masks _ c.count_bits.ensures in
     search rules
 
 pub pack_row-requires : goal.pack_row-requires
-pack_row-requires c = rw c.row.ensures.ncols (record { words = packing_row _ c.args.source.csr.valid _ c.args.source.built _ _ _ _ _ _ _ _ c.loop-row.invariant c.loop-row-test.true _ _ refl refl _ c.count_bits.ensures _ _ c.row.ensures.cols c.row.ensures.vals; room = packing_room _ c.args.source.csr.valid _ c.args.source.built _ _ _ _ _ _ _ _ c.loop-row.invariant c.loop-row-test.true _ _ refl refl _ c.count_bits.ensures _ _ c.row.ensures.cols c.row.ensures.vals c.requires.room; zeros = packing_zeros _ c.args.source.csr.valid _ c.args.source.built _ _ _ _ _ _ _ _ c.loop-row.invariant c.loop-row-test.true _ _ refl refl _ c.count_bits.ensures _ _ c.row.ensures.cols c.row.ensures.vals })
+pack_row-requires c = rw c.row.ensures.ncols (record { words = packing_row _ c.args.source.csr.valid _ c.args.source.built _ _ _ _ _ _ _ _ c.loop-row.invariant c.loop-row-test.true _ _ c.row-row_words.ensures.words c.row-row_words.ensures.masks _ c.count_bits.ensures _ _ c.row.ensures.cols c.row.ensures.vals; room = packing_room _ c.args.source.csr.valid _ c.args.source.built _ _ _ _ _ _ _ _ c.loop-row.invariant c.loop-row-test.true _ _ c.row-row_words.ensures.words c.row-row_words.ensures.masks _ c.count_bits.ensures _ _ c.row.ensures.cols c.row.ensures.vals c.requires.room; zeros = packing_zeros _ c.args.source.csr.valid _ c.args.source.built _ _ _ _ _ _ _ _ c.loop-row.invariant c.loop-row-test.true _ _ c.row-row_words.ensures.words c.row-row_words.ensures.masks _ c.count_bits.ensures _ _ c.row.ensures.cols c.row.ensures.vals })
 
 pub loop-row-preserved : goal.loop-row-preserved
-loop-row-preserved c = packing_more _ c.args.source.csr.valid _ c.args.source.built _ _ _ _ _ _ _ _ c.loop-row.invariant c.loop-row-test.true _ _ refl refl _ c.count_bits.ensures _ _ c.row.ensures.cols c.row.ensures.vals _ _ _ _ c.narrow.ensures c.pack_row.auto.bits c.pack_row.auto.starts (rw c.row.ensures.ncols at c.pack_row.ensures)
+loop-row-preserved c = packing_more _ c.args.source.csr.valid _ c.args.source.built _ _ _ _ _ _ _ _ c.loop-row.invariant c.loop-row-test.true _ _ c.row-row_words.ensures.words c.row-row_words.ensures.masks _ c.count_bits.ensures _ _ c.row.ensures.cols c.row.ensures.vals _ _ _ _ c.narrow.ensures c.pack_row.auto.bits c.pack_row.auto.starts (rw c.row.ensures.ncols at c.pack_row.ensures)
 
 pub bounds-row_value_ptr-csr : goal.bounds-row_value_ptr-csr
 bounds-row_value_ptr-csr c = omega (arith, c.loop-row.invariant.long_ptr)

@@ -6,14 +6,14 @@
 // Lists that are written stay apart in all functions, and facts of them too: a struct would have to name each in every contract.
 #![tactic(auto)]
 
-ghost use Rattle.std.specs.Prelude.{◌≡◌, true, not, cond, ◌||◌, ◌+◌, ◌*◌, ◌≤◌, ◌<◌, ◌^◌, ltb, eqb, length, take, replicate, set, get_or};
+ghost use Rattle.std.specs.Prelude.{◌≡◌, true, not, cond, ◌||◌, ◌+◌, ◌*◌, ◌≤◌, ◌<◌, ◌^◌, eqb, length, take, replicate, set, get_or};
 ghost use mathlib.Core.List.{map};
 ghost use Rattle.std.specs.Float.{nan, binary64};
 ghost use Rattle.std.specs.Float.Ieee.{add};
 ghost use Rattle.hybit_core.specs.Answer.{answers};
 ghost use Rattle.hybit_core.specs.Floats.{zero64};
 ghost use Rattle.hybit_core.specs.Table.{told, given};
-ghost use Rattle.lent.specs.Lists.{each, every};
+ghost use Rattle.lent.specs.Lists.{each};
 ghost use Rattle.lent.specs.Lent.{Appended, padded, built};
 ghost use Rattle.word.specs.Bits.{has, below, members, word_of};
 ghost use Rattle.csr32.specs.Window.{Outside};

@@ -1,7 +1,7 @@
 // abtm.rs: the check of tiles that are handed in. Their lists are lent by the caller, and every call on a record checks it: 1, 12.
 #![tactic(auto)]
 
-ghost use Rattle.std.specs.Prelude.{◌≡◌, ◌+◌, ◌-◌, ◌%◌, ◌^◌, ◌<◌, ◌≤◌, true, not, ◌&&◌, leb, map, length, drop, if◌then◌else◌, ◌==◌, nat_eq, nat_le, nat_lt, slice_index_or};
+ghost use Rattle.std.specs.Prelude.{◌≡◌, ◌+◌, ◌-◌, ◌%◌, ◌^◌, ◌<◌, ◌≤◌, true, not, ◌&&◌, leb, map, length, drop, if◌then◌else◌, ◌==◌, nat_eq, nat_le, slice_index_or};
 ghost use Rattle.std.specs.Bool.{then_some};
 ghost use Rattle.std.specs.Float.{nan};
 ghost use Rattle.hybit_core.specs.Table.{told};

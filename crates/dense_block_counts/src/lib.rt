@@ -2,10 +2,9 @@
 // block by block; they are the same for either width, so here they are counted row by row.
 #![tactic(auto)]
 
-ghost use Rattle.std.specs.Prelude.{◌≡◌, true, false, ◌≤◌, ◌^◌, ltb};
+ghost use Rattle.std.specs.Prelude.{◌≡◌, false};
 ghost use Rattle.hybit_core.specs.Answer.{answers};
 ghost use Rattle.hybit_core.specs.Table.{given};
-ghost use Rattle.lent.specs.Lists.{every};
 ghost use Rattle.word.specs.Bits.{count};
 ghost use Rattle.mask.specs.Mask.{mask_words};
 ghost use Rattle.mask.specs.Calls.{listed};

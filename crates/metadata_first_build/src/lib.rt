@@ -3,12 +3,11 @@
 // has entries, and copies of a column are added in stored order.
 #![tactic(auto)]
 
-ghost use Rattle.std.specs.Prelude.{◌≡◌, true, ◌+◌, ◌≤◌, ◌<◌, ◌^◌, ltb, length, replicate};
+ghost use Rattle.std.specs.Prelude.{◌≡◌, ◌+◌, ◌≤◌, ◌<◌, length, replicate};
 ghost use mathlib.Core.List.{[]};
 ghost use Rattle.hybit_core.specs.Answer.{refuses, answers};
 ghost use Rattle.hybit_core.specs.Floats.{zero64};
 ghost use Rattle.hybit_core.specs.Table.{given};
-ghost use Rattle.lent.specs.Lists.{every};
 ghost use Rattle.lent.specs.Lent.{padded, built};
 ghost use Rattle.word.specs.Bits.{count, ceil64};
 ghost use Rattle.levels.specs.Ranks.{Ranks};

@@ -2,12 +2,12 @@
 // A row's words are looked through one by one: the check before has read all of the record's, and rank adds the masks on its way.
 #![tactic(auto)]
 
-ghost use Rattle.std.specs.Prelude.{◌≡◌, true, ◌≤◌, length};
+ghost use Rattle.std.specs.Prelude.{◌≡◌, ◌≤◌, length};
 ghost use Rattle.hybit_core.specs.Answer.{on_given, answers};
 ghost use Rattle.hybit_core.specs.Table.{told, given};
 ghost use Rattle.lent.specs.Lists.{part};
 ghost use Rattle.word.specs.Bits.{count, within, selected, words_of};
-ghost use Rattle.topology.specs.Words.{row_member, member, row_rule};
+ghost use Rattle.topology.specs.Words.{row_member, member};
 ghost use Rattle.topology.specs.Calls.{row_answer, rank_answer, select};
 ghost use Rattle.topology.specs.Matrix.{lent_topology};
 

@@ -7,6 +7,7 @@ ghost use Rattle.std.specs.Float.{nan};
 ghost use Rattle.hybit_core.specs.Table.{told};
 ghost use Rattle.lent.specs.Lists.{part, every, only, climbs};
 ghost use Rattle.word.specs.Bits.{has, members, word_of};
+ghost use Rattle.csr32.specs.Csr.{framed};
 ghost use Rattle.topology.specs.Words.{row_rule, row_rules, set_bits};
 ghost use Rattle.abtm_values.specs.Values.{solid, plus_zero};
 ghost use Rattle.abtm.specs.Tiles.{Listed, word_in, kind_in, is_dense, places, stored, tile_at, value_rule, gapless, tile_words, tiles_rules, tiles_answer};
@@ -65,24 +66,31 @@ fn count_ahead(values: &[f64], done: Counted, end: usize) -> Counted
     }
 }
 
-// Tiles with an offset and a meta for each mask.
+// Tiles with an offset and a meta for each mask, and pointers of their rows.
 #[derive(Clone, Copy)]
 struct PairedTiles<'a> {
-    matrix: AbtmMatrix<'a>,
+    matrix: AbtmMatrix<'a, 'a, 'a, 'a>,
     ghost offsets_paired: { length matrix.value_offsets.now ≡ length matrix.masks.now },
     ghost metas_paired: { length matrix.metas.now ≡ length matrix.masks.now },
+    ghost rows_framed: { framed matrix.nrows matrix.row_tile_ptr.now (length matrix.masks.now) ≡ true },
 }
 
 impl<'a> PairedTiles<'a> {
+    // The row's pointers are read once for its three parts: lent::part would read and compare them for each.
     fn row(self, row: usize) -> TileRow<'a>
+        requires { row < self.matrix.nrows }
         ensures masks { result.masks.now ≡ part self.entry.matrix.row_tile_ptr.now self.entry.matrix.masks.now row }
         ensures metas { result.metas.now ≡ part self.entry.matrix.row_tile_ptr.now self.entry.matrix.metas.now row }
     {
-        let ptr = self.matrix.row_tile_ptr;
+        let start = self.matrix.row_tile_ptr[row] as usize;
+        let end = self.matrix.row_tile_ptr[row + 1] as usize;
+        let masks = &self.matrix.masks[start..end];
+        let value_offsets = &self.matrix.value_offsets[start..end];
+        let metas = &self.matrix.metas[start..end];
         TileRow {
-            masks: lent::part(ptr, self.matrix.masks, row),
-            value_offsets: lent::part(ptr, self.matrix.value_offsets, row),
-            metas: lent::part(ptr, self.matrix.metas, row),
+            masks,
+            value_offsets,
+            metas,
         }
     }
 

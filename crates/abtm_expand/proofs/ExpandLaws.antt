@@ -13,7 +13,7 @@ use Rattle.hybit_core.specs.Domain.{few}
 use Rattle.hybit_core.proofs.BoolLaws.{and_left, and_right, and_both}
 use Rattle.hybit_core.proofs.AnswerLaws.{demand_accepted, then_first, then_second, length_accepted}
 use Rattle.lent.specs.Lists.{each, part, every, some}
-use Rattle.lent.proofs.ListLaws.{each_cong, some-every, some-none, some_snoc, some-map}
+use Rattle.lent.proofs.ListLaws.{each_cong, every-part, some-every, some-none, some_snoc, some-map}
 use Rattle.word.specs.Bits.{has, below, within, members, mask_of, ceil64}
 use Rattle.word.proofs.BelowLaws.{below_snoc, below-zero}
 use Rattle.word.proofs.BitLaws.{has-mask_of, every-below-at}
@@ -150,11 +150,11 @@ module _ (t : Tiles) (n : ℕ) (ws : List ℕ) (room : ℕ) (ok : expand_answer 
       out_long : length out ≡ ceil64 n
       out_long = ap length inv.is ∙ length-words (λ c. active (as_mask n ws) c || reached t (as_mask n ws) r c) n
 
-      pub lent_words : ((k : ℕ) → get_or ms k 0 < 2 ^ 64) → every (λ m. ltb (word_in m) (length out)) ks ≡ true
+      pub lent_words : ((k : ℕ) → get_or t.mask k 0 < 2 ^ 64) → every (λ m. ltb (word_in m) (length out)) ks ≡ true
       lent_words fits =
           ap₂ (λ (k : ℕ) (l : List ℕ). every (λ m. ltb (word_in m) k) l) (out_long ∙ ap ceil64 (facts.size ∙ facts.square)) ek
           ∙ words_low t.cols (part t.ptr t.mask r) (part t.ptr t.offset r) (part t.ptr t.meta r) (offsets_same t facts.tiles r h) (metas_same t facts.tiles r h)
-          (ap (every (λ m. ltb m (2 ^ 64))) (sym em) ∙ small_is ms fits) (row_words_lem t facts.tiles r h)
+          (every-part (λ m. ltb m (2 ^ 64)) t.ptr t.mask r (small_is t.mask fits)) (row_words_lem t facts.tiles r h)
 
       -- the columns of a member's row are joined in
       bit_joined : true ≡ active (as_mask n ws) r → (w i : ℕ) → w < ceil64 n → i < 64

@@ -30,21 +30,37 @@ fn join_tiles(masks: &[u64], metas: &[u32], words: &mut [u64])
     }
 }
 
+// A loop: copy_from_slice would ask the C library for memmove.
+fn copy_words(from: &[u64], out: &mut [u64])
+    requires { length out.old ≡ length from.now }
+    ensures { out.new ≡ from.now }
+{
+    for (k, bits) in from.iter().enumerate() {
+        out[k] = *bits;
+    }
+}
+
+// The proofs know of a list that a call answers that its numbers have 64 bits, as they know it of a parameter, but not of a field.
+fn masks_of<'a>(tiles: AbtmMatrix<'a, 'a, 'a, 'a>) -> &'a [u64]
+    ensures { result.now ≡ tiles.entry.masks.now }
+{
+    tiles.masks
+}
+
 // The mask, and the columns of its rows: the rows are those of the mask that is lent, not of the one in the making.
-fn fill_mask(tiles: AbtmMatrix, mask: DofMask, out: &mut [u64])
+// A row's pointers are read once for its two parts: lent::part would read and compare them for each.
+fn fill_mask<'a>(tiles: AbtmMatrix<'a, 'a, 'a, 'a>, mask: DofMask, out: &mut [u64])
     requires valid { expand_answer (lent_tiles tiles) (lent_mask mask) (length out.old) ≡ accepted }
     requires long { length out.old ≡ length mask.words.now }
     ensures { out.new ≡ mask_words (expanded (lent_tiles tiles.entry) (lent_mask mask.entry)) mask.entry.len }
 {
-    out.copy_from_slice(mask.words);
+    let masks = masks_of(tiles);
+    copy_words(mask.words, out);
     for row in 0..tiles.nrows {
         if mask.is_member(row) {
-            let columns = lent::part(tiles.row_tile_ptr, tiles.masks, row);
-            join_tiles(
-                columns,
-                lent::part(tiles.row_tile_ptr, tiles.metas, row),
-                out,
-            );
+            let start = tiles.row_tile_ptr[row] as usize;
+            let end = tiles.row_tile_ptr[row + 1] as usize;
+            join_tiles(&masks[start..end], &tiles.metas[start..end], out);
         }
     }
 }

@@ -55,7 +55,10 @@ fn check_row(tiles: AbtmMatrix, row: usize) -> Result<(), HybitError>
 }
 
 // The masks of the row's tiles, as that part of the lent list. Three calls, as a caller asks for one list; C has one call.
-pub fn row_tile_masks<'a>(tiles: AbtmMatrix<'a>, row: usize) -> Result<&'a [u64], HybitError>
+pub fn row_tile_masks<'a, 'm, 'o, 't>(
+    tiles: AbtmMatrix<'a, 'm, 'o, 't>,
+    row: usize,
+) -> Result<&'m [u64], HybitError>
     ensures { on_given (λ s. s.now) (given result) ≡ answers (tile_row_answer (lent_tiles tiles.entry) row) (part tiles.entry.row_tile_ptr.now tiles.entry.masks.now row) }
 {
     check_row(tiles, row)?;
@@ -63,10 +66,10 @@ pub fn row_tile_masks<'a>(tiles: AbtmMatrix<'a>, row: usize) -> Result<&'a [u64]
 }
 
 // Their offsets into the values, in the same way.
-pub fn row_tile_value_offsets<'a>(
-    tiles: AbtmMatrix<'a>,
+pub fn row_tile_value_offsets<'a, 'm, 'o, 't>(
+    tiles: AbtmMatrix<'a, 'm, 'o, 't>,
     row: usize,
-) -> Result<&'a [u32], HybitError>
+) -> Result<&'o [u32], HybitError>
     ensures { on_given (λ s. s.now) (given result) ≡ answers (tile_row_answer (lent_tiles tiles.entry) row) (part tiles.entry.row_tile_ptr.now tiles.entry.value_offsets.now row) }
 {
     check_row(tiles, row)?;
@@ -74,7 +77,10 @@ pub fn row_tile_value_offsets<'a>(
 }
 
 // Their word numbers and kinds, in the same way.
-pub fn row_tile_metas<'a>(tiles: AbtmMatrix<'a>, row: usize) -> Result<&'a [u32], HybitError>
+pub fn row_tile_metas<'a, 'm, 'o, 't>(
+    tiles: AbtmMatrix<'a, 'm, 'o, 't>,
+    row: usize,
+) -> Result<&'t [u32], HybitError>
     ensures { on_given (λ s. s.now) (given result) ≡ answers (tile_row_answer (lent_tiles tiles.entry) row) (part tiles.entry.row_tile_ptr.now tiles.entry.metas.now row) }
 {
     check_row(tiles, row)?;
@@ -86,9 +92,11 @@ pub fn row_tile_metas<'a>(tiles: AbtmMatrix<'a>, row: usize) -> Result<&'a [u32]
 fn count_kind(metas: &[u32], kind: TileKind) -> usize
     ensures { result ≡ of_kind (kind_number kind) metas.now }
 {
+    // Numbers are compared, not an Option, so that the loop compiles to vector code; docs/DESIGN-PASS.md, Speed.
+    let wanted = u32::from(kind);
     let mut count: usize = 0;
     for meta in metas {
-        if abtm::kind_in(*meta) == Some(kind) {
+        if *meta / abtm::KIND_STEP == wanted {
             count += 1;
         }
     }

@@ -3,11 +3,11 @@ use Rattle.std.specs.Prelude.{Result, Ok}
 use Rattle.hybit_core.specs.declared.HybitError.{HybitError}
 use mathlib.Core.Bool.{Bool, true, false, ◌&&◌}
 use mathlib.Core.List.{List, zip}
-use mathlib.Core.Path.{◌≡◌, refl, sym, ◌∙◌}
-use Prim.Native.Nat.{ℕ, suc, ◌+◌, ◌^◌, ◌≤◌, ◌<◌}
+use mathlib.Core.Path.{◌≡◌, refl, sym, ap, ◌∙◌}
+use Prim.Native.Nat.{ℕ, suc, ◌+◌, ◌-◌, ◌^◌, ◌≤◌, ◌<◌}
 use native.Mathlib.Omega.{arith}
 use lib.Dec.{eqb, ltb}
-use lib.ListN.{length, get_or}
+use lib.ListN.{length, get_or, take, drop}
 use lib.Ieee.{Float}
 use borrow.Author.Tests.{leb-true, ltb-true, eqb-true, eq-eqb, ne_eqb}
 use Rattle.hybit_core.specs.Answer.{Answer, accepted, demand, length_is, ◌and_then◌}
@@ -17,7 +17,7 @@ use Rattle.hybit_core.specs.Table.{told}
 use Rattle.hybit_core.proofs.BoolLaws.{and_left, and_right}
 use Rattle.hybit_core.proofs.AnswerLaws.{demand_accepted, then_first, then_second, length_accepted, accepted_by}
 use Rattle.lent.specs.Lists.{every, some, rises, part}
-use Rattle.lent.proofs.ListLaws.{every-get_or, every-part, every-left, some_left, some-every}
+use Rattle.lent.proofs.ListLaws.{every-get_or, every-part, every-left, some_left, some-every, part_lent}
 use Rattle.csr32.specs.Csr.{Csr, Entry, framed, framed_lists, csr_sizes, csr_rules, csr_answer, entries, present, apply_answer}
 use Rattle.csr32.proofs.FrameLaws.{Framed, framed_facts, RowIn, row_in, part_lengths}
 
@@ -114,6 +114,16 @@ module _ {m : Csr} (v : Valid m) where
 
   pub row_sides : (r : ℕ) → length (part m.ptr m.col r) ≡ length (part m.ptr m.val r)
   row_sides r = part_lengths m.ptr m.col m.val r v.sides
+
+  -- the same of a row that is cut by its two pointers
+  pub cut_columns : (r : ℕ) → every (λ c. ltb c m.cols) (take (get_or m.ptr (r + 1) 0 - get_or m.ptr r 0) (drop (get_or m.ptr r 0) m.col)) ≡ true
+  cut_columns r = ap (every (λ c. ltb c m.cols)) (part_lent m.ptr m.col r (get_or m.ptr r 0) (get_or m.ptr (r + 1) 0) refl refl) ∙ row_columns r
+
+  pub cut_sides : (r : ℕ) → length (take (get_or m.ptr (r + 1) 0 - get_or m.ptr r 0) (drop (get_or m.ptr r 0) m.val)) ≡ length (take (get_or m.ptr (r + 1) 0 - get_or m.ptr r 0) (drop (get_or m.ptr r 0) m.col))
+  cut_sides r =
+      ap length (part_lent m.ptr m.val r (get_or m.ptr r 0) (get_or m.ptr (r + 1) 0) refl refl)
+      ∙ sym (row_sides r)
+      ∙ sym (ap length (part_lent m.ptr m.col r (get_or m.ptr r 0) (get_or m.ptr (r + 1) 0) refl refl))
 
   pub entries_columns : (r : ℕ) → every (λ (e : Entry). ltb e.0 m.cols) (entries m r) ≡ true
   unfolding entries

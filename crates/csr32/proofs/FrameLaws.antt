@@ -13,7 +13,9 @@ use lib.Seq.{slice, take-take, take-length, length-take-le}
 use borrow.Author.Tests.{le-leb, leb-true, eq-eqb, eqb-true}
 use Rattle.hybit_core.proofs.BoolLaws.{and_left, and_right, and_both}
 use Rattle.lent.specs.Lists.{joined, starts, part, rises}
-use Rattle.lent.proofs.ListLaws.{get_or-starts, length-starts, length-joined-suc}
+use Rattle.lent.proofs.ListLaws.{get_or-starts, length-starts, length-joined-suc, part_empty}
+use Rattle.std.proofs.lemmas.List.{get_or_past}
+use Rattle.std.proofs.Math.Nat.{min-eq_left}
 use Rattle.csr32.specs.Csr.{framed, framed_lists}
 
 -- ---- lists that don't fall
@@ -82,6 +84,11 @@ module _ (rows : ℕ) (ptr : List ℕ) (a b : ℕ) (e : framed_lists rows ptr a 
 
   pub row_left : (r : ℕ) → r < rows → RowIn ptr a r
   row_left r h = let x : RowIn ptr b r = row_right r h in record { here = x.here; next = x.next; order = x.order; inside = omega (arith, x.inside, lists_sides) }
+
+-- past the last row there is nothing
+pub part_after : {A : Type 0} (rows : ℕ) (ptr : List ℕ) (l : List A) (n r : ℕ) → Framed rows ptr n → rows ≤ r → [] ≡ part ptr l r
+part_after rows ptr l n r f h =
+    part_empty ptr l r 0 0 (sym (get_or_past ptr (r + 1) 0 (omega (arith, f.long)))) (sym (min-eq_left (omega arith))) (get_or ptr r 0) refl (omega arith)
 
 -- ---- a list by its rows
 

@@ -218,16 +218,26 @@ impl<'a> Csr32Matrix<'a> {
 }
 
 impl<'a> CheckedCsr32<'a> {
-    // The entries of a row.
+    // The entries of a row, none past the last one. Its pointers are read once for both lists, with no test beside the row's own:
+    // lent::part would compare them for each.
     pub fn row(self, row: usize) -> CsrRow<'a>
         ensures ncols { result.ncols ≡ self.entry.matrix.ncols }
         ensures cols { result.cols.now ≡ part self.entry.matrix.row_ptr.now self.entry.matrix.col_idx.now row }
         ensures vals { result.vals.now ≡ part self.entry.matrix.row_ptr.now self.entry.matrix.values.now row }
     {
-        CsrRow {
-            ncols: self.matrix.ncols,
-            cols: lent::part(self.matrix.row_ptr, self.matrix.col_idx, row),
-            vals: lent::part(self.matrix.row_ptr, self.matrix.values, row),
+        let matrix = self.matrix;
+        let ncols = matrix.ncols;
+        if row >= matrix.nrows {
+            return CsrRow {
+                ncols,
+                cols: &matrix.col_idx[..0],
+                vals: &matrix.values[..0],
+            };
         }
+        let start = matrix.row_ptr[row] as usize;
+        let end = matrix.row_ptr[row + 1] as usize;
+        let cols = &matrix.col_idx[start..end];
+        let vals = &matrix.values[start..end];
+        CsrRow { ncols, cols, vals }
     }
 }

@@ -9,7 +9,6 @@ use borrow.Author.Tests.{ltb-true, leb-true}
 use lib.Dec.{eqb, ltb, leb}
 use lib.ListN.{length, get_or, take, set}
 use lib.Seq.{take-suc, take_all}
-use Rattle.std.specs.List.{list_all}
 use Rattle.hybit_core.specs.Answer.{accepted, demand, ◌and_then◌}
 use Rattle.hybit_core.specs.Domain.{few}
 use Rattle.hybit_core.proofs.AnswerLaws.{demand_accepted, then_first, then_second}
@@ -132,9 +131,3 @@ new_list n room out e = go (few n) (leb (ceil64 n) room) refl
     go true true q = e ∙ new_is n room (leb-true (ceil64 n) room q)
     go true false q = e
     go false t q = e
-
--- the library's word for a test of each element, and the repository's
-pub every_all : {A : Type 0} (p : A → Bool) (l : List A) → list_all p l ≡ every p l
-unfolding every
-every_all p [] = refl
-every_all p (a ∷ l) = ap (λ (t : Bool). p a && t) (every_all p l)

@@ -156,7 +156,7 @@ impl AbtmMetadataFirstStats {
 }
 
 // The proofs know of a list that a call answers that its numbers have 64 bits, as of a parameter, but not of a field.
-fn masks_of<'a>(topology: AbtmTopology<'a>) -> &'a [u64]
+fn masks_of<'p, 'w, 'm>(topology: AbtmTopology<'p, 'w, 'm>) -> &'m [u64]
     ensures { result.now ≡ topology.entry.masks.now }
 {
     topology.masks
@@ -209,7 +209,7 @@ fn refused_store(masks: &[u64], structural_nnz: usize) -> Result<(), HybitError>
     Err(HybitError::BadStore)
 }
 
-impl<'a> AbtmMetadataFirstMatrix<'a> {
+impl<'p, 'w, 'm, 'r, 'v> AbtmMetadataFirstMatrix<'p, 'w, 'm, 'r, 'v> {
     // The Rust's `validate`. Where every row has as many values as present columns, the total of set bits is the number of
     // values, and the bits need not be counted again.
     pub fn check(self) -> Result<(), HybitError>
@@ -230,7 +230,7 @@ impl<'a> AbtmMetadataFirstMatrix<'a> {
     }
 
     // The row's values, as that part of the lent list.
-    pub fn row_values(self, row: usize) -> Result<&'a [f64], HybitError>
+    pub fn row_values(self, row: usize) -> Result<&'v [f64], HybitError>
         ensures { on_given (λ s. s.now) (given result) ≡ answers (store_row_answer (lent_store self.entry) row) (part self.entry.row_value_ptr.now self.entry.values.now row) }
     {
         check_row(self, row)?;

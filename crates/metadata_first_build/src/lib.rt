@@ -29,9 +29,9 @@ use topology::{AbtmTopology, AbtmTopologyRow, CheckedTopologyRow, FramedTopology
 
 // What the values are packed from: an accepted plot list, and its words.
 #[derive(Clone, Copy)]
-struct Source<'a, 'b> {
+struct Source<'a, 'p, 'w, 'm> {
     csr: CheckedCsr32<'a>,
-    words: FramedTopology<'b>,
+    words: FramedTopology<'p, 'w, 'm>,
     ghost built: { lent_topology words.topology ≡ topology_from (lent_csr csr.matrix) },
 }
 

@@ -21,10 +21,10 @@ use metadata_first::{AbtmMetadataFirstMatrix, AbtmRowDot};
 
 // What every dot reads: the operands, accepted.
 #[derive(Clone, Copy)]
-struct Operands<'a> {
-    packed: AbtmMetadataFirstMatrix<'a>,
-    mask: DofMask<'a>,
-    x: &'a [f64],
+struct Operands<'p, 'w, 'm, 'r, 'v, 'k, 'x> {
+    packed: AbtmMetadataFirstMatrix<'p, 'w, 'm, 'r, 'v>,
+    mask: DofMask<'k>,
+    x: &'x [f64],
     ghost valid: { operands_answer (lent_store packed) (lent_mask mask) x.now ≡ accepted },
 }
 

@@ -272,7 +272,7 @@ fn words_of_70<'a>(
     word_indices: &'a [u32],
     masks: &'a [u64],
     structural_nnz: usize,
-) -> AbtmTopology<'a> {
+) -> AbtmTopology<'a, 'a, 'a> {
     AbtmTopology {
         nrows: 1,
         ncols: 70,
@@ -360,7 +360,7 @@ fn show_empty(rt: &impl Print) -> io::Result<()> {
 // ---- two records
 
 // A row of 64 columns with a mask of two bits.
-fn row_of_64<'a>(row_word_ptr: &'a [u32], masks: &'a [u64]) -> AbtmTopology<'a> {
+fn row_of_64<'a>(row_word_ptr: &'a [u32], masks: &'a [u64]) -> AbtmTopology<'a, 'a, 'a> {
     AbtmTopology {
         nrows: 1,
         ncols: 64,

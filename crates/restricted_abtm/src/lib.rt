@@ -118,7 +118,7 @@ fn keep_row(
 }
 
 // The proofs know of a list that a call answers that its numbers have 64 bits, as they know it of a parameter, but not of a field.
-fn masks_of<'a>(tiles: AbtmMatrix<'a>) -> &'a [u64]
+fn masks_of<'a>(tiles: AbtmMatrix<'a, 'a, 'a, 'a>) -> &'a [u64]
     ensures { result.now ≡ tiles.entry.masks.now }
 {
     tiles.masks
@@ -127,7 +127,7 @@ fn masks_of<'a>(tiles: AbtmMatrix<'a>) -> &'a [u64]
 // The rows of accepted tiles and mask, the entries that lie below `room`; answers how many are kept.
 // A row's pointers are read once for its three parts: lent::part would read and compare them for each.
 fn fill_rows<'a>(
-    tiles: AbtmMatrix<'a>,
+    tiles: AbtmMatrix<'a, 'a, 'a, 'a>,
     mask: DofMask<'a>,
     room: usize,
     out_row_ptr: &mut [u32],
@@ -276,7 +276,7 @@ fn examine_written(written: &[f64]) -> Result<(), HybitError>
 // Writes the entries of accepted tiles and mask. Where all of them fit, the values that were written are tested; where they don't, the
 // active ones are, since an infinite one is refused before a list that is too short.
 fn fill<'a>(
-    tiles: AbtmMatrix<'a>,
+    tiles: AbtmMatrix<'a, 'a, 'a, 'a>,
     mask: DofMask<'a>,
     out_row_ptr: &mut [u32],
     out_col_idx: &mut [u32],

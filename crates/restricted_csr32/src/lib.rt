@@ -24,8 +24,6 @@ use mask::DofMask;
 use restricted::ColumnRestriction;
 
 // Appends a row's entries in active columns, in stored order, from place `from` on; answers the next place.
-// Not inlined: in its caller the loop has too few registers, and a call takes longer (docs/DESIGN-PASS.md, Speed).
-#[inline(never)]
 fn keep_row(
     row: CsrRow,
     mask: DofMask,

@@ -51,12 +51,13 @@ fn count_region(csr: Csr32Matrix, region: DofMask) -> LocalRegion
     requires { Region (lent_csr csr) (lent_mask region) }
     ensures { result ≡ region_of (lent_csr csr.entry) (lent_mask region.entry) }
 {
+    let checked = CheckedCsr32 { matrix: csr };
     let mut nodes: usize = 0;
     let mut kept: usize = 0;
     let mut source: usize = 0;
     for row in 0..csr.nrows {
         if region.is_member(row) {
-            let cols = lent::part(csr.row_ptr, csr.col_idx, row);
+            let cols = checked.row(row).cols;
             nodes += 1;
             kept += restricted::count_active(cols, region);
             source += cols.len();

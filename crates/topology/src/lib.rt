@@ -214,19 +214,37 @@ fn lists_hold(topology: AbtmTopology) -> bool
     rows_hold(FramedTopology { topology })
 }
 
-impl<'a> FramedTopology<'a> {
-    // The words and masks of a row.
-    pub fn row(self, row: usize) -> AbtmTopologyRow<'a>
+// The proofs know of a list that a call answers that its numbers have 64 bits, as of a parameter, but not of a field.
+fn masks_of<'p, 'w, 'm>(topology: AbtmTopology<'p, 'w, 'm>) -> &'m [u64]
+    ensures { result.now ≡ topology.entry.masks.now }
+{
+    topology.masks
+}
+
+impl<'p, 'w, 'm> FramedTopology<'p, 'w, 'm> {
+    // The words and masks of a row, none past the last one. Its pointers are read once for both lists, with no test beside the row's
+    // own: lent::part would compare them for each.
+    pub fn row(self, row: usize) -> AbtmTopologyRow<'w, 'm>
         ensures words { result.words.now ≡ part self.entry.topology.row_word_ptr.now self.entry.topology.word_indices.now row }
         ensures masks { result.masks.now ≡ part self.entry.topology.row_word_ptr.now self.entry.topology.masks.now row }
     {
-        let words = lent::part(self.topology.row_word_ptr, self.topology.word_indices, row);
-        let masks = lent::part(self.topology.row_word_ptr, self.topology.masks, row);
+        let topology = self.topology;
+        let all = masks_of(topology);
+        if row >= topology.nrows {
+            return AbtmTopologyRow {
+                words: &topology.word_indices[..0],
+                masks: &all[..0],
+            };
+        }
+        let start = topology.row_word_ptr[row] as usize;
+        let end = topology.row_word_ptr[row + 1] as usize;
+        let words = &topology.word_indices[start..end];
+        let masks = &all[start..end];
         AbtmTopologyRow { words, masks }
     }
 }
 
-impl<'a> AbtmTopology<'a> {
+impl<'p, 'w, 'm> AbtmTopology<'p, 'w, 'm> {
     // `check` of all but the total.
     pub fn check_lists(self) -> Result<(), HybitError>
         ensures { told result ≡ word_answer (counted (lent_topology self.entry)) }

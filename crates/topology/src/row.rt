@@ -3,9 +3,9 @@ ghost use Rattle.std.specs.Prelude.{◌≡◌, ℕ, true, ◌<◌, ◌≤◌, �
 ghost use Rattle.topology.specs.Words.{row_rule};
 
 #[derive(Clone, Copy)]
-pub struct AbtmTopologyRow<'a> {
-    pub words: &'a [u32],
-    pub masks: &'a [u64],
+pub struct AbtmTopologyRow<'w, 'm> {
+    pub words: &'w [u32],
+    pub masks: &'m [u64],
     pub ghost paired: { length masks.now ≡ length words.now },
     // What the masks' type says: for the proofs that read no mask.
     pub ghost masks_fit: { (k : ℕ) → get_or masks.now k 0 < 2 ^ 64 },
@@ -13,9 +13,9 @@ pub struct AbtmTopologyRow<'a> {
 
 // A row of `ncols` columns in which refusal 11 finds nothing.
 #[derive(Clone, Copy)]
-pub struct CheckedTopologyRow<'a> {
+pub struct CheckedTopologyRow<'w, 'm> {
     pub ncols: usize,
-    pub row: AbtmTopologyRow<'a>,
+    pub row: AbtmTopologyRow<'w, 'm>,
     pub ghost few: { ncols ≤ 2 ^ 20 },
     pub ghost rule: { row_rule ncols row.words.now row.masks.now ≡ true },
 }

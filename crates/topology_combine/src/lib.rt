@@ -25,11 +25,11 @@ use word::Operation;
 // One row of each record, side by side. One column count for both: two `CheckedTopologyRow` would have one each, and a fact that the
 // two are the same.
 #[derive(Clone, Copy)]
-struct Rows<'a, 'b> {
+struct Rows<'w, 'm, 'v, 'n> {
     operation: Operation,
     ncols: usize,
-    row: AbtmTopologyRow<'a>,
-    other: AbtmTopologyRow<'b>,
+    row: AbtmTopologyRow<'w, 'm>,
+    other: AbtmTopologyRow<'v, 'n>,
     ghost rule: { row_rule ncols row.words.now row.masks.now ≡ true },
     ghost other_rule: { row_rule ncols other.words.now other.masks.now ≡ true },
 }

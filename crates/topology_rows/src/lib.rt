@@ -25,10 +25,10 @@ fn check_row(topology: AbtmTopology, row: usize) -> Result<(), HybitError>
 }
 
 // The words and masks of a row.
-fn checked_row<'a>(
-    topology: AbtmTopology<'a>,
+fn checked_row<'p, 'w, 'm>(
+    topology: AbtmTopology<'p, 'w, 'm>,
     row: usize,
-) -> Result<CheckedTopologyRow<'a>, HybitError>
+) -> Result<CheckedTopologyRow<'w, 'm>, HybitError>
     ensures ncols { on_given (λ r. r.ncols) (given result) ≡ answers (row_answer (lent_topology topology.entry) row) topology.entry.ncols }
     ensures words { on_given (λ r. r.row.words.now) (given result) ≡ answers (row_answer (lent_topology topology.entry) row) (part topology.entry.row_word_ptr.now topology.entry.word_indices.now row) }
     ensures masks { on_given (λ r. r.row.masks.now) (given result) ≡ answers (row_answer (lent_topology topology.entry) row) (part topology.entry.row_word_ptr.now topology.entry.masks.now row) }
@@ -42,14 +42,20 @@ fn checked_row<'a>(
 }
 
 // The row's word numbers, as that part of the lent list.
-pub fn row_word_indices<'a>(topology: AbtmTopology<'a>, row: usize) -> Result<&'a [u32], HybitError>
+pub fn row_word_indices<'p, 'w, 'm>(
+    topology: AbtmTopology<'p, 'w, 'm>,
+    row: usize,
+) -> Result<&'w [u32], HybitError>
     ensures { on_given (λ s. s.now) (given result) ≡ answers (row_answer (lent_topology topology.entry) row) (part topology.entry.row_word_ptr.now topology.entry.word_indices.now row) }
 {
     Ok(checked_row(topology, row)?.row.words)
 }
 
 // The row's masks, in the same way.
-pub fn row_masks<'a>(topology: AbtmTopology<'a>, row: usize) -> Result<&'a [u64], HybitError>
+pub fn row_masks<'p, 'w, 'm>(
+    topology: AbtmTopology<'p, 'w, 'm>,
+    row: usize,
+) -> Result<&'m [u64], HybitError>
     ensures { on_given (λ s. s.now) (given result) ≡ answers (row_answer (lent_topology topology.entry) row) (part topology.entry.row_word_ptr.now topology.entry.masks.now row) }
 {
     Ok(checked_row(topology, row)?.row.masks)

@@ -1,5 +1,7 @@
 -- `abtm_check::rules_hold` meets its contract. Assumes nothing.
 use Rattle.std.proofs.Common.{length, sym, ◌∙◌}
+use Rattle.hybit_core.proofs.BoolLaws.{and_right}
+use Rattle.csr32.specs.Csr.{framed_lists}
 use Rattle.csr32.proofs.FrameLaws.{lists_sides}
 use Rattle.topology.proofs.CallLaws.{bits_whole}
 use Rattle.abtm_check.proofs.RuleLaws.{counted_held, none_counted, rules_unframed, rules_unequal, rules_rows, rules_counted}
@@ -14,7 +16,8 @@ pub returns-then-matrix : goal.returns-then-matrix
 returns-then-matrix c = rules_unequal _ _ c.args.matrix.row_tile_ptr.now c.args.matrix.metas.now c.args.matrix.masks.now c.args.matrix.value_offsets.now c.args.matrix.values.now _ c.if-matrix.true
 
 pub invariant_of-tiles : goal.invariant_of-tiles
-invariant_of-tiles c = let sides = lists_sides _ _ _ _ (sym c.if-not-lists_hold.ensures) in record { offsets_paired = c.if-matrix.false ∙ sides; metas_paired = sides }
+unfolding framed_lists
+invariant_of-tiles c = let sides = lists_sides _ _ _ _ (sym c.if-not-lists_hold.ensures) in record { offsets_paired = c.if-matrix.false ∙ sides; metas_paired = sides; rows_framed = and_right _ _ (sym c.if-not-lists_hold.ensures) }
 
 pub returns-then-rows_hold : goal.returns-then-rows_hold
 returns-then-rows_hold c =

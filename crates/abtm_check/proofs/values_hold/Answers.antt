@@ -1,5 +1,5 @@
 -- `abtm_check::values_hold` meets its contract. Assumes nothing.
-use mathlib.Core.Path.{refl, ap}
+use mathlib.Core.Path.{ap}
 use Rattle.std.proofs.Common.{arith, rules}
 use Rattle.hybit_core.proofs.BoolLaws.{flag_on, flag_off}
 use Rattle.lent.proofs.ListLaws.{length-only}

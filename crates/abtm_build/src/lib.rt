@@ -78,6 +78,11 @@ fn gather(
     let width = sums.len();
     let mut next = past;
     for (k, column) in row.cols.iter().enumerate() {
+        // First the column: the value of an entry before the window is not read.
+        let c = *column as usize;
+        if c < base {
+            continue;
+        }
         let value = row.vals[k];
         if abtm_values::is_zero(value) {
             continue;
@@ -86,11 +91,8 @@ fn gather(
             add_at(i, value, sums, words, blocks);
             continue;
         }
-        // Not in the window: before it, or past it.
-        let c = *column as usize;
-        if base <= c {
-            next = next.min(c);
-        }
+        // Past the window.
+        next = next.min(c);
     }
     next
 }

@@ -124,7 +124,9 @@ fn full_count<const WIDTH: usize>(operands: Operands<WIDTH>, row: usize) -> usiz
     fast_end(WIDTH, matrix.ncols, matrix.col_idx, start, end) - start
 }
 
-// The rows of full block row `row`: the blocks from place `from` on are added to `sums`.
+// The rows of full block row `row`: the blocks from place `from` on are added to `sums`. Inlined, since a call of its own copies the
+// operands, which costs as much as a block row without blocks.
+#[inline(always)]
 fn add_blocks<const WIDTH: usize>(
     operands: Operands<WIDTH>,
     row: usize,

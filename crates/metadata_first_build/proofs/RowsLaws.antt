@@ -20,7 +20,7 @@ use Rattle.mask.specs.Calls.{listed}
 use Rattle.csr32.specs.Csr.{Csr, Entry, csr_answer, entries, present, merged}
 use Rattle.csr32.proofs.FrameLaws.{Framed, parts_all}
 use Rattle.csr32.proofs.CsrLaws.{Valid, valid, present_row}
-use Rattle.topology.specs.Words.{Words, set_bits}
+use Rattle.topology.specs.Words.{Words, topology_of, set_bits}
 use Rattle.topology.proofs.RowLaws.{Row}
 use Rattle.topology.proofs.TopologyLaws.{row_bits, row_words_lem, row_masks_lem}
 use Rattle.topology_build.specs.Build.{topology_from}
@@ -88,6 +88,11 @@ pub record Cut (a b x y : ℕ) : Type 0 where
 module _ (m : Csr) (list : csr_answer m ≡ accepted) (t : Words) (src : t ≡ topology_from m) (bits₀ starts₀ : List ℕ) where
   ok : Valid m
   ok = valid m list
+
+  -- the words have as many rows as the list
+  pub packing_rows : t.rows ≡ m.rows
+  unfolding topology_of
+  packing_rows = ap (λ (w : Words). w.rows) src
 
   pub packing_none : (vptr : List ℕ) (packed : List Float) → length vptr ≡ m.rows + 1 → packed ≡ replicate (length (store_of m).vals) zero64 → Packing m bits₀ starts₀ 0 0 bits₀ starts₀ vptr packed
   unfolding joined each

@@ -102,8 +102,10 @@ fn pack_rows(
     ensures values { packed.new ≡ (store_of (lent_csr source.entry.csr.matrix)).vals }
 {
     let csr = source.csr;
+    // The list and its words have as many rows. Of the least of the two numbers the compiler sees that each row of both is there.
+    let nrows = csr.matrix.nrows.min(source.words.topology.nrows);
     let mut at: usize = 0;
-    for row in 0..csr.matrix.nrows {
+    for row in 0..nrows {
         row_value_ptr[row] = hybit_core::narrow(at);
         let row_words = source.words.row(row);
         let to = at + topology::count_bits(row_words.masks);

@@ -4,7 +4,6 @@ use native.Mathlib.Omega.{arith}
 use lib.ListN.{length}
 use Rattle.csr32.proofs.WindowLaws.{placed, unplaced}
 use Rattle.abtm_build.proofs.WindowLaws.{sized_as, marked_zeros, gathered_none, gathered_as, gathered-at, gathered_in, gathered-past, gathered_before, gathered-zero, gathered_done, gathered_next}
-use Rattle.abtm_build.proofs.gather.Goals.{then-base-c, else-base-c}
 use Rattle.abtm_build.proofs.gather.Goals as goal
 
 pub loop-k-init : goal.loop-k-init
@@ -22,10 +21,10 @@ loop-k-preserved-in-Some c = let p = placed c.args.base (length c.args.sums.now)
 
 pub loop-k-preserved : goal.loop-k-preserved
 loop-k-preserved c = let n = unplaced c.args.base (length c.args.sums.now) _ _ c.place_in_window.ensures c.in_default.is in
-    elim c.if-base-c.branch [
-      | then-base-c w ↦ rw w.next-is (c.loop-k.invariant.0, c.loop-k.invariant.1, c.loop-k.invariant.2, c.loop-k.invariant.3, omega arith, c.loop-k.invariant.5, c.loop-k.invariant.6, gathered-at _ _ _ _ _ _ _ _ w.min-next.ensures (gathered-past _ _ _ _ _ _ _ c.loop-k.invariant.7 _ _ (omega arith) c.args.row.paired refl refl w.if-base-c.true (n w.if-base-c.true)))
-      | else-base-c w ↦ rw w.next-is (c.loop-k.invariant.0, c.loop-k.invariant.1, c.loop-k.invariant.2, c.loop-k.invariant.3, c.loop-k.invariant.4, c.loop-k.invariant.5, c.loop-k.invariant.6, gathered_before _ _ _ _ _ _ _ c.loop-k.invariant.7 _ _ (omega arith) c.args.row.paired refl refl w.if-base-c.false)
-    ]
+    (c.loop-k.invariant.0, c.loop-k.invariant.1, c.loop-k.invariant.2, c.loop-k.invariant.3, omega arith, c.loop-k.invariant.5, c.loop-k.invariant.6, gathered-at _ _ _ _ _ _ _ _ c.min-next.ensures (gathered-past _ _ _ _ _ _ _ c.loop-k.invariant.7 _ _ (omega arith) c.args.row.paired refl refl (omega arith) (n (omega arith))))
+
+pub loop-k-preserved-then-c-base : goal.loop-k-preserved-then-c-base
+loop-k-preserved-then-c-base c = (c.loop-k.invariant.0, c.loop-k.invariant.1, c.loop-k.invariant.2, c.loop-k.invariant.3, c.loop-k.invariant.4, c.loop-k.invariant.5, c.loop-k.invariant.6, gathered_before _ _ _ _ _ _ _ c.loop-k.invariant.7 _ _ (omega arith) c.args.row.paired refl refl (omega arith))
 
 pub loop-k-preserved-then-is_zero : goal.loop-k-preserved-then-is_zero
 loop-k-preserved-then-is_zero c = let z = sym c.is_zero.ensures ∙ c.if-is_zero.true in

@@ -129,7 +129,10 @@ struct WordSums<'a> {
     ghost long: { length list.now ≡ 64 },
 }
 
-// The places of a word's 64 sums that are not zero. The loop is over 64 places, not over the list, so that its length is known.
+// The places of a word's 64 sums that are not zero. The loop is over 64 places, not over the list, so that its length is known. A call
+// of its own: inlined, the loop has long registers, and where its jump ends on 32 bytes a processor of the Skylake kind takes half as
+// long again.
+#[inline(never)]
 fn word_mask(sums: WordSums) -> u64
     ensures { result ≡ word_of (λ i. not (is_zero (get_or sums.entry.list.now i nan))) }
 {

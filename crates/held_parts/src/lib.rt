@@ -92,7 +92,10 @@ mod tests {
         let mut offsets = [0, 1];
         let mut metas = [0, 1];
         let mut values = [1.0, 2.0, 4.0];
-        let held = abtm_rows::row_tile_masks(tiles(&pointers, &masks, &offsets, &metas, &values), 0);
+        let held = abtm_rows::row_tile_masks(
+            tiles(&pointers, &masks, &offsets, &metas, &values),
+            0,
+        );
         pointers[1] = 0;
         offsets[1] = 0;
         metas[1] = 0;
@@ -107,7 +110,10 @@ mod tests {
         let offsets = [0, 1];
         let mut metas = [0, 1];
         let mut values = [1.0, 2.0, 4.0];
-        let held = abtm_rows::row_tile_value_offsets(tiles(&pointers, &masks, &offsets, &metas, &values), 0);
+        let held = abtm_rows::row_tile_value_offsets(
+            tiles(&pointers, &masks, &offsets, &metas, &values),
+            0,
+        );
         pointers[1] = 0;
         masks[0] = 0;
         metas[1] = 0;
@@ -122,7 +128,10 @@ mod tests {
         let mut offsets = [0, 1];
         let metas = [0, 1];
         let mut values = [1.0, 2.0, 4.0];
-        let held = abtm_rows::row_tile_metas(tiles(&pointers, &masks, &offsets, &metas, &values), 0);
+        let held = abtm_rows::row_tile_metas(
+            tiles(&pointers, &masks, &offsets, &metas, &values),
+            0,
+        );
         pointers[1] = 0;
         masks[0] = 0;
         offsets[1] = 0;

@@ -42,6 +42,9 @@ module _ (vals x : List Float) (base mask : ℕ) where
     pub places : p + length (members b) ≡ length vals
     pub is : added_to s (from_base base (members b) (drop p vals)) x ≡ added_to zero64 (from_base base (members mask) vals) x
 
+  pub compact_none : mask < 2 ^ 64 → length vals ≡ length (members mask) → columns_inside (length x) base mask ≡ true → Compact mask 0 zero64
+  compact_none f e i = record { fits = f; inside = i; places = omega arith; is = refl }
+
   module _ (b p : ℕ) (s : Float) (inv : Compact b p s) where
     module _ (some : b ≡ 0 → ⊥) where
       pub compact_value : p < length vals

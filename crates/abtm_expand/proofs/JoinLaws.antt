@@ -1,4 +1,4 @@
--- Words that tile masks are joined into, on the way. Assumes nothing.
+-- Words copied, and words that tile masks are joined into, on the way. Assumes nothing.
 use mathlib.Core.Bool.{Bool, true, false, ◌&&◌, ◌||◌, or-false}
 use mathlib.Core.List.{List, [], ◌∷◌, ◌++◌, zip}
 use mathlib.Core.Path.{◌≡◌, refl, sym, ap, ◌∙◌}
@@ -10,10 +10,31 @@ use lib.Seq.{take_all}
 use borrow.Author.Tests.{ltb-true, eq-eqb, ne_eqb}
 use Rattle.lent.specs.Lists.{each, every, some}
 use Rattle.lent.proofs.ListLaws.{length-each, get_or-each, each_is, each_set, every-get_or, some-none, some_snoc}
+use Rattle.lent.proofs.LentLaws.{Filled, filled_none, filled_length, filled_more, filled_done}
 use Rattle.word.specs.Bits.{has, word_of}
 use Rattle.word.proofs.OpLaws.{word_is_lem, has_word, word_cong}
 use Rattle.abtm.specs.Tiles.{word_in}
 use Rattle.lent.proofs.PartLaws.{length-zip, zip_suc}
+
+-- ---- words copied: the first k
+
+pub record Copied (src old : List ℕ) (k : ℕ) (new : List ℕ) : Type 0 where
+  pub inside : k ≤ length src
+  pub filled : Filled (λ i. get_or src i 0) old k new
+
+module _ (src old : List ℕ) where
+  pub copied_none : Copied src old 0 old
+  copied_none = record { inside = omega arith; filled = filled_none (λ i. get_or src i 0) old }
+
+  module _ (k : ℕ) (new : List ℕ) (inv : Copied src old k new) (e : length old ≡ length src) where
+    pub copied_long : length new ≡ length old
+    copied_long = filled_length (λ i. get_or src i 0) old k new inv.filled (omega (arith, inv.inside))
+
+    pub copied_more : k < length src → Copied src old (k + 1) (set new k (get_or src k 0))
+    copied_more h = record { inside = omega arith; filled = filled_more (λ i. get_or src i 0) old k new inv.filled (get_or src k 0) refl (omega arith) }
+
+    pub copied_done : length src ≤ k → new ≡ src
+    copied_done h = filled_done (λ i. get_or src i 0) old k new inv.filled (length src) e inv.inside h ∙ sym (each_is 0 (λ i. get_or src i 0) (length src) src refl (λ i l. refl))
 
 -- ---- masks joined into words
 

@@ -7,6 +7,8 @@ use native.Mathlib.Omega.{arith}
 use lib.Dec.{ltb}
 use lib.ListN.{length, get_or}
 use lib.Ieee.{Float}
+use mir.Syntax.{w64}
+use mir.Val.{Fits}
 use borrow.Author.Tests.{leb-true, eqb-true}
 use Rattle.hybit_core.specs.Answer.{accepted, demand, length_is, ◌and_then◌}
 use Rattle.hybit_core.specs.Domain.{few, many, sizes_fit}
@@ -22,6 +24,13 @@ use Rattle.dense_block_check.proofs.RuleLaws.{square_small, slots_fit, pointers_
 use Rattle.dense_block_apply.specs.Product.{Width, three, six, apply_blocks_answer}
 
 -- ---- numbers that fit
+
+-- a place of a block list, one more, and its place in bytes
+pub fits_next : {a : ℕ} → a < 2 ^ 24 → Fits w64 (a + 1)
+fits_next h = omega arith
+
+pub fits_bytes : {a : ℕ} → a ≤ 2 ^ 24 → Fits w64 (a * 4)
+fits_bytes h = omega arith
 
 -- n is the smaller of two numbers
 pub smaller_left : (n k m : ℕ) → n ≡ min k m → n ≤ k
@@ -47,6 +56,10 @@ row_under six R i h = omega arith
 pub row_full : {w : ℕ} → Width w → (R n : ℕ) → w * R + w ≤ n → R < blocks_for w n
 row_full three R n h = omega arith
 row_full six R n h = omega arith
+
+pub row_fits : {w : ℕ} → Width w → (R n : ℕ) → w * R + w ≤ n → Fits w64 n → Fits w64 (R + 1)
+row_fits three R n h k = omega arith
+row_fits six R n h k = omega arith
 
 pub place_small : {w : ℕ} → Width w → (p : ℕ) → p < 2 ^ 24 → p * (w * w) ≤ 2 ^ 39
 place_small three p h = omega arith
@@ -127,6 +140,9 @@ module _ (b : Blocks) (x : List Float) (ny : ℕ) (e : apply_blocks_answer b x n
   frame : (few b.rows && few b.cols) ≡ true
   frame = and_left (few b.rows && few b.cols) (many (length b.col)) sizes
 
+  pub rows_few : b.rows ≤ 2 ^ 20
+  rows_few = leb-true b.rows (2 ^ 20) (and_left (few b.rows) (few b.cols) frame)
+
   facts : Width b.width → Ready b x
   unfolding blocks_answer blocks_rules
   facts k =
@@ -138,7 +154,7 @@ module _ (b : Blocks) (x : List Float) (ny : ℕ) (e : apply_blocks_answer b x n
       let lists : (f && v && c) ≡ true = and_left (f && v && c) (rows_climb b) rule in
       record {
         width = k;
-        rows_in = leb-true b.rows (2 ^ 20) (and_left (few b.rows) (few b.cols) frame);
+        rows_in = rows_few;
         cols_in = leb-true b.cols (2 ^ 20) (and_right (few b.rows) (few b.cols) frame);
         blocks_in = leb-true n (2 ^ 24) (and_right (few b.rows && few b.cols) (many n) sizes);
         frame = framed_facts (blocks_for b.width b.rows) b.ptr n (accepted_frame b rules);

@@ -2,7 +2,7 @@
 -- Assumes nothing.
 use mathlib.Core.Bool.{Bool, true, false, cond, ◌&&◌}
 use mathlib.Core.List.{List, [], ◌∷◌}
-use mathlib.Core.Path.{◌≡◌, refl, ap, ◌∙◌}
+use mathlib.Core.Path.{◌≡◌, refl, ap, ap₂, ◌∙◌}
 use Prim.Native.Nat.{ℕ, zero, suc, ◌+◌, ◌-◌, ◌*◌, ◌^◌, ◌≤◌, ◌<◌}
 use native.Mathlib.Nat.{not-suc-le-zero}
 use native.Mathlib.Decide.{dec_lt}
@@ -14,7 +14,7 @@ use lib.Ieee.{Float}
 use mir.Syntax.{w64}
 use mir.Val.{Fits}
 use borrow.Author.Tests.{leb-true, ltb-true, ltb-false}
-use Rattle.hybit_core.proofs.BoolLaws.{and_left, and_right}
+use Rattle.hybit_core.proofs.BoolLaws.{and_left, and_right, is_below, is_not_below}
 use Rattle.lent.specs.Lists.{climbs, part}
 use Rattle.word.proofs.BitLaws.{every-below-at}
 use Rattle.csr32.proofs.FrameLaws.{part_length}
@@ -69,7 +69,43 @@ pub record Fast (b : Blocks) (from to fast : ℕ) : Type 0 where
   pub last : fast < to → fast + 1 ≡ to
   pub tail : fast < to → b.cols < b.width * get_or b.col fast 0 + b.width
 
--- what the code's number says
+-- the code's number at each of its returns
+module _ (from to : ℕ) where
+  abbrev ends : Bool → Bool → ℕ
+  ends s t = cond (s && t) (to - 1) to
+
+  pub end_none : (t : Bool) → to ≤ from → to ≡ cond (ltb from to && t) (to - 1) to
+  end_none t l = ap (λ (s : Bool). ends s t) (is_not_below from to l)
+
+  -- C is the last block column as the code has it, D as the contract does
+  module _ (w n C D : ℕ) (e : C ≡ D) (l : from < to) where
+    pub end_tail : n < w * C + w → to - 1 ≡ cond (ltb from to && ltb n (w * D + w)) (to - 1) to
+    end_tail h = ap₂ ends (is_below from to l) (is_below n (w * D + w) (rw e at h))
+
+    pub end_full : w * C + w ≤ n → to ≡ cond (ltb from to && ltb n (w * D + w)) (to - 1) to
+    end_full h = ap₂ ends (is_below from to l) (is_not_below n (w * D + w) (rw e at h))
+
+-- that number is no place before the first
+end_after : (w n : ℕ) (cs : List ℕ) (from to : ℕ) → from ≤ to → from ≤ fast_end w n cs from to
+end_after w n cs from to h = go (ltb from to) (ltb n (w * get_or cs (to - 1) 0 + w)) refl
+  where
+    go : (s t : Bool) → ltb from to ≡ s → from ≤ cond (s && t) (to - 1) to
+    go true true e = let l : from < to = ltb-true from to e in omega arith
+    go true false e = h
+    go false t e = h
+
+-- a, e and fast as the code has them
+module _ (w n : ℕ) (cs : List ℕ) (from to a e fast : ℕ) (p : a ≡ from) (q : e ≡ to) (h : from ≤ to) (f : fast ≡ fast_end w n cs a e) where
+  whole : fast ≡ fast_end w n cs from to
+  whole = f ∙ ap₂ (fast_end w n cs) p q
+
+  pub count-after : a ≤ fast
+  count-after = rw (whole, p) (end_after w n cs from to h)
+
+  pub count_is : from + (fast - a) ≡ fast_end w n cs from to
+  count_is = let l = count-after in let k : from + (fast - a) ≡ fast = omega arith in k ∙ whole
+
+-- what that number says
 pub fast_is : {b : Blocks} {x : List Float} {R from to : ℕ} → Row b x R from to → b.width * R + b.width ≤ b.rows → (fast : ℕ)
     → fast ≡ fast_end b.width b.cols b.col from to → Fast b from to fast
 fast_is {b} {x} {R} {from} {to} r h fast = go (ltb from to) (ltb b.cols (final + b.width)) refl refl

@@ -3,18 +3,18 @@ use mathlib.Core.Bool.{Bool, true, false}
 use mathlib.Core.List.{List, [], ◌∷◌, ◌++◌}
 use mathlib.Core.Path.{◌≡◌, refl, sym, ap, ap₂, subst, ◌∙◌}
 use Prim.Native.Nat.{ℕ, min, ◌+◌, ◌-◌, ◌*◌, ◌/◌, ◌≤◌, ◌<◌}
-use native.Mathlib.Nat.{mul-zero, mul-div-le}
+use native.Mathlib.Nat.{add-zero, mul-zero, mul-div-le}
 use native.Mathlib.Numerals.{add-one}
 use native.Mathlib.Omega.{arith}
-use lib.Dec.{ltb}
+use lib.Dec.{eqb, ltb}
 use lib.ListN.{length, get_or, take, drop, set, get_or-append, length-append, length-set, length-take, length-drop}
 use lib.Seq.{take_all, take-suc-set, get_or-take, get_or-drop, get_or-append-add, length-take-le}
 use lib.Ieee.{Float, nan}
-use borrow.Author.Tests.{ltb-true, ltb-false}
+use borrow.Author.Tests.{eqb-true, eqb-false, ltb-true, ltb-false}
 use Rattle.std.specs.Int.{div_ceil}
 use Rattle.lent.specs.Lists.{joined, each}
 use Rattle.lent.proofs.ListLaws.{get_or-each, length-each, each_is}
-use Rattle.csr32.proofs.SumLaws.{Known}
+use Rattle.csr32.proofs.SumLaws.{Known, known_new, known_kept}
 use Rattle.dense_block.specs.Blocks.{Blocks}
 use Rattle.dense_block_apply.specs.Product.{Width, three, six, block_sum, blocks_product}
 
@@ -100,6 +100,49 @@ wrote_rows f at n y sums z h e q = record {
     go k w false p true r = record { is = λ b. ap (λ (l : List Float). get_or l k nan) q ∙ within k (ltb-false k at p) (ltb-true k (at + n) r) }
     go k w false p false r = record { is = λ b. ap (λ (l : List Float). get_or l k nan) q ∙ after k (ltb-false k (at + n) r) ∙ w.is (omega (arith, size)) }
 
+-- the numbers written one after another
+module _ (f : ℕ → Float) (at : ℕ) (y : List Float) where
+  wrote_none : Wrote f at 0 y y
+  wrote_none = record { long = refl; kept = λ k h. h; new = λ k l u. absurd (omega arith) }
+
+  -- p is the next place
+  wrote_more : (n p : ℕ) (z : List Float) (v : Float) → Wrote f at n y z → p ≡ at + n → v ≡ f p → Wrote f at (n + 1) y (set z p v)
+  wrote_more n p z v w e g = record {
+    long = length-set z p v ∙ w.long;
+    kept = λ k h. known_kept f z p v g k (w.kept k h);
+    new = λ k l u. go k l u (eqb k p) refl;
+  }
+    where
+      go : (k : ℕ) → at ≤ k → k < at + (n + 1) → (t : Bool) → eqb k p ≡ t → Known f (set z p v) k
+      go k l u true q = known_new f z p v g k (λ h. sym (eqb-true k p q))
+      go k l u false q = known_kept f z p v g k (w.new k l (omega (arith, eqb-false k p q)))
+
+  module _ (sums z : List Float) where
+    taken : (n : ℕ) → sums ≡ each (λ j. f (at + j)) n → (i : ℕ) → i < n → get_or sums i nan ≡ f (at + i)
+    taken n e i h = ap (λ (t : List Float). get_or t i nan) e ∙ get_or-each (λ j. f (at + j)) n i nan h
+
+    first_taken : (n : ℕ) → sums ≡ each (λ j. f (at + j)) n → 0 < n → get_or sums 0 nan ≡ f at
+    first_taken n e h = taken n e 0 h ∙ ap f (add-zero at)
+
+    wrote_three : sums ≡ each (λ j. f (at + j)) 3 → z ≡ set (set (set y at (get_or sums 0 nan)) (at + 1) (get_or sums 1 nan)) (at + 2) (get_or sums 2 nan) → Wrote f at 3 y z
+    wrote_three e q =
+        let g = taken 3 e in
+        let a = wrote_more 0 at _ _ wrote_none (sym (add-zero at)) (first_taken 3 e (omega arith)) in
+        let b = wrote_more 1 (at + 1) _ _ a refl (g 1 (omega arith)) in
+        rw q (wrote_more 2 (at + 2) _ _ b refl (g 2 (omega arith)))
+
+    wrote_six : sums ≡ each (λ j. f (at + j)) 6
+        → z ≡ set (set (set (set (set (set y at (get_or sums 0 nan)) (at + 1) (get_or sums 1 nan)) (at + 2) (get_or sums 2 nan)) (at + 3) (get_or sums 3 nan)) (at + 4) (get_or sums 4 nan)) (at + 5) (get_or sums 5 nan)
+        → Wrote f at 6 y z
+    wrote_six e q =
+        let g = taken 6 e in
+        let a = wrote_more 0 at _ _ wrote_none (sym (add-zero at)) (first_taken 6 e (omega arith)) in
+        let b = wrote_more 1 (at + 1) _ _ a refl (g 1 (omega arith)) in
+        let c = wrote_more 2 (at + 2) _ _ b refl (g 2 (omega arith)) in
+        let d = wrote_more 3 (at + 3) _ _ c refl (g 3 (omega arith)) in
+        let h = wrote_more 4 (at + 4) _ _ d refl (g 4 (omega arith)) in
+        rw q (wrote_more 5 (at + 5) _ _ h refl (g 5 (omega arith)))
+
 -- ---- the first `top` places in two halves, the second from place q on: the first n of each are known
 
 pub record Halves (f : ℕ → Float) (top q n : ℕ) (y : List Float) : Type 0 where
@@ -167,6 +210,15 @@ module _ (b : Blocks) (x : List Float) where
   pub record Written (row : ℕ) (y : List Float) : Type 0 where
     pub long : length y ≡ b.rows
     pub halves : Halves (block_sum b x) (b.width * (b.rows / b.width)) (b.width * ((b.rows / b.width + 1) / 2)) (b.width * row) y
+
+  pub wrote3 : (R : ℕ) (y sums z : List Float) → sums ≡ each (λ j. block_sum b x (3 * R + j)) 3
+      → z ≡ set (set (set y (3 * R) (get_or sums 0 nan)) (3 * R + 1) (get_or sums 1 nan)) (3 * R + 2) (get_or sums 2 nan) → Wrote (block_sum b x) (3 * R) 3 y z
+  wrote3 R y sums z = wrote_three (block_sum b x) (3 * R) y sums z
+
+  pub wrote6 : (R : ℕ) (y sums z : List Float) → sums ≡ each (λ j. block_sum b x (6 * R + j)) 6
+      → z ≡ set (set (set (set (set (set y (6 * R) (get_or sums 0 nan)) (6 * R + 1) (get_or sums 1 nan)) (6 * R + 2) (get_or sums 2 nan)) (6 * R + 3) (get_or sums 3 nan)) (6 * R + 4) (get_or sums 4 nan)) (6 * R + 5) (get_or sums 5 nan)
+      → Wrote (block_sum b x) (6 * R) 6 y z
+  wrote6 R y sums z = wrote_six (block_sum b x) (6 * R) y sums z
 
   pub written_none : Width b.width → (y : List Float) → length y ≡ b.rows → Written 0 y
   written_none w y e = record { long = e; halves = subst (λ (n : ℕ). Halves (block_sum b x) (b.width * (b.rows / b.width)) (b.width * ((b.rows / b.width + 1) / 2)) n y) (sym (mul-zero b.width)) (halves_none (block_sum b x) (b.width * (b.rows / b.width)) (b.width * ((b.rows / b.width + 1) / 2)) y) }

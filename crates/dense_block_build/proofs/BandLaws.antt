@@ -2,7 +2,7 @@
 use mathlib.Core.Bool.{Bool, true, false, cond, ◌||◌, or-true, true≢false}
 use mathlib.Core.List.{List, [], ◌∷◌, ◌++◌, zip, append_assoc, append-nil}
 use mathlib.Core.Path.{◌≡◌, refl, sym, ap, ap₂, ◌∙◌, subst}
-use Prim.Native.Nat.{ℕ, zero, suc, ◌+◌, ◌-◌, ◌*◌, ◌/◌, ◌%◌, ◌≤◌, ◌<◌, min, zero-le}
+use Prim.Native.Nat.{ℕ, zero, suc, ◌+◌, ◌-◌, ◌*◌, ◌/◌, ◌%◌, ◌^◌, ◌≤◌, ◌<◌, min, zero-le}
 use native.Mathlib.Nat.{mod-lt, mul_comm, mul_assoc, mul-lt-mul_of_pos_left, mul-zero, div-add-mod, div-lt_iff_lt-mul, mul-add-mod_self_left}
 use native.Mathlib.Decide.{dec_lt, ℕ_discrete}
 use native.Mathlib.Omega.{arith}
@@ -186,6 +186,12 @@ module _ (m : Csr) (s : DenseBlockSize) (R : ℕ) (ok : csr_answer m ≡ accepte
   band_end v x k e q h = subst (λ (n : ℕ). n ≤ k) (q ∙ ap (λ (u : ℕ). min u (m.rows - u * R)) e) h
 
   module _ (v k : ℕ) (e : v ≡ width_of s) (h : k < inside (width_of s) m.rows R) where
+    band_row : v * R + k < m.rows
+    band_row = omega (arith, ap (λ (u : ℕ). u * R) e)
+
+    pub band-few : v * R + k + 1 ≤ 2 ^ 20
+    band-few = omega (arith, band_row, (valid m ok).rows_in)
+
     -- cs and vs are the columns and values of the row's entries
     module _ (cs : List ℕ) (vs : List Float) (ec : cs ≡ part m.ptr m.col (v * R + k)) (ev : vs ≡ part m.ptr m.val (v * R + k)) where
       pub band-entries : zip cs vs ≡ entries m (width_of s * R + k)

@@ -1,13 +1,14 @@
 -- The places of blocks inside the frame, counted. Assumes nothing.
-use mathlib.Core.List.{List, [], ◌∷◌, ◌++◌, map, foldl, foldl-append}
+use mathlib.Core.List.{List, [], ◌∷◌, ◌++◌, map, map-append, foldl, foldl-append}
 use mathlib.Core.Bool.{true}
 use mathlib.Core.Path.{◌≡◌, refl, sym, ap, ap₂, ◌∙◌, subst}
 use Prim.Native.Nat.{ℕ, ◌+◌, ◌-◌, ◌*◌, ◌≤◌, ◌<◌, ◌^◌, min, zero-le}
-use native.Mathlib.Nat.{mul-le-mul}
+use native.Mathlib.Nat.{mul-le-mul, zero-add}
 use native.Mathlib.Numerals.{add-one}
 use native.Mathlib.Omega.{arith}
 use lib.Dec.{ltb}
 use lib.ListN.{length, get_or, take}
+use lib.Seq.{take-suc, take_all}
 use borrow.Author.Tests.{ltb-true, lt-ltb}
 use Rattle.hybit_core.specs.Answer.{accepted}
 use Rattle.lent.specs.Lists.{joined, every}
@@ -37,7 +38,13 @@ module _ (w ncols rows : ℕ) (cs : List ℕ) where
     pub few : slots ≤ 36 * k
     pub is : slots ≡ sum_of (map (λ c. rows * inside w ncols c) (take k cs))
 
+  pub slotting_none : Slotting 0 0
+  slotting_none = record { within = zero-le; few = zero-le; is = refl }
+
   module _ (s : DenseBlockSize) (ew : w ≡ width_of s) (k slots : ℕ) (inv : Slotting k slots) where
+    pub slotting_done : length cs ≤ k → slots ≡ sum_of (map (λ c. rows * inside (width_of s) ncols c) cs)
+    slotting_done h = inv.is ∙ ap₂ (λ (u : ℕ) (l : List ℕ). sum_of (map (λ c. rows * inside u ncols c) l)) ew (take_all k cs h)
+
     -- c is the next block column
     module _ (h : k < length cs) (c : ℕ) (ec : c ≡ get_or cs k 0) where
       pub slotting_inside : every (λ c. ltb c (blocks_for (width_of s) ncols)) cs ≡ true → w * c < ncols
@@ -45,6 +52,26 @@ module _ (w ncols rows : ℕ) (cs : List ℕ) where
           let l : c < blocks_for (width_of s) ncols =
           subst (λ (x : ℕ). x < blocks_for (width_of s) ncols) (sym ec) (ltb-true (get_or cs k 0) (blocks_for (width_of s) ncols) (every-get_or (λ c. ltb c (blocks_for (width_of s) ncols)) cs k 0 e h)) in
           subst (λ (x : ℕ). x * c < ncols) (sym ew) (band_in s ncols c l)
+
+      module _ (x : ℕ) (ex : x ≡ min w (ncols - w * c)) (six : rows ≤ 6) where
+        pub slotting_small : rows * x ≤ 36
+        slotting_small =
+            let y : x ≤ 6 = omega (arith, width_six s) in
+            mul-le-mul six y
+
+        pub slotting_more : Slotting (k + 1) (slots + rows * x)
+        slotting_more =
+            let f : ℕ → ℕ = λ c. rows * inside w ncols c in
+            let y : rows * x ≡ f (get_or cs k 0) = ap (λ (i : ℕ). rows * i) (ex ∙ ap (λ (d : ℕ). min w (ncols - w * d)) ec) in
+            record {
+              within = omega arith;
+              few = omega (arith, slotting_small, inv.few);
+              is =
+                  ap₂ (λ (a b : ℕ). a + b) inv.is y ∙ sym (
+                  ap (λ (n : ℕ). sum_of (map f (take n cs))) (add-one k) ∙ ap (λ (l : List ℕ). sum_of (map f l)) (take-suc cs k 0 h) ∙ ap sum_of (map-append f (take k cs) (get_or cs k 0 ∷ []))
+                  ∙ sum-append (map f (take k cs)) (f (get_or cs k 0) ∷ []) ∙ ap (λ (b : ℕ). sum_of (map f (take k cs)) + b) (zero-add (f (get_or cs k 0)))
+                  );
+            }
 
 -- ---- all blocks: those of the first R block rows are counted
 

@@ -3,8 +3,8 @@
 use mathlib.Core.Bool.{Bool, true}
 use mathlib.Core.List.{List}
 use mathlib.Core.Path.{◌≡◌, sym, ap, ◌∙◌}
-use Prim.Native.Nat.{ℕ, ◌+◌, ◌*◌, ◌/◌, ◌≤◌, ◌<◌}
-use native.Mathlib.Nat.{le_refl}
+use Prim.Native.Nat.{ℕ, ◌+◌, ◌*◌, ◌/◌, ◌^◌, ◌≤◌, ◌<◌}
+use native.Mathlib.Nat.{le_refl, mul-le-mul_right}
 use native.Mathlib.Omega.{arith}
 use lib.Dec.{leb}
 use lib.ListN.{length, get_or, take}
@@ -18,6 +18,10 @@ use Rattle.dense_block.specs.Blocks.{as_blocks, blocks_for, width_of}
 use Rattle.dense_block.specs.Calls.{fast_blocks}
 use Rattle.dense_block.specs.declared.DenseBlockSize.{DenseBlockSize}
 use Rattle.dense_block.specs.declared.DenseBlockSize.TheVariants.{B3, B6}
+
+-- no block column is so far that its columns leave a word
+pub column_fits : (w c : ℕ) → w ≤ 6 → c < 2 ^ 32 → w * c < 2 ^ 63
+column_fits w c h l = omega (arith, mul-le-mul_right c h)
 
 -- a full block row is a block row
 pub full_row : (s : DenseBlockSize) (n : ℕ) → n / width_of s ≤ blocks_for (width_of s) n

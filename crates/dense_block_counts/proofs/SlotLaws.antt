@@ -6,7 +6,8 @@ use Prim.Native.Nat.{ℕ, ◌+◌, ◌*◌, ◌^◌, ◌≤◌, ◌<◌}
 use native.Mathlib.Nat.{le_refl}
 use native.Mathlib.Numerals.{add-one}
 use native.Mathlib.Omega.{arith}
-use lib.ListN.{length, take, drop, replicate, length-append, take-append-drop}
+use lib.ListN.{length, take, drop, replicate, length-append, length-replicate, take-append-drop}
+use lib.Seq.{length-take-le}
 use Rattle.hybit_core.specs.Answer.{accepted}
 use Rattle.hybit_core.proofs.BoolLaws.{eqb_turned}
 use Rattle.lent.specs.Lists.{joined, part, some}
@@ -38,6 +39,9 @@ summed-none m e = record { good = valid m e; few = le_refl 0; is = refl; zeros =
 -- ---- the front of an array of zeros is an empty bitmap
 
 module _ (n size : ℕ) (bits : List ℕ) (e : bits ≡ replicate size 0) (h : ceil64 n ≤ size) where
+  zeros_room : ceil64 n ≤ length bits
+  zeros_room = omega (arith, ap length e ∙ length-replicate {A = ℕ} size 0)
+
   zeros_empty : take (ceil64 n) bits ≡ mask_words (λ c. false) n
   zeros_empty = ap (take (ceil64 n)) e ∙ zeros_front 0 (ceil64 n) size h ∙ sym (empty-words n)
 
@@ -46,6 +50,12 @@ module _ (n size : ℕ) (bits : List ℕ) (e : bits ≡ replicate size 0) (h : c
 module _ (m : Csr) (row slots : ℕ) (bits : List ℕ) (inv : Summed m row slots bits) where
   words_in_lem : ceil64 m.cols ≤ 16384
   words_in_lem = omega (arith, inv.good.cols_in)
+
+  pub summed-room : ceil64 m.cols ≤ length bits
+  summed-room = zeros_room m.cols 16384 bits inv.zeros words_in_lem
+
+  pub summed-part : ceil64 m.cols ≡ length (take (ceil64 m.cols) bits)
+  summed-part = sym (length-take-le (ceil64 m.cols) bits summed-room)
 
   pub summed-empty : take (ceil64 m.cols) bits ≡ mask_words (λ c. false) m.cols
   summed-empty = zeros_empty m.cols 16384 bits inv.zeros words_in_lem

@@ -20,7 +20,7 @@ use Rattle.word.proofs.OpLaws.{members-count}
 use Rattle.word.proofs.WalkLaws.{some-members, lowest_small, walk_step}
 use Rattle.abtm.specs.Tiles.{word_in, is_dense}
 use Rattle.restricted_abtm.specs.Kept.{place_in, value_in, bits_inside}
-use Rattle.restricted_abtm.proofs.RoomLaws.{Fitting, fitting_more, fitting-past}
+use Rattle.restricted_abtm.proofs.RoomLaws.{Fitting, fitting-none, fitting_more, fitting-past}
 
 -- ---- the place of a column among a tile's values
 
@@ -65,9 +65,26 @@ module _ (vals : List Float) (bits mask offset meta from room : ℕ) (old_c : Li
     pub columns : Fitting room (map (λ i. 64 * word_in meta + i) done) from at old_c out_c
     pub values : Fitting room (map (value_in vals mask offset meta) done) from at old_v out_v
 
+  pub keeping_none : bits < 2 ^ 64 → bits_inside (length vals) bits mask offset meta ≡ true → Keeping bits from old_c old_v
+  keeping_none f i = record {
+    done = [];
+    split = refl;
+    place = omega arith;
+    fits = f;
+    inside = i;
+    columns = fitting-none room from old_c;
+    values = fitting-none room from old_v;
+  }
+
   module _ (rest at : ℕ) (out_c : List ℕ) (out_v : List Float) (inv : Keeping rest at out_c out_v) where
     pub keeping_few : at ≤ from + 64
     keeping_few = omega (arith, inv.place, ap length inv.split, length-append inv.done (members rest), members-few bits)
+
+    pub keeping_column_room : at < room → room ≤ length old_c → at < length out_c
+    keeping_column_room h l = omega (arith, inv.columns.same)
+
+    pub keeping_value_room : at < room → room ≤ length old_v → at < length out_v
+    keeping_value_room h l = omega (arith, inv.values.same)
 
     module _ (some : rest ≡ 0 → ⊥) (low : ℕ) (l : low ≡ get_or (members rest) 0 64) where
       pub keeping_low : low < 64
@@ -129,6 +146,9 @@ module _ (vals : List Float) (bits mask offset meta : ℕ) where
     pub fits : rest < 2 ^ 64
     pub inside : bits_inside (length vals) rest mask offset meta ≡ true
     pub is : every good (members bits) ≡ every good (members rest)
+
+  pub testing_none : bits < 2 ^ 64 → bits_inside (length vals) bits mask offset meta ≡ true → Testing bits
+  testing_none f i = record { fits = f; inside = i; is = refl }
 
   module _ (rest : ℕ) (inv : Testing rest) where
     module _ (some : rest ≡ 0 → ⊥) (low : ℕ) (l : low ≡ get_or (members rest) 0 64) (p : ℕ) (q : p ≡ place_in meta mask low) where

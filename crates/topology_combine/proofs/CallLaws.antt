@@ -23,7 +23,7 @@ use Rattle.lent.proofs.ListLaws.{each_is, length-each}
 use Rattle.lent.proofs.LentLaws.{Filled, filled_more, filled_length, appended_cleared, handed_used}
 use Rattle.word.specs.Word.{combined}
 use Rattle.word.specs.declared.Operation.{Operation}
-use Rattle.topology.specs.Words.{Words, member, set_bits, word_answer}
+use Rattle.topology.specs.Words.{Words, as_words, member, set_bits, word_answer}
 use Rattle.topology.specs.Calls.{Room, as_room, fits_words, as_size, used_of}
 use Rattle.topology.proofs.TopologyLaws.{total_bits, topology_checked}
 use Rattle.topology.proofs.CallLaws.{bits_whole}
@@ -32,6 +32,11 @@ use Rattle.topology_pair.proofs.PairLaws.{Pair, pair_of}
 use Rattle.topology_combine.specs.Combine.{combined_words, combine_answer}
 use Rattle.topology_combine.proofs.RowsLaws.{combined-words, combined_masks, words_most}
 use Rattle.topology_combine.proofs.FillLaws.{masks_total, pointers_long, pointer_at, Filling, filling_none}
+
+-- the totals, and the second record's frame, don't matter
+pub combined_same : (op : Operation) (a b : Words) → combined_words op a b ≡ combined_words op (as_words a.rows a.cols a.ptr a.word a.mask 0) (as_words a.rows a.cols b.ptr b.word b.mask 0)
+unfolding member
+combined_same op a b = refl
 
 -- ---- room
 
@@ -91,6 +96,10 @@ module _ (op : Operation) (a b : Words) (room : Room) (pv : Result Unit HybitErr
 -- ---- an accepted call: what the rows are written with, and what the lists hold at the end
 
 module _ (op : Operation) (a b : Words) (ptr₀ words₀ masks₀ : List ℕ) (taken : combine_answer op a b (as_room (length ptr₀) (length words₀) (length masks₀)) ≡ accepted) where
+  -- the two records as the rows are read from them
+  abbrev bare : Words
+  bare = combined_words op (as_words a.rows a.cols a.ptr a.word a.mask 0) (as_words a.rows a.cols b.ptr b.word b.mask 0)
+
   abbrev rest : Answer
   rest = demand (many (length (combined_words op a b).word)) 1 and_then demand (fits_words (combined_words op a b) (as_room (length ptr₀) (length words₀) (length masks₀))) 13
 

@@ -1,6 +1,5 @@
-use mathlib.Core.Path.{◌≡◌}
-use lib.ListN.{take}
+use Rattle.abtm_expand.proofs.JoinLaws.{Copied}
 use Rattle.abtm_expand.proofs.copy_words.Given as goal
 
 abbrev pub invariant-loop-k : goal.invariant-loop-k
-invariant-loop-k l = take l.k l.out ≡ take l.k l.from
+invariant-loop-k l = Copied l.from l.initial.out l.k l.out

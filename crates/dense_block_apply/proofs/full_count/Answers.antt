@@ -1,8 +1,8 @@
 -- `dense_block_apply::full_count` meets its contract. Assumes nothing.
 use mathlib.Core.Path.{refl}
 use native.Mathlib.Omega.{arith}
-use Rattle.dense_block_apply.proofs.BlockLaws.{ready, at_most_six, full_row, row_is}
-use Rattle.dense_block_apply.proofs.FullLaws.{fast_is}
+use Rattle.dense_block_apply.proofs.BlockLaws.{ready, at_most_six, full_row}
+use Rattle.dense_block_apply.proofs.FullLaws.{count-after, count_is}
 use Rattle.dense_block_apply.proofs.full_count.Goals as goal
 
 pub offset_bounds-matrix-row : goal.offset_bounds-matrix-row
@@ -23,10 +23,9 @@ fast_end-requires g c = let k = ready c.args.operands.matrix.size c.args.operand
     record { places = (r.order, r.inside); width = at_most_six k.width }
 
 pub overflow_sub-result : goal.overflow_sub-result
-overflow_sub-result g c = let k = ready c.args.operands.matrix.size c.args.operands.width c.args.operands.valid in
-    (fast_is (row_is k c.args.row _ _ (full_row k c.args.row c.requires) refl refl) c.requires _ c.fast_end.ensures).after
+overflow_sub-result g c = let r = full_row (ready c.args.operands.matrix.size c.args.operands.width c.args.operands.valid) c.args.row c.requires in
+    count-after _ _ _ _ _ _ _ _ refl refl r.order c.fast_end.ensures
 
 pub returns : goal.returns
-returns g c = let k = ready c.args.operands.matrix.size c.args.operands.width c.args.operands.valid in
-    let f = fast_is (row_is k c.args.row _ _ (full_row k c.args.row c.requires) refl refl) c.requires _ c.fast_end.ensures in
-    omega (arith, f.after)
+returns g c = let r = full_row (ready c.args.operands.matrix.size c.args.operands.width c.args.operands.valid) c.args.row c.requires in
+    count_is _ _ _ _ _ _ _ _ refl refl r.order c.fast_end.ensures

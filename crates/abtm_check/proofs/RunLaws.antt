@@ -1,6 +1,6 @@
 -- The rules of all tiles' values: the absent places of Dense tiles one after the other, then the count of all values that are neither
 -- NaN nor zero. Assumes nothing.
-use Rattle.std.proofs.Common.{◌≡◌, ℕ, ◌+◌, ◌-◌, ◌<◌, ◌≤◌, Bool, true, false, cond, not, ◌&&◌, eqb, leb, List, [], ◌∷◌, length, get_or, take, drop, sym, refl, ap, ◌∙◌, subst, ap₂, le_refl, arith, drop_of_length-le, take_all, eq-eqb, eqb-true}
+use Rattle.std.proofs.Common.{◌≡◌, ℕ, ◌+◌, ◌-◌, ◌<◌, ◌≤◌, Bool, true, false, cond, not, ◌&&◌, eqb, leb, List, [], ◌∷◌, length, get_or, take, drop, sym, refl, ap, ◌∙◌, subst, ap₂, le_refl, arith, length-drop, drop_of_length-le, length-take-le, take_all, eq-eqb, eqb-true}
 use mathlib.Core.Bool.{and-false}
 use mathlib.Core.List.{zip, zip_with}
 use lib.Seq.{slice, length-slice}
@@ -52,6 +52,9 @@ abbrev pub word_is : ℕ → ℕ → ℕ
 word_is mask meta = cond (is_dense meta) (absent_word mask) 0
 
 module _ (mask meta k : ℕ) (e : k ≡ kind_in meta) where
+  pub word_dense : k ≡ 2 → (w : ℕ) → w ≡ absent_word mask → w ≡ word_is mask meta
+  word_dense d w q = q ∙ ap (λ (t : Bool). cond t (absent_word mask) 0) (sym (eq-eqb (kind_in meta) 2 (sym e ∙ d)))
+
   word_other : (k ≡ 2 → ⊥) → 0 ≡ word_is mask meta
   word_other d = go (is_dense meta) refl
     where
@@ -277,6 +280,9 @@ module _ (ms os ks : List ℕ) (vals : List Float) where
 
         pub dense_inside : from + 64 ≤ length vals
         dense_inside = omega (arith, ea, next_start, long, ends)
+
+        pub dense_lent : length (take (from + 64 - from) (drop from vals)) ≡ 64
+        dense_lent = length-take-le (from + 64 - from) (drop from vals) (omega (arith, length-drop from vals, dense_inside)) ∙ omega arith
 
         here : every (λ j. plus_zero (get_or (take (from + 64 - from) (drop from vals)) j nan)) (members w) ≡ absent_here
         here =

@@ -25,6 +25,15 @@ use Rattle.dense_block_apply.specs.Product.{Width, three, six, apply_blocks_answ
 
 -- ---- numbers that fit
 
+pub fits_under : {a b : ℕ} → a < b → Fits w64 b → Fits w64 a
+fits_under h k = omega arith
+
+pub fits_within : {a b : ℕ} → a ≤ b → Fits w64 b → Fits w64 a
+fits_within h k = omega arith
+
+pub fits_forty : {a : ℕ} → a ≤ 2 ^ 40 → Fits w64 a
+fits_forty h = omega arith
+
 -- a place of a block list, one more, and its place in bytes
 pub fits_next : {a : ℕ} → a < 2 ^ 24 → Fits w64 (a + 1)
 fits_next h = omega arith
@@ -180,6 +189,9 @@ pub record Row (b : Blocks) (x : List Float) (R from to : ℕ) : Type 0 where
 module _ {b : Blocks} {x : List Float} {R from to : ℕ} (r : Row b x R from to) (p : ℕ) where
   pub row_here : p < to → p < length b.col
   row_here h = omega (arith, r.inside)
+
+  pub row_small : p ≤ to → p ≤ 2 ^ 24
+  row_small h = omega (arith, r.inside, r.ready.blocks_in)
 
 -- the block at place p, whose block column is C
 pub record Place (b : Blocks) (p C : ℕ) : Type 0 where

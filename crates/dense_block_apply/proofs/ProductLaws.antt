@@ -3,7 +3,7 @@ use mathlib.Core.Bool.{Bool, true, false}
 use mathlib.Core.List.{List, [], ◌∷◌, ◌++◌}
 use mathlib.Core.Path.{◌≡◌, refl, sym, ap, ap₂, subst, ◌∙◌}
 use Prim.Native.Nat.{ℕ, min, ◌+◌, ◌-◌, ◌*◌, ◌/◌, ◌≤◌, ◌<◌}
-use native.Mathlib.Nat.{add-zero, mul-zero, mul-div-le}
+use native.Mathlib.Nat.{le_refl, add-zero, mul-zero, mul-div-le}
 use native.Mathlib.Numerals.{add-one}
 use native.Mathlib.Omega.{arith}
 use lib.Dec.{eqb, ltb}
@@ -12,11 +12,14 @@ use lib.Seq.{take_all, take-suc-set, get_or-take, get_or-drop, get_or-append-add
 use lib.Ieee.{Float, nan}
 use borrow.Author.Tests.{eqb-true, eqb-false, ltb-true, ltb-false}
 use Rattle.std.specs.Int.{div_ceil}
+use Rattle.hybit_core.specs.Answer.{accepted}
 use Rattle.lent.specs.Lists.{joined, each}
 use Rattle.lent.proofs.ListLaws.{get_or-each, length-each, each_is}
 use Rattle.csr32.proofs.SumLaws.{Known, known_new, known_kept}
-use Rattle.dense_block.specs.Blocks.{Blocks}
-use Rattle.dense_block_apply.specs.Product.{Width, three, six, block_sum, blocks_product}
+use Rattle.dense_block.specs.Blocks.{width_of, Blocks, as_blocks}
+use Rattle.dense_block.specs.declared.DenseBlockSize.{DenseBlockSize}
+use Rattle.dense_block_apply.specs.Product.{Width, three, six, block_sum, blocks_product, apply_blocks_answer}
+use Rattle.dense_block_apply.proofs.BlockLaws.{y_long}
 
 module _ (b : Blocks) (x : List Float) where
   -- the first r rows are written
@@ -24,6 +27,16 @@ module _ (b : Blocks) (x : List Float) where
     pub long : length y ≡ b.rows
     pub inside : r ≤ b.rows
     pub is : take r y ≡ each (block_sum b x) r
+
+  -- the full block rows are written: w is the width and l their number, as the code has them
+  full_rows : (w l : ℕ) → w ≡ b.width → l ≡ b.rows / b.width → w * l ≡ b.width * (b.rows / b.width)
+  full_rows w l p q = ap₂ (λ (i j : ℕ). i * j) p q
+
+  pub full_inside : (w l : ℕ) → w ≡ b.width → l ≡ b.rows / b.width → w * l ≤ b.rows
+  full_inside w l p q = rw (full_rows w l p q) (mul-div-le b.rows b.width)
+
+  pub full_after : (w l : ℕ) → w ≡ b.width → l ≡ b.rows / b.width → b.width * (b.rows / b.width) ≤ w * l
+  full_after w l p q = rw (full_rows w l p q) (le_refl (b.width * (b.rows / b.width)))
 
   pub done_full : (y : List Float) → length y ≡ b.rows → take (b.width * (b.rows / b.width)) y ≡ each (block_sum b x) (b.width * (b.rows / b.width)) → Done (b.width * (b.rows / b.width)) y
   done_full y e h = record { long = e; inside = mul-div-le b.rows b.width; is = h }
@@ -189,6 +202,9 @@ pub record Apart (w n half row other : ℕ) : Type 0 where
   pub there : w * row + w * half < w * (n / w) → w * other ≡ w * row + w * half
 
 -- half as the code has it
+pub half_is : (m : ℕ) → div_ceil m 2 ≡ (m + 1) / 2
+half_is m = omega arith
+
 pub apart : {w : ℕ} → Width w → (n half row other : ℕ) → half ≡ div_ceil (n / w) 2 → row < half → other ≡ min (row + half) (n / w - 1) → Apart w n ((n / w + 1) / 2) row other
 apart three n half row other q h e = record { early = omega arith; late = omega arith; first = omega arith; second = omega arith; there = λ l. omega arith }
 apart six n half row other q h e = record { early = omega arith; late = omega arith; first = omega arith; second = omega arith; there = λ l. omega arith }
@@ -239,7 +255,20 @@ module _ (b : Blocks) (x : List Float) where
     pub room_still : (at n : ℕ) (z : List Float) → Wrote (block_sum b x) at n y z → (m : ℕ) → m ≤ b.rows → m ≤ length z
     room_still at n z one m h = rw one.long (room m h)
 
+    -- as the call for the rows below asks it
+    pub written_answer : (ny : ℕ) → apply_blocks_answer b x ny ≡ accepted → apply_blocks_answer b x (length y) ≡ accepted
+    written_answer ny a = ap (apply_blocks_answer b x) (inv.long ∙ sym (y_long b x ny a)) ∙ a
+
     pub written_front : (half : ℕ) → half ≡ div_ceil (b.rows / b.width) 2 → half ≤ row → take (b.width * (b.rows / b.width)) y ≡ each (block_sum b x) (b.width * (b.rows / b.width))
     written_front half q h =
         halves_done (block_sum b x) (b.width * (b.rows / b.width)) (b.width * ((b.rows / b.width + 1) / 2)) (b.width * row) y inv.halves
         (half_order w ((b.rows / b.width + 1) / 2) row (omega arith)) (half_reaches w b.rows) (rw inv.long (mul-div-le b.rows b.width))
+
+-- ---- what is said of a variant's width, said of the size that is at it
+
+module _ (s v : DenseBlockSize) (n m : ℕ) (ps cs : List ℕ) (vs x : List Float) (e : s ≡ v) where
+  pub answer_at : (ny : ℕ) → apply_blocks_answer (as_blocks n m (width_of s) ps cs vs) x ny ≡ accepted → apply_blocks_answer (as_blocks n m (width_of v) ps cs vs) x ny ≡ accepted
+  answer_at ny a = sym (ap (λ (t : DenseBlockSize). apply_blocks_answer (as_blocks n m (width_of t) ps cs vs) x ny) e) ∙ a
+
+  pub product_at_lem : (y : List Float) → y ≡ blocks_product (as_blocks n m (width_of v) ps cs vs) x → y ≡ blocks_product (as_blocks n m (width_of s) ps cs vs) x
+  product_at_lem y q = q ∙ sym (ap (λ (t : DenseBlockSize). blocks_product (as_blocks n m (width_of t) ps cs vs) x) e)

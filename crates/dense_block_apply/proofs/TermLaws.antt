@@ -1,7 +1,7 @@
 -- The terms of one row of a block, as one number and one after the other, and the numbers of a block's rows. Assumes nothing.
 use mathlib.Core.List.{List, [], ◌∷◌, ◌++◌, foldl-append}
 use mathlib.Core.Path.{◌≡◌, refl, sym, ap, ap₂, ◌∙◌}
-use Prim.Native.Nat.{ℕ, zero, suc, ◌+◌, ◌-◌, ◌<◌}
+use Prim.Native.Nat.{ℕ, zero, suc, ◌+◌, ◌-◌, ◌*◌, ◌<◌}
 use native.Mathlib.Nat.{add-zero}
 use native.Mathlib.Numerals.{add-one}
 use native.Mathlib.Omega.{arith}
@@ -42,6 +42,16 @@ module _ (vals x : List Float) (v c : ℕ) where
   abbrev first : Float
   first = mul binary64 (get_or vals v nan) (at x c)
 
+  -- three and six terms as one number, written out
+  pub three_terms : (a b d : Float) → a ≡ first → b ≡ term 1 → d ≡ term 2 → add binary64 (add binary64 a b) d ≡ as_one (products vals x v c 3)
+  unfolding products each joined term_by_term
+  three_terms a b d p q r = rw (p, q, r, add-zero v, add-zero c)
+
+  pub six_terms : (a b d e f g : Float) → a ≡ first → b ≡ term 1 → d ≡ term 2 → e ≡ term 3 → f ≡ term 4 → g ≡ term 5
+      → add binary64 (add binary64 (add binary64 (add binary64 (add binary64 a b) d) e) f) g ≡ as_one (products vals x v c 6)
+  unfolding products each joined term_by_term
+  six_terms a b d e f g p q r t u z = rw (p, q, r, t, u, z, add-zero v, add-zero c)
+
 module _ (vals x : List Float) where
   -- the first product, and those after it
   products_first : (v c n : ℕ) → products vals x v c (suc n) ≡ first vals x v c ∷ products vals x (v + 1) (c + 1) n
@@ -57,6 +67,11 @@ module _ (vals x : List Float) where
   pub full_is : {w : ℕ} → Width w → (v c : ℕ) (s : Float) → s ≡ term_by_term (first vals x v c) (products vals x (v + 1) (c + 1) (w - 1)) → s ≡ as_one (products vals x v c w)
   full_is three v c s e = e ∙ sym (ap as_one (products_first v c 2))
   full_is six v c s e = e ∙ sym (ap as_one (products_first v c 5))
+
+-- the first column of a full block by its block column, which the code has as k
+pub full_column : (w : ℕ) (vals x sums : List Float) (v k C : ℕ) → k ≡ C
+    → each (λ i. add binary64 (get_or sums i nan) (as_one (products vals x (v + w * i) (w * k) w))) w ≡ each (λ i. add binary64 (get_or sums i nan) (as_one (products vals x (v + w * i) (w * C) w))) w
+full_column w vals x sums v k C e = ap (λ (n : ℕ). each (λ i. add binary64 (get_or sums i nan) (as_one (products vals x (v + w * i) (w * n) w))) w) e
 
 -- ---- the rows of a block, made one after the other
 

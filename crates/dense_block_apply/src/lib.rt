@@ -22,7 +22,7 @@ fn full_terms<const WIDTH: usize>(values: &[f64], at: usize, x: &[f64], col: usi
     requires width { Width WIDTH }
     requires values_in { at + WIDTH ≤ length values.now }
     requires columns_in { col + WIDTH ≤ length x.now }
-    requires small { (at ≤ 2 ^ 39) × (col ≤ 2 ^ 39) }
+    requires small { (at ≤ 2 ^ 40) × (col ≤ 2 ^ 40) }
     ensures { result ≡ as_one (products values.now x.now at col WIDTH) }
 {
     add_terms(values[at] * x[col], WIDTH - 1, values, at + 1, x, col + 1)
@@ -33,7 +33,7 @@ fn full_terms<const WIDTH: usize>(values: &[f64], at: usize, x: &[f64], col: usi
 fn add_terms(start: f64, count: usize, values: &[f64], at: usize, x: &[f64], col: usize) -> f64
     requires values_in { at + count ≤ length values.now }
     requires columns_in { col + count ≤ length x.now }
-    requires small { (at ≤ 2 ^ 40) × (col ≤ 2 ^ 40) }
+    requires small { (at ≤ 2 ^ 41) × (col ≤ 2 ^ 41) }
     ensures { result ≡ term_by_term start (products values.now x.now at col count) }
 {
     let mut sum = start;

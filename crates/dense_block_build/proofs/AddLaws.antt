@@ -5,7 +5,7 @@ use mathlib.Core.Path.{◌≡◌, sym, ap, ap₂, ◌∙◌, subst}
 use Prim.Native.Nat.{ℕ, ◌+◌, ◌-◌, ◌*◌, ◌/◌, ◌%◌, ◌≤◌, ◌<◌, zero-le}
 use native.Mathlib.Omega.{arith}
 use lib.Dec.{eqb, ltb}
-use lib.ListN.{length, get_or, take, drop}
+use lib.ListN.{length, get_or, take, drop, length-take, length-drop}
 use lib.Ieee.{Float}
 use borrow.Author.Tests.{ltb-true}
 use Rattle.lent.specs.Lists.{every}
@@ -17,7 +17,7 @@ use Rattle.levels.specs.Ranks.{Ranks}
 use Rattle.csr32.specs.Csr.{Entry}
 use Rattle.dense_block_build.specs.Making.{in_block, in_row}
 use Rattle.dense_block_build.proofs.MergeLaws.{zip_split}
-use Rattle.dense_block_build.proofs.RowLaws.{row_length, row_none, row_append, run_room, run_adds}
+use Rattle.dense_block_build.proofs.RowLaws.{row_length, row_none, row_append, run_room, run_part, run_adds}
 
 module _ (w i n : ℕ) (cols : List ℕ) (vals : List Float) (bits starts : List ℕ) (old : List Float) where
   -- the first k entries are added
@@ -75,8 +75,16 @@ module _ (w i n : ℕ) (cols : List ℕ) (vals : List Float) (bits starts : List
             all : every (λ (x : Entry). eqb (x.0 / w) key) fs ≡ true
             all = every-left (λ c. eqb (c / w) key) (take (next - k) (drop k cols)) (take (next - k) (drop k vals)) run
 
+            pub adding_sides : length (take (next - k) (drop k vals)) ≡ length (take (next - k) (drop k cols))
+            adding_sides = omega (arith, length-take (next - k) (drop k vals), length-take (next - k) (drop k cols), length-drop k vals, length-drop k cols)
+
             pub adding_room : (a + b) * s + s ≤ length out
             adding_room = subst (λ (t : ℕ). (a + b) * t + t ≤ length out) (sym es) (run_room w i (below (bit_at bits) n) (a + b) key pos there is_key alone fs all (length out) long)
+
+            pub adding_part : length (take ((a + b) * s + s - (a + b) * s) (drop ((a + b) * s) out)) ≡ w * w
+            adding_part =
+                subst (λ (t : ℕ). length (take ((a + b) * t + t - (a + b) * t) (drop ((a + b) * t) out)) ≡ w * w) (sym es)
+                (run_part w i (below (bit_at bits) n) (a + b) key pos there is_key alone fs all out long)
 
             pub adding_more : (new : List Float) → new ≡ in_block w i fs (take ((a + b) * s + s - (a + b) * s) (drop ((a + b) * s) out))
                 → Adding next (take ((a + b) * s) out ++ (new ++ drop ((a + b) * s + s - (a + b) * s) (drop ((a + b) * s) out)))

@@ -1,11 +1,12 @@
 -- Rows of one length, one after the other; a row of a block copied in and out. Assumes nothing.
-use mathlib.Core.List.{List, ◌++◌}
-use mathlib.Core.Path.{◌≡◌, sym, ap, ap₂, ◌∙◌}
+use mathlib.Core.List.{List, [], ◌∷◌, ◌++◌}
+use mathlib.Core.Path.{◌≡◌, refl, sym, ap, ap₂, ◌∙◌}
 use Prim.Native.Nat.{ℕ, zero, suc, ◌+◌, ◌*◌, ◌/◌, ◌%◌, ◌≤◌, ◌<◌}
 use native.Mathlib.Nat.{mul-zero, mul-suc, mod-lt, div-add-mod, div-lt_iff_lt-mul}
+use native.Mathlib.Numerals.{add-one}
 use native.Mathlib.Omega.{arith}
-use lib.ListN.{length, get_or, take, set, length-append, get_or-append}
-use lib.Seq.{length-take-le, get_or-take, get_or-set_same, get_or-set_other}
+use lib.ListN.{length, get_or, take, set, length-set, length-append, get_or-append}
+use lib.Seq.{take-suc, take_all, length-take-le, get_or-take, get_or-set_same, get_or-set_other}
 use lib.Ieee.{Float, nan}
 use Rattle.lent.specs.Lists.{joined, each}
 use Rattle.lent.proofs.ListLaws.{get_or-joined, joined_cong, each_is}
@@ -30,6 +31,32 @@ unfolding joined
 joined-set g l n x d h =
     ap₂ (λ (s t : List _). s ++ t) (joined_cong (λ i. g (get_or (set l n x) i d)) (λ i. g (get_or l i d)) n (λ i b. ap g (get_or-set_other l n i x d (λ q. omega arith))))
     (ap g (get_or-set_same l n x d h))
+
+-- ---- a row of a block is copied in, number by number
+
+pub record LineIn (values line : List Float) (j : ℕ) : Type 0 where
+  pub room : length line ≡ 6
+  pub is : each (λ i. get_or line i nan) j ≡ take j values
+
+module _ (values : List Float) where
+  pub line_none : (line : List Float) → length line ≡ 6 → LineIn values line 0
+  unfolding each joined
+  line_none line e = record { room = e; is = refl }
+
+  module _ (line : List Float) (j : ℕ) (inv : LineIn values line j) where
+    pub line_more : (v : Float) → v ≡ get_or values j nan → j < 6 → j < length values → LineIn values (set line j v) (j + 1)
+    unfolding each
+    line_more v e h l = record {
+      room = length-set line j v ∙ inv.room;
+      is =
+          ap (each (λ i. get_or (set line j v) i nan)) (add-one j) ∙ joined-set (λ (x : Float). x ∷ []) line j v nan (omega (arith, inv.room))
+          ∙ ap₂ (λ (s : List Float) (x : Float). s ++ x ∷ []) inv.is e ∙ sym (ap (λ (k : ℕ). take k values) (add-one j) ∙ take-suc values j nan l);
+    }
+
+    pub line_done : (w : ℕ) → j ≤ w → w ≤ j → length values ≡ w → each (λ i. get_or line i nan) w ≡ values
+    line_done w a b l =
+        let q : w ≡ j = omega arith in
+        ap (each (λ i. get_or line i nan)) q ∙ inv.is ∙ take_all j values (omega arith)
 
 -- ---- a row of a block is copied in and out
 

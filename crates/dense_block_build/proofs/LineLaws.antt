@@ -7,8 +7,8 @@ use native.Mathlib.Nat.{mod-lt, div-add-mod, mul-le-mul_left, mul-suc}
 use native.Mathlib.Decide.{dec_lt}
 use native.Mathlib.Omega.{arith}
 use lib.Dec.{eqb}
-use lib.ListN.{length, get_or, take, drop, set}
-use lib.Seq.{get_or-set_same}
+use lib.ListN.{length, get_or, take, drop, set, length-drop}
+use lib.Seq.{get_or-set_same, length-take-le}
 use lib.Ieee.{Float, nan}
 use borrow.Author.Tests.{eq-eqb, ne_eqb}
 use Rattle.lent.specs.Lists.{each, only}
@@ -29,6 +29,11 @@ row_fits s w row n e h l =
     let k : n ≡ w * w = l ∙ ap (λ (k : ℕ). k * k) (sym e) in
     let b : row < w = omega arith in
     (omega (arith, k, mul-le-mul_left w b, mul-suc w row), omega (arith, k, square_small s w e))
+
+pub row_part : (w row : ℕ) (out : List Float) → w * row + w ≤ length out → length (take (w * row + w - w * row) (drop (w * row) out)) ≡ w
+row_part w row out h =
+    let k : w * row + w - w * row ≡ w = omega arith in
+    length-take-le (w * row + w - w * row) (drop (w * row) out) (omega (arith, length-drop (w * row) out)) ∙ k
 
 module _ (w row q : ℕ) (pos : 0 < w) where
   before_row : q < w * row → q / w ≡ row → ⊥

@@ -141,6 +141,11 @@ module _ (w i : ℕ) (cs : List ℕ) (p key : ℕ) (pos : 0 < w) (there : p < le
   pub run_room : (n : ℕ) → n ≡ length cs * (w * w) → to ≤ n
   run_room n e = omega (arith, mul-le-mul_right (w * w) there, add-mul p 1 (w * w), one-mul (w * w), ap (λ (k : ℕ). k * (w * w)) (add-one p))
 
+  pub run_part : (out : List Float) → length out ≡ length cs * (w * w) → length (take (to - at) (drop at out)) ≡ w * w
+  run_part out e =
+      let k : to - at ≡ w * w = omega arith in
+      length-take-le (to - at) (drop at out) (omega (arith, run_room (length out) e, length-drop at out)) ∙ k
+
   pub run_adds : (out new : List Float) → length out ≡ length cs * (w * w) → new ≡ in_block w i es (take (to - at) (drop at out)) → take at out ++ (new ++ drop (to - at) (drop at out)) ≡ in_row w i cs es out
   unfolding in_block in_row
   run_adds out new l e = each_is nan (λ q. value_at w i cs es out q (eqb (q % (w * w) / w) i)) (length cs * (w * w)) (take at out ++ (new ++ drop (to - at) (drop at out))) (put_length nan at to out new order room long ∙ l) places

@@ -3,9 +3,9 @@ use mathlib.Core.Bool.{Bool, true, false, not, ◌&&◌}
 use mathlib.Core.Path.{◌≡◌, refl, sym, ap, ◌∙◌}
 use Prim.Native.Nat.{ℕ, ◌+◌, ◌-◌, ◌^◌, ◌<◌}
 use native.Mathlib.Omega.{arith}
-use lib.Dec.{ltb}
+use lib.Dec.{leb, ltb}
 use lib.Ieee.{Float}
-use borrow.Author.Tests.{lt-ltb, ltb-true}
+use borrow.Author.Tests.{le-leb, lt-ltb, leb-true, ltb-true}
 use Rattle.std.specs.Prelude.{Option, None, Some}
 use Rattle.std.specs.Option.{is_some, SomeIff}
 use Rattle.hybit_core.specs.Answer.{gives, refuses, plain, answers, demand}
@@ -13,6 +13,13 @@ use Rattle.hybit_core.specs.Floats.{ratio_of}
 use Rattle.hybit_core.proofs.BoolLaws.{and_left, and_right, same_test, flag_on, flag_off}
 use Rattle.metadata_first.specs.declared.AbtmProductPruningStats.{AbtmProductPruningStats}
 use Rattle.metadata_first.specs.Dot.{accumulated, totals_fit, accumulate_answer}
+
+-- the same test by the room that is left
+pub room_test : (a b : ℕ) → a < 2 ^ 64 → leb b (18446744073709551615 - a) ≡ ltb (a + b) (2 ^ 64)
+room_test a b h =
+    same_test (leb b (18446744073709551615 - a)) (ltb (a + b) (2 ^ 64))
+    (λ e. lt-ltb (a + b) (2 ^ 64) (omega (arith, leb-true b (18446744073709551615 - a) e)))
+    (λ e. le-leb b (18446744073709551615 - a) (omega (arith, ltb-true (a + b) (2 ^ 64) e)))
 
 pub sum_test : (a b : ℕ) (r : Option ℕ) → SomeIff r (a + b < 2 ^ 64) (a + b) → is_some r ≡ ltb (a + b) (2 ^ 64)
 sum_test a b None h = same_test false (ltb (a + b) (2 ^ 64)) (λ e. cc) (λ e. absurd (h (ltb-true (a + b) (2 ^ 64) e)))

@@ -7,7 +7,7 @@ use native.Mathlib.Nat.{mod-eq_of_lt}
 use native.Mathlib.Decide.{dec_lt}
 use native.Mathlib.Omega.{arith}
 use lib.Dec.{ltb}
-use lib.ListN.{length, get_or, set, length-set}
+use lib.ListN.{length, get_or, set, length-set, length-map}
 use lib.Seq.{get_or-set_same, get_or-set_other}
 use Rattle.hybit_core.proofs.BoolLaws.{and_right}
 use Rattle.lent.specs.Lists.{joined}
@@ -110,6 +110,9 @@ module _ (n : ℕ) (ws ms : List ℕ) (same : length ms ≡ length ws) (rule : r
 -- ---- the words of a test keep the rule of a row, and their membership is the test
 
 module _ (p : ℕ → Bool) (n : ℕ) (ws ms : List ℕ) (row : Row p n ws ms) (few : n ≤ 2 ^ 20) where
+  pub row_sides : length ms ≡ length ws
+  row_sides = ap length row.masks ∙ length-map (words_of p n) (mask_of p n) ∙ sym (ap length row.words)
+
   -- a record of this row alone
   abbrev alone : Words
   alone = topology_of 1 n (λ r. p)

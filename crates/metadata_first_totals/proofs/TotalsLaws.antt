@@ -71,6 +71,17 @@ abbrev pub blank : AbtmRowDot
 blank = record { sum = nan; candidate_products = 0; executed_products = 0; skipped_products = 0; topology_words = 0; active_words = 0 }
 
 module _ (ds : List AbtmRowDot) where
+  -- t tells the totals of the first i reports, or their refusal
+  abbrev pub Told : ℕ → Result AbtmProductPruningStats HybitError → Type 0
+  Told i t = given t ≡ totals_over (take i ds)
+
+  pub told_more : (i : ℕ) (t r : Result AbtmProductPruningStats HybitError) → Told i t → i < length ds
+      → ((es : List AbtmRowDot) → given t ≡ totals_over es → given r ≡ totals_over (es ++ (get_or ds i blank ∷ []))) → Told (i + 1) r
+  told_more i t r k l f = f (take i ds) k ∙ ap totals_over (sym (ap (λ (j : ℕ). take j ds) (add-one i) ∙ take-suc ds i blank l))
+
+  pub told_all : (i : ℕ) (t : Result AbtmProductPruningStats HybitError) → Told i t → length ds ≤ i → given t ≡ totals_over ds
+  told_all i t k h = k ∙ ap totals_over (take_all i ds h)
+
   -- t is the totals of the first i reports
   abbrev pub Taken : ℕ → AbtmProductPruningStats → Type 0
   Taken i t = gives t ≡ totals_over (take i ds)

@@ -207,6 +207,9 @@ module _ (t : Tiles) (a : Mask) (room : CsrRoom) where
   pub records_refuse : (v : Result Unit HybitError) (e : HybitError) → told v ≡ records_answer t a → v ≡ Err e → told v ≡ restrict_tiles_answer t a room
   records_refuse v e h k = ap told k ∙ call_refused (records_answer t a) (last_answer t a room) v e h k ∙ sym whole_is
 
+  pub last_decides : (v w : Result Unit HybitError) → told v ≡ records_answer t a → v ≡ Ok tt → told w ≡ last_answer t a room → told w ≡ restrict_tiles_answer t a room
+  last_decides v w h k l = call_accepted (records_answer t a) (last_answer t a room) (told w) v h k l ∙ sym whole_is
+
   -- the records are accepted: what writing the entries answers decides
   module _ (v : Result Unit HybitError) (h : told v ≡ records_answer t a) (good : v ≡ Ok tt) (f : Result ℕ HybitError) (n : ℕ) (l : given f ≡ answers (last_answer t a room) n) where
     rest_is : restrict_tiles_answer t a room ≡ last_answer t a room

@@ -92,6 +92,9 @@ module _ (ws old : List ℕ) where
           done = rw (each_more, ← is) (appended_snoc (each (λ w. count (bit_at ws) (64 * w)) k) 0 k old out v inv.done (omega (arith, inv.same)));
         }
 
+    pub tallying_done : length ws ≤ k → Appended (each (λ w. count (bit_at ws) (64 * w)) (length ws)) 0 (length ws) old out
+    tallying_done h = let e : k ≡ length ws = omega (arith, inv.counted.inside) in rw e at inv.done
+
 -- ---- the new number of a column
 
 pub numbered : (n : ℕ) (ws old out : List ℕ) → Valid n ws → length ws ≤ length out → Appended (each (λ w. count (bit_at ws) (64 * w)) (length ws)) 0 (length ws) old out → Numbered (as_mask n ws) out

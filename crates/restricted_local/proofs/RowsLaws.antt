@@ -13,7 +13,7 @@ use Rattle.lent.specs.Lent.{Appended}
 use Rattle.lent.proofs.ListLaws.{length-joined-le, length-joined-suc}
 use Rattle.lent.proofs.LentLaws.{appended_none, appended_join, appended_snoc}
 use Rattle.word.specs.Bits.{count}
-use Rattle.word.proofs.BelowLaws.{length-below-le}
+use Rattle.word.proofs.BelowLaws.{length-below-le, selects}
 use Rattle.mask.specs.Mask.{Mask, active}
 use Rattle.csr32.specs.Csr.{Csr, Entry, entries}
 use Rattle.csr32.specs.Made.{entries_in, as_csr_room, fits_csr, csr_of}
@@ -47,6 +47,14 @@ pub record Rowing (m : Csr) (a : Mask) (op oc : List ℕ) (ov : List Float) (i a
 pub members-few : {m : Csr} {a : Mask} → Region m a → (rows : List ℕ) → rows ≡ region_members a → length rows ≤ 2 ^ 20
 unfolding region_members
 members-few {m} {a} reg rows q = omega (arith, ap length q, length-below-le (active a) a.size, reg.size_is, (valid m reg.list_accepted).rows_in)
+
+-- the i-th member is a row of the list
+pub member_row : {m : Csr} {a : Mask} → Region m a → (rows : List ℕ) (i row : ℕ) → rows ≡ region_members a → i < length rows → row ≡ get_or rows i 0 → row < m.rows
+unfolding region_members
+member_row {m} {a} reg rows i row q h e =
+    let here : get_or rows i 0 ≡ get_or (region_members a) i 0 = ap (λ (l : List ℕ). get_or l i 0) q in
+    let long : length rows ≡ length (region_members a) = ap length q in
+    omega (arith, here, (selects (active a) a.size i (omega (arith, long))).bound, reg.size_is)
 
 module _ (m : Csr) (a : Mask) (op oc : List ℕ) (ov : List Float) where
   pub rowing_none : Rowing m a op oc ov 0 0 op oc ov

@@ -67,6 +67,9 @@ module _ (a b : List ℕ) where
 lent_rest : (w : List ℕ) (k : ℕ) → take (length w - k) (drop k w) ≡ drop k w
 lent_rest w k = take_all (length w - k) (drop k w) (simp length-drop (omega arith))
 
+pub point_inside : (p : ℕ) (w : List ℕ) → p ≡ place_of 46 w → (p ≡ length w → ⊥) → p < length w
+point_inside p w e n = omega (arith, place_most 46 w)
+
 pub unsigned_alone : (w : List ℕ) (r : (Option Float)) → position (λ x. eqb x 46) w ≡ None → r ≡ alone w → r ≡ unsigned_of w
 unfolding unsigned_of
 unsigned_alone w r e k = k ∙ rw (eq-eqb (place_of 46 w) (length w) (omega (arith, place_missing 46 w e, place_most 46 w)))
@@ -78,6 +81,11 @@ unsigned_parts p w r e k =
     k ∙ rw (lent_rest w (p + 1), ne_eqb (place_of 46 w) (length w) (omega (arith, f.0, f.1)), add-one, f.0)
 
 -- ---- a word, with a minus sign or without
+
+pub real_none : (w : List ℕ) → length w ≡ 0 → None ≡ real_of w
+unfolding real_of
+real_none [] h = refl
+real_none (c ∷ w) h = absurd (omega arith)
 
 pub real_minus : (w v : List ℕ) (u r : (Option Float)) → pointwise eqb (take 1 w) (45 ∷ []) ≡ true → v ≡ drop 1 w → u ≡ unsigned_of v → r ≡ negated u → r ≡ real_of w
 unfolding real_of

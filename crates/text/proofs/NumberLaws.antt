@@ -11,7 +11,7 @@ use lib.Dec.{leb, ltb, eqb}
 use Rattle.std.proofs.lemmas.Bool.{ltb-true, ltb-false}
 use lib.ListN.{length, get_or, drop, drop_of_length-le}
 use lib.Seq.{drop-cons}
-use borrow.Author.Tests.{leb-true, le-leb, lt-leb}
+use borrow.Author.Tests.{leb-true, le-leb, lt-leb, eq-eqb, ne_eqb}
 use Rattle.hybit_core.proofs.BoolLaws.{and_left, and_right, and_both}
 use Rattle.lent.specs.Lists.{every}
 use Rattle.lent.proofs.ListLaws.{every_more, every_fails, every_done}
@@ -137,6 +137,23 @@ module _ (w : List ℕ) where
         let all : numeral w ≡ true = and_both (leb 1 (length w) && leb (length w) 15) (every digit w) (and_both (leb 1 (length w)) (leb (length w) 15) (le-leb 1 (length w) (omega arith)) (le-leb (length w) 15 l)) (sym (every_done digit w i inv.digits h)) in
         let same : tens w ≡ value = inv.rest ∙ rw drop_of_length-le in
         ap Some (sym same) ∙ whole-good w all
+
+-- ---- the place of a byte b, looked for up to place i
+
+module _ (b : ℕ) (w : List ℕ) (i : ℕ) (inv : place_of b w ≡ i + place_of b (drop i w)) where
+  place_step : i < length w → place_of b w ≡ i + cond (eqb (get_or w i 0) b) 0 (suc (place_of b (drop (i + 1) w)))
+  unfolding place_of
+  place_step h = inv ∙ rw (add-one, drop-cons w i 0)
+
+  pub place_here : i < length w → get_or w i 0 ≡ b → i ≡ place_of b w
+  place_here h e = sym (place_step h ∙ rw (eq-eqb (get_or w i 0) b e) (omega arith))
+
+  pub place_more : i < length w → (get_or w i 0 ≡ b → ⊥) → place_of b w ≡ i + 1 + place_of b (drop (i + 1) w)
+  place_more h n = place_step h ∙ rw (ne_eqb (get_or w i 0) b n) (omega arith)
+
+  pub place_none : length w ≤ i → i ≡ place_of b w
+  unfolding place_of
+  place_none h = sym (inv ∙ rw drop_of_length-le (omega arith))
 
 -- ---- the place of the first byte b, as the library's `position` finds it
 

@@ -1,6 +1,6 @@
 -- What the calls on words know once their checks have accepted, and what their answers then are. Assumes nothing but masks of 64 bits.
 use Rattle.std.specs.Prelude.{Result, Ok, Err, Option}
-use Rattle.std.proofs.Common.{◌≡◌, ℕ, ◌*◌, ◌%◌, ◌^◌, ◌<◌, ◌≤◌, Bool, true, false, ◌&&◌, eqb, ltb, List, [], ◌∷◌, length, sym, refl, ap, ◌∙◌, ap₂, arith, ltb-true, le-ltb, eq-eqb}
+use Rattle.std.proofs.Common.{◌≡◌, ℕ, ◌*◌, ◌%◌, ◌^◌, ◌<◌, ◌≤◌, Bool, true, false, ◌&&◌, eqb, ltb, leb, List, [], ◌∷◌, length, sym, refl, ap, ◌∙◌, ap₂, arith, ltb-true, le-ltb, eq-eqb, leb-true}
 use mathlib.Core.Bool.{and-true}
 use Rattle.hybit_core.specs.Answer.{accepted, refused, plain, demand, ◌and_then◌}
 use Rattle.hybit_core.specs.Table.{told, paper}
@@ -103,6 +103,14 @@ module _ (t : Words) (r : ℕ) where
 
   pub row_checked : (v : Result Unit HybitError) → told v ≡ row_answer t r → v ≡ Ok tt → RowOk
   row_checked v e a = row_ok (accepted_by (row_answer t r) v e a)
+
+  -- a rank asks for its column too
+  module _ (c : ℕ) (v : Result Unit HybitError) (e : told v ≡ (row_answer t r and_then demand (leb c t.cols) 7)) (a : v ≡ Ok tt) where
+    pub rank_checked : RowOk
+    rank_checked = row_ok (then_first (row_answer t r) (demand (leb c t.cols) 7) (accepted_by (row_answer t r and_then demand (leb c t.cols) 7) v e a))
+
+    pub rank_low : c ≤ t.cols
+    rank_low = leb-true c t.cols (demand_accepted _ _ (then_second (row_answer t r) (demand (leb c t.cols) 7) (accepted_by (row_answer t r and_then demand (leb c t.cols) 7) v e a)))
 
   module _ (k : RowOk) where
     -- ws and ms are the row's parts

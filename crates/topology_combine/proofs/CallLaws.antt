@@ -23,15 +23,29 @@ use Rattle.lent.proofs.ListLaws.{each_is, length-each}
 use Rattle.lent.proofs.LentLaws.{Filled, filled_more, filled_length, appended_cleared, handed_used}
 use Rattle.word.specs.Word.{combined}
 use Rattle.word.specs.declared.Operation.{Operation}
-use Rattle.topology.specs.Words.{Words, as_words, member, set_bits, word_answer}
+use Rattle.csr32.specs.Csr.{framed_lists}
+use Rattle.topology.specs.Words.{Words, as_words, member, row_rules, set_bits, word_answer}
 use Rattle.topology.specs.Calls.{Room, as_room, fits_words, as_size, used_of}
 use Rattle.topology.proofs.TopologyLaws.{total_bits, topology_checked}
 use Rattle.topology.proofs.CallLaws.{bits_whole}
 use Rattle.topology_pair.specs.Pair.{pair_answer, room_answer}
 use Rattle.topology_pair.proofs.PairLaws.{Pair, pair_of}
 use Rattle.topology_combine.specs.Combine.{combined_words, combine_answer}
-use Rattle.topology_combine.proofs.RowsLaws.{combined-words, combined_masks, words_most}
+use Rattle.topology_combine.proofs.RowsLaws.{TwoRecords, combined-words, combined_masks, words_most}
 use Rattle.topology_combine.proofs.FillLaws.{masks_total, pointers_long, pointer_at, Filling, filling_none}
+
+-- ---- two accepted records
+
+module _ (a b : Words) (p : Pair a b) where
+  pub pair_records : TwoRecords a.rows a.cols a.ptr a.word a.mask b.ptr b.word b.mask
+  unfolding row_rules
+  pair_records = record {
+    one = record { lists = p.one.lists; rules = p.one_rules };
+    two = record {
+      lists = ap (λ (n : ℕ). framed_lists n b.ptr (length b.word) (length b.mask)) p.same_rows ∙ p.two.lists;
+      rules = ap₂ (λ (n m : ℕ). row_rules (as_words n m b.ptr b.word b.mask 0)) p.same_rows p.same_cols ∙ p.two_rules;
+    };
+  }
 
 -- the totals, and the second record's frame, don't matter
 pub combined_same : (op : Operation) (a b : Words) → combined_words op a b ≡ combined_words op (as_words a.rows a.cols a.ptr a.word a.mask 0) (as_words a.rows a.cols b.ptr b.word b.mask 0)
@@ -79,6 +93,9 @@ module _ (op : Operation) (a b : Words) (room : Room) (pv : Result Unit HybitErr
 
     the_pair : Pair a b
     the_pair = pair_of a b (accepted_by (pair_answer a b) pv hp k)
+
+    pub pair_checked : TwoRecords a.rows a.cols a.ptr a.word a.mask b.ptr b.word b.mask
+    pair_checked = pair_records a b the_pair
 
     pub pair_few : length a.word + length b.word ≤ 2 ^ 25
     pair_few = omega (arith, the_pair.one.words_in, the_pair.two.words_in)

@@ -7,20 +7,21 @@ use native.Mathlib.Nat.{le_refl}
 use native.Mathlib.Numerals.{add-one}
 use native.Mathlib.Omega.{arith}
 use lib.Dec.{eqb, ltb}
-use lib.ListN.{length, length-map}
+use lib.ListN.{length, get_or, length-map}
 use lib.Pow.{pow_pos}
 use mir.Val.{bool_byte}
 use borrow.Author.Tests.{eq-eqb, ne_eqb, eqb-true, eqb-false}
 use Rattle.lent.specs.Lists.{joined, starts, part}
 use Rattle.lent.proofs.ListLaws.{length-joined-suc}
-use Rattle.csr32.proofs.FrameLaws.{Framed, lists_sides, lists_frame, parts-length}
+use Rattle.csr32.specs.Csr.{framed_lists}
+use Rattle.csr32.proofs.FrameLaws.{Framed, lists_sides, lists_frame, part_lengths, parts-length}
 use Rattle.word.specs.Bits.{has, count, within, mask_of, hit, ceil64, words_of}
 use Rattle.word.specs.Word.{combined}
 use Rattle.word.specs.declared.Operation.{Operation}
 use Rattle.word.proofs.BelowLaws.{below-zero, length-below-suc, none-counted, byte_le}
-use Rattle.word.proofs.BitLaws.{has-none}
+use Rattle.word.proofs.BitLaws.{has-none, every-below-at}
 use Rattle.word.proofs.OpLaws.{word_is_lem, word_cong}
-use Rattle.topology.specs.Words.{Words, topology_of, member, mask_in, row_member, row_rule}
+use Rattle.topology.specs.Words.{Words, as_words, topology_of, member, mask_in, row_member, row_rule, row_rules}
 use Rattle.topology.proofs.RowLaws.{mask_in_none, mask_in_short, mask_in_cons}
 use Rattle.topology_pair.proofs.PairLaws.{Pair}
 use Rattle.topology_combine.specs.Combine.{combined_words, combined_row}
@@ -108,6 +109,47 @@ words-bound n (v ∷ ws) (m ∷ ms) =
         ap (λ (k : ℕ). has (mask_in (v ∷ ws) (m ∷ ms) k) ((64 * w + i) % 64)) a ∙ ap (λ (k : ℕ). has k ((64 * w + i) % 64)) b ∙ ap (λ (k : ℕ). has (mask_in ws ms k) ((64 * w + i) % 64)) (sym a))
         ∙ h
 
+-- ---- records that keep the rules of 11, but for the total
+
+pub record Keeps (rows cols : ℕ) (ptr ws ms : List ℕ) : Type 0 where
+  pub lists : framed_lists rows ptr (length ws) (length ms) ≡ true
+  pub rules : row_rules (as_words rows cols ptr ws ms 0) ≡ true
+
+pub record TwoRecords (rows cols : ℕ) (ptr ws ms otr vs ns : List ℕ) : Type 0 where
+  pub one : Keeps rows cols ptr ws ms
+  pub two : Keeps rows cols otr vs ns
+
+record Kept (rows cols : ℕ) (ptr ws ms : List ℕ) : Type 0 where
+  pub sides : length ws ≡ length ms
+  pub frame : Framed rows ptr (length ms)
+  pub rule : (r : ℕ) → r < rows → row_rule cols (part ptr ws r) (part ptr ms r) ≡ true
+
+kept_of_lem : (rows cols : ℕ) (ptr ws ms : List ℕ) → Keeps rows cols ptr ws ms → Kept rows cols ptr ws ms
+unfolding row_rules
+kept_of_lem rows cols ptr ws ms k = record {
+  sides = lists_sides rows ptr (length ws) (length ms) k.lists;
+  frame = lists_frame rows ptr (length ws) (length ms) k.lists;
+  rule = λ r h. every-below-at (λ r. row_rule cols (part ptr ws r) (part ptr ms r)) (λ r. true) rows r k.rules h refl;
+}
+
+module _ (rows cols : ℕ) (ptr ws ms otr vs ns : List ℕ) (t : TwoRecords rows cols ptr ws ms otr vs ns) where
+  left : Kept rows cols ptr ws ms
+  left = kept_of_lem rows cols ptr ws ms t.one
+
+  right : Kept rows cols otr vs ns
+  right = kept_of_lem rows cols otr vs ns t.two
+
+  -- row r of either: its sides, and its rule
+  two-rows : (r : ℕ) → r < rows
+      → ((length (part ptr ms r) ≡ length (part ptr ws r)) × (row_rule cols (part ptr ws r) (part ptr ms r) ≡ true))
+      × ((length (part otr ns r) ≡ length (part otr vs r)) × (row_rule cols (part otr vs r) (part otr ns r) ≡ true))
+  two-rows r h = ((sym (part_lengths ptr ws ms r left.sides), left.rule r h), (sym (part_lengths otr vs ns r right.sides), right.rule r h))
+
+  -- as the code lends them: lists that are the rows' parts
+  module _ (r : ℕ) (ws' ms' vs' ns' : List ℕ) (ew : ws' ≡ part ptr ws r) (em : ms' ≡ part ptr ms r) (ev : vs' ≡ part otr vs r) (en : ns' ≡ part otr ns r) where
+    pub lent_rows : r < rows → ((length ms' ≡ length ws') × (row_rule cols ws' ms' ≡ true)) × ((length ns' ≡ length vs') × (row_rule cols vs' ns' ≡ true))
+    lent_rows h = rw (ew, em, ev, en) (two-rows r h)
+
 -- ---- row r of two records, as the code hands it out: lists that are its parts
 
 module _ (a b : Words) (r : ℕ) (ws ms vs ns : List ℕ) (ew : ws ≡ part a.ptr a.word r) (em : ms ≡ part a.ptr a.mask r) (ev : vs ≡ part b.ptr b.word r) (en : ns ≡ part b.ptr b.mask r) where
@@ -142,6 +184,30 @@ module _ (op : Operation) (a b : Words) where
   pub counting_done : (k r : ℕ) → r ≡ a.rows → k ≡ length (joined (words_at op a b) r) → k ≡ length (combined_words op a b).word
   counting_done k r e h = h ∙ ap (λ (i : ℕ). length (joined (words_at op a b) i)) e ∙ sym (ap length (combined-words op a b))
 
+  row_le : (r : ℕ) → length (words_at op a b r) ≤ length (part a.ptr a.word r) + length (part b.ptr b.word r)
+  unfolding member
+  row_le r =
+      omega (
+        arith,
+        words-or op (row_member (part a.ptr a.word r) (part a.ptr a.mask r)) (row_member (part b.ptr b.word r) (part b.ptr b.mask r)) a.cols,
+        words-bound a.cols (part a.ptr a.word r) (part a.ptr a.mask r),
+        words-bound a.cols (part b.ptr b.word r) (part b.ptr b.mask r),
+      )
+
+  rows-sum : (r : ℕ) → length (joined (words_at op a b) r) ≤ length (joined (part a.ptr a.word) r) + length (joined (part b.ptr b.word) r)
+  unfolding joined
+  rows-sum zero = omega arith
+  rows-sum (suc r) =
+      omega (arith, rows-sum r, row_le r, length-joined-suc (words_at op a b) r, length-joined-suc (part a.ptr a.word) r, length-joined-suc (part b.ptr b.word) r)
+
+  -- the first r rows have no more words than the pointers say, and all of them no more than both records together
+  module _ (f : Framed a.rows a.ptr (length a.word)) (g : Framed a.rows b.ptr (length b.word)) where
+    pub words_upto : (r : ℕ) → r ≤ a.rows → length (joined (words_at op a b) r) ≤ get_or a.ptr r 0 + get_or b.ptr r 0
+    words_upto r h = omega (arith, rows-sum r, parts-length a.rows a.ptr a.word f r h, parts-length a.rows b.ptr b.word g r h)
+
+    pub rows_most : length (joined (words_at op a b) a.rows) ≤ length a.word + length b.word
+    rows_most = omega (arith, words_upto a.rows (le_refl a.rows), f.last, g.last)
+
   module _ (p : Pair a b) where
     counted-le : (r : ℕ) → length (joined (words_at op a b) r) ≤ r * 2 ^ 14
     unfolding joined
@@ -152,22 +218,6 @@ module _ (op : Operation) (a b : Words) where
     pub counted_few : (r : ℕ) → r ≤ a.rows → length (joined (words_at op a b) r) ≤ 2 ^ 34
     counted_few r h = omega (arith, counted-le r, p.one.rows_in)
 
-    row_le : (r : ℕ) → length (words_at op a b r) ≤ length (part a.ptr a.word r) + length (part b.ptr b.word r)
-    unfolding member
-    row_le r =
-        omega (
-          arith,
-          words-or op (row_member (part a.ptr a.word r) (part a.ptr a.mask r)) (row_member (part b.ptr b.word r) (part b.ptr b.mask r)) a.cols,
-          words-bound a.cols (part a.ptr a.word r) (part a.ptr a.mask r),
-          words-bound a.cols (part b.ptr b.word r) (part b.ptr b.mask r),
-        )
-
-    rows-sum : (r : ℕ) → length (joined (words_at op a b) r) ≤ length (joined (part a.ptr a.word) r) + length (joined (part b.ptr b.word) r)
-    unfolding joined
-    rows-sum zero = omega arith
-    rows-sum (suc r) =
-        omega (arith, rows-sum r, row_le r, length-joined-suc (words_at op a b) r, length-joined-suc (part a.ptr a.word) r, length-joined-suc (part b.ptr b.word) r)
-
     frame_words : Framed a.rows a.ptr (length a.word)
     frame_words = rw (lists_sides a.rows a.ptr (length a.word) (length a.mask) p.one.lists) (lists_frame a.rows a.ptr (length a.word) (length a.mask) p.one.lists)
 
@@ -176,13 +226,4 @@ module _ (op : Operation) (a b : Words) where
 
     -- the combined record has no more words than both together
     pub words_most : length (combined_words op a b).word ≤ length a.word + length b.word
-    words_most =
-        omega (
-          arith,
-          ap length (combined-words op a b),
-          rows-sum a.rows,
-          parts-length a.rows a.ptr a.word frame_words a.rows (le_refl a.rows),
-          parts-length a.rows b.ptr b.word frame_others a.rows (le_refl a.rows),
-          frame_words.last,
-          frame_others.last,
-        )
+    words_most = omega (arith, ap length (combined-words op a b), rows_most frame_words frame_others)

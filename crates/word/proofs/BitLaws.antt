@@ -11,6 +11,7 @@ use lib.ListN.{length}
 use lib.Pow.{pow_pos}
 use mir.Val.{bool_byte}
 use borrow.Author.Tests.{lt-ltb, le-ltb, eq-eqb, ne_eqb, ltb-true, le-leb, leb-true}
+use Rattle.std.specs.Int.{div_ceil}
 use Rattle.word.specs.Bits.{has, from, below, within, number, members, mask_of, ceil64, words_of}
 use Rattle.lent.specs.Lists.{cons_if, first, every, some, climbs}
 use Rattle.word.proofs.BelowLaws.{byte_le, below_cong, below-zero, below_snoc, below-at-rank, below_trim, rank_lt, length-below-suc, length_block}
@@ -218,3 +219,7 @@ words-le p n =
 -- some listed number passes
 pub some_below : (t q : ℕ → Bool) (n c : ℕ) → c < n → q c ≡ true → t c ≡ true → some t (below q n) ≡ true
 some_below t q n c h l e = some-get_or t (below q n) (length (below q c)) 0 (rank_lt q c n h l) (ap t (below-at-rank q n c h l) ∙ e)
+
+-- the words that n bits take, as the library rounds up
+pub ceil64_is : (n : ℕ) → div_ceil n 64 ≡ ceil64 n
+ceil64_is n = omega arith

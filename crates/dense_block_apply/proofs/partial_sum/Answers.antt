@@ -25,7 +25,7 @@ overflow_sub-matrix g c = (last_place c.loop-p.invariant.of c.loop-p.p _ (row_he
 
 pub add_terms-sum-requires : goal.add_terms-sum-requires
 add_terms-sum-requires g c = let q = last_place c.loop-p.invariant.of c.loop-p.p _ (row_here c.loop-p.invariant.row c.loop-p.p c.loop-p-test.true) refl in
-    let rest = q.terms _ c.min-count.ensures in record { values_in = rest.0; columns_in = rest.1.0; small = rest.1.1 }
+    let rest = q.terms _ c.min-count.ensures in record { values_in = rest.0; columns_in = rest.1.0; small = (omega (arith, rest.1.1.0), omega (arith, rest.1.1.1)) }
 
 pub loop-p-preserved : goal.loop-p-preserved
 loop-p-preserved g c = sum_more _ _ _ _ _ _ _ _ c.loop-p.invariant _ _ _ _ refl refl c.min-count.ensures c.loop-p-test.true c.add_terms-sum.ensures

@@ -65,6 +65,11 @@ keeps-none m (a ∷ cs) e = absurd (omega arith)
 pub record Keeping (m : ℕ) (cs ds : List ℕ) (holds : Bool) (a i : ℕ) : Type 0 where
   pub is : columns_keep m cs ≡ (holds && rest m a (drop i ds))
 
+pub keeping_first : (m : ℕ) (cs : List ℕ) → (length cs ≡ 0 → ⊥) → Keeping m cs cs true (get_or cs 0 0) 1
+unfolding rest climbs
+keeping_first m [] h = absurd (h refl)
+keeping_first m (a ∷ cs) h = record { is = ap (λ (t : Bool). t && climbs (suc a) cs && every (λ c. ltb c m) (a ∷ cs)) (le-leb 0 a (omega arith)) }
+
 pub keeping_one : (m : ℕ) (cs : List ℕ) → (length cs ≡ 0 → ⊥) → Keeping m cs (take (length cs - 1) (drop 1 cs)) true (get_or cs 0 0) 0
 unfolding rest climbs
 keeping_one m [] h = absurd (h refl)

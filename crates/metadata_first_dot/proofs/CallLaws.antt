@@ -100,7 +100,7 @@ module _ (s : Store) (a : Mask) (x : List Float) (e : operands_answer s a x ≡ 
       count_is : length ys ≡ count (member s.words r) s.words.cols
       count_is = ap length ey ∙ known.store.row_counts r h
 
-      ready : RowReady s.words.cols us ns ys a.bits x
+      pub ready : RowReady s.words.cols us ns ys a.bits x
       ready = record {
         columns_in = words_known.cols_in;
         sides = sides_lent s.words r ok us ns eu en;
@@ -121,16 +121,18 @@ module _ (s : Store) (a : Mask) (x : List Float) (e : operands_answer s a x ≡ 
           let z : count p c < length (part s.vptr s.vals r) = omega (arith, rank_lt p c s.words.cols l b, known.store.row_counts r h) in
           ap₂ (λ (k : List Float) (q : ℕ → Bool). get_or k (count q c) nan) ey member_is ∙ sym (value_in_row s known.store r h c z)
 
-      pub row_dot_is : (d : AbtmRowDot) → d ≡ row_dot (length x) us ns ys a.bits x → d ≡ dot_on s a x r
+      pub row_dot_cols : (d : AbtmRowDot) → d ≡ row_dot s.words.cols us ns ys a.bits x → d ≡ dot_on s a x r
       unfolding dot_on
-      row_dot_is d q =
+      row_dot_cols d q =
           let p : ℕ → Bool = member s.words r in
           let b : ℕ → Bool = active a in
-          q ∙ ap (λ (k : ℕ). row_dot k us ns ys a.bits x) known.vector
-          ∙ ap (λ (k : ℕ). dot_of s.words.cols (row_member us ns) (λ c. get_or ys (count (row_member us ns) c) nan) (active (as_mask k a.bits)) (at x)) (sym known.mask_size)
+          q ∙ ap (λ (k : ℕ). dot_of s.words.cols (row_member us ns) (λ c. get_or ys (count (row_member us ns) c) nan) (active (as_mask k a.bits)) (at x)) (sym known.mask_size)
           ∙ dot_cong s.words.cols (row_member us ns) p b b (λ c. get_or ys (count (row_member us ns) c) nan) (value_at s r) (at x) (at x)
           (λ c l. ap (λ (f : ℕ → Bool). f c) member_is) (λ c l. refl)
           (λ c l e. value_is c l (ap (λ (f : ℕ → Bool). f c) (sym member_is) ∙ and_left (row_member us ns c) (b c) e)) (λ c l e. refl)
+
+      pub row_dot_is : (d : AbtmRowDot) → d ≡ row_dot (length x) us ns ys a.bits x → d ≡ dot_on s a x r
+      row_dot_is d q = row_dot_cols d (q ∙ ap (λ (k : ℕ). row_dot k us ns ys a.bits x) known.vector)
 
 -- ---- every row
 

@@ -51,13 +51,20 @@ module _ (m : Csr) (a : Mask) where
 -- ---- what an accepted call says
 
 pub record Restrictable (m : Csr) (a : Mask) (room : CsrRoom) : Type 0 where
-  pub accepted_list : csr_answer m ≡ accepted
   pub list : Valid m
   pub mask : masks.Valid a.size a.bits
   pub size : a.size ≡ m.cols
   pub pointers : suc m.rows ≤ room.ptr
   pub columns : length (joined (kept_row m a) m.rows) ≤ room.col
   pub values : length (joined (kept_row m a) m.rows) ≤ room.val
+
+pub restrict_list : (m : Csr) (a : Mask) (room : CsrRoom) → restrict_answer m a room ≡ accepted → csr_answer m ≡ accepted
+unfolding restrict_answer csr_answer
+restrict_list m a room e =
+    let rest : Answer = demand (mask_rules a) 5 and_then length_is m.cols a.size and_then demand (fits_csr (restricted m a) room) 13 in
+    let a1 : Answer = demand (few a.size && csr_sizes m) 1 in
+    let sizes : (few a.size && csr_sizes m) ≡ true = demand_accepted (few a.size && csr_sizes m) 1 (then_first a1 (csr_rules m and_then rest) e) in
+    ap₂ (λ (s : Bool) (t : Answer). demand s 1 and_then t) (and_right (few a.size) (csr_sizes m) sizes) (then_first (csr_rules m) rest (then_second a1 (csr_rules m and_then rest) e))
 
 pub restrict_facts : (m : Csr) (a : Mask) (room : CsrRoom) → restrict_answer m a room ≡ accepted → Restrictable m a room
 unfolding restrict_answer restricted fits_csr csr_answer
@@ -74,10 +81,8 @@ restrict_facts m a room e =
     let c : Bool = leb (length (restricted m a).col) room.col in
     let v : Bool = leb (length (restricted m a).val) room.val in
     let fits : (p && c && v) ≡ true = demand_accepted (fits_csr (restricted m a) room) 13 (then_second a6 a13 e6) in
-    let whole : csr_answer m ≡ accepted = ap₂ (λ (s : Bool) (t : Answer). demand s 1 and_then t) (and_right (few a.size) (csr_sizes m) sizes) (then_first (csr_rules m) (a5 and_then a6 and_then a13) e2) in
     record {
-      accepted_list = whole;
-      list = valid m whole;
+      list = valid m (restrict_list m a room e);
       mask = masks.rules_valid a.size a.bits (leb-true a.size (2 ^ 20) (and_left (few a.size) (csr_sizes m) sizes)) (demand_accepted (mask_rules a) 5 (then_first a5 (a6 and_then a13) e5));
       size = length_accepted m.cols a.size (then_first a6 a13 e6);
       pointers = omega (arith, made_pointers m.rows m.cols (kept_row m a), leb-true (length (restricted m a).ptr) room.ptr (and_left p c (and_left (p && c) v fits)));

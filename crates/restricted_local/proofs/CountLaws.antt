@@ -3,7 +3,7 @@
 use mathlib.Core.Bool.{Bool, true, false, not, ◌&&◌}
 use mathlib.Core.List.{List, [], ◌∷◌, ◌++◌, append-nil, append_assoc, map}
 use mathlib.Core.Path.{◌≡◌, refl, sym, ap, ◌∙◌}
-use Prim.Native.Nat.{ℕ, zero, suc, ◌+◌, ◌*◌, ◌^◌, ◌≤◌, ◌<◌}
+use Prim.Native.Nat.{ℕ, zero, suc, ◌+◌, ◌-◌, ◌*◌, ◌^◌, ◌≤◌, ◌<◌}
 use native.Mathlib.Omega.{arith}
 use lib.Dec.{leb, ltb}
 use lib.ListN.{length, get_or, length-append, length-map}
@@ -77,6 +77,15 @@ module _ {m : Csr} (v : Valid m) (r : ℕ) (cs : List ℕ) (ec : cs ≡ part m.p
 
   pub row_few : r < m.rows → length cs ≤ 2 ^ 24
   row_few h = omega (arith, ap length ec, part_length m.ptr m.col r (row_of v h), (row_of v h).inside, v.entries_in)
+
+-- a row: from s, its pointer, up to e, the next one
+module _ {m : Csr} (v : Valid m) (r s e : ℕ) (h : r < m.rows) (es : s ≡ get_or m.ptr r 0) (ee : e ≡ get_or m.ptr (r + 1) 0) where
+  pub row_between : length (entries m r) ≡ e - s
+  unfolding entries
+  row_between = length-zip (part m.ptr m.col r) (part m.ptr m.val r) (sym (row_sides v r)) ∙ omega (arith, part_length m.ptr m.col r (row_of v h))
+
+  pub between_few : e - s ≤ 2 ^ 24
+  between_few = omega (arith, (row_of v h).inside, v.entries_in)
 
 -- as the code has it of a region
 module _ {m : Csr} {a : Mask} (reg : Region m a) where

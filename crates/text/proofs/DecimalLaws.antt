@@ -9,7 +9,7 @@ use native.Mathlib.Numerals.{add-one}
 use native.Mathlib.Omega.{arith}
 use lib.Ieee.{Float}
 use lib.Pow.{pow-add}
-use lib.ListN.{length, take, drop, length-drop}
+use lib.ListN.{length, get_or, take, drop, length-drop}
 use lib.Seq.{take_all}
 use borrow.Author.Tests.{le-leb, lt-leb, eq-eqb, ne_eqb}
 use Rattle.hybit_core.specs.Floats.{ratio_of}
@@ -70,6 +70,16 @@ lent_rest w k = take_all (length w - k) (drop k w) (simp length-drop (omega arit
 pub point_inside : (p : ℕ) (w : List ℕ) → p ≡ place_of 46 w → (p ≡ length w → ⊥) → p < length w
 point_inside p w e n = omega (arith, place_most 46 w)
 
+-- by the place of the point
+pub unsigned_alone_at : (p : ℕ) (w : List ℕ) (r : Option Float) → p ≡ place_of 46 w → p ≡ length w → r ≡ alone w → r ≡ unsigned_of w
+unfolding unsigned_of
+unsigned_alone_at p w r e h k = k ∙ rw (eq-eqb (place_of 46 w) (length w) (sym e ∙ h))
+
+pub unsigned_parts_at : (p : ℕ) (w : List ℕ) (r : Option Float) → p ≡ place_of 46 w → (p ≡ length w → ⊥) → r ≡ parts (take p w) (take (length w - (p + 1)) (drop (p + 1) w)) → r ≡ unsigned_of w
+unfolding unsigned_of
+unsigned_parts_at p w r e n k = k ∙ rw (lent_rest w (p + 1), ne_eqb (place_of 46 w) (length w) (λ d. n (e ∙ d)), add-one, e)
+
+-- by what the library's `position` finds
 pub unsigned_alone : (w : List ℕ) (r : (Option Float)) → position (λ x. eqb x 46) w ≡ None → r ≡ alone w → r ≡ unsigned_of w
 unfolding unsigned_of
 unsigned_alone w r e k = k ∙ rw (eq-eqb (place_of 46 w) (length w) (omega (arith, place_missing 46 w e, place_most 46 w)))
@@ -87,6 +97,18 @@ unfolding real_of
 real_none [] h = refl
 real_none (c ∷ w) h = absurd (omega arith)
 
+-- by the first byte
+pub real_minus_at : (w : List ℕ) (u r : Option Float) → (length w ≡ 0 → ⊥) → get_or w 0 0 ≡ 45 → u ≡ unsigned_of (take (length w - 1) (drop 1 w)) → r ≡ negated u → r ≡ real_of w
+unfolding real_of
+real_minus_at [] u r n h e q = absurd (n refl)
+real_minus_at (c ∷ w) u r n h e q = q ∙ rw (eq-eqb c 45 h, e, lent_rest (c ∷ w) 1)
+
+pub real_plain_at : (w : List ℕ) (r : Option Float) → (length w ≡ 0 → ⊥) → (get_or w 0 0 ≡ 45 → ⊥) → r ≡ unsigned_of w → r ≡ real_of w
+unfolding real_of
+real_plain_at [] r n h e = absurd (n refl)
+real_plain_at (c ∷ w) r n h e = e ∙ rw (ne_eqb c 45 h)
+
+-- by the library's test of the front
 pub real_minus : (w v : List ℕ) (u r : (Option Float)) → pointwise eqb (take 1 w) (45 ∷ []) ≡ true → v ≡ drop 1 w → u ≡ unsigned_of v → r ≡ negated u → r ≡ real_of w
 unfolding real_of
 real_minus [] v u r n m e q = absurd (false≢true n)

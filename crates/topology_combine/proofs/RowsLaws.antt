@@ -139,6 +139,12 @@ module _ (rows cols : ℕ) (ptr ws ms otr vs ns : List ℕ) (t : TwoRecords rows
   right : Kept rows cols otr vs ns
   right = kept_of_lem rows cols otr vs ns t.two
 
+  left_frame : Framed rows ptr (length ws)
+  left_frame = rw left.sides left.frame
+
+  right_frame : Framed rows otr (length vs)
+  right_frame = rw right.sides right.frame
+
   -- row r of either: its sides, and its rule
   two-rows : (r : ℕ) → r < rows
       → ((length (part ptr ms r) ≡ length (part ptr ws r)) × (row_rule cols (part ptr ws r) (part ptr ms r) ≡ true))

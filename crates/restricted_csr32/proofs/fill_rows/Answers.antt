@@ -1,11 +1,11 @@
 -- `restricted_csr32::fill_rows` meets its contract. Assumes nothing.
 use mathlib.Core.Path.{refl}
 use native.Mathlib.Omega.{arith}
-use Rattle.restricted_csr32.proofs.FillLaws.{restrict_facts, filling_none, filling_column, filling_value, filling_more, done_count, done_pointers, done_columns, done_values}
+use Rattle.restricted_csr32.proofs.FillLaws.{restrict_list, restrict_facts, filling_none, filling_column, filling_value, filling_more, done_count, done_pointers, done_columns, done_values}
 use Rattle.restricted_csr32.proofs.fill_rows.Goals as goal
 
 pub invariant_of-checked : goal.invariant_of-checked
-invariant_of-checked c = record { valid = (restrict_facts _ _ _ c.requires).accepted_list }
+invariant_of-checked c = record { valid = restrict_list _ _ _ c.requires }
 
 pub loop-row-init : goal.loop-row-init
 loop-row-init c = filling_none _ _ _ _

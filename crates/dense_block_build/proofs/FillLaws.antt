@@ -15,6 +15,7 @@ use Rattle.hybit_core.specs.Floats.{zero64}
 use Rattle.lent.specs.Lists.{joined, starts, part, spread}
 use Rattle.lent.proofs.ListLaws.{length-joined-le, length-joined-suc, get_or-starts, length-starts, part-joined, part_lent, part_mid, zeros_front}
 use Rattle.word.specs.Bits.{below, ceil64}
+use Rattle.word.proofs.BitLaws.{ceil64_is}
 use Rattle.mask.specs.Mask.{mask_words}
 use Rattle.mask.specs.Calls.{listed}
 use Rattle.mask.proofs.CallLaws.{empty-words}
@@ -213,7 +214,7 @@ module _ (s : DenseBlockSize) (n x : ℕ) (few : n ≤ 2 ^ 20) (e : x ≡ blocks
 
     pub local_bits : take words (replicate 5462 0) ≡ mask_words (λ c. false) (blocks_for (width_of s) n)
     local_bits =
-        let up : words ≡ (x + 63) / 64 = omega arith in
+        let up : words ≡ (x + 63) / 64 = ew ∙ ceil64_is x in
         zeros_front 0 words 5462 local_words ∙ ap (λ (k : ℕ). replicate k 0) up ∙ ap (λ (k : ℕ). replicate ((k + 63) / 64) 0) e ∙ sym (empty-words (blocks_for (width_of s) n))
 
   pub local_starts : ceil64 (blocks_for (width_of s) n) ≤ length {A = ℕ} (replicate 5462 0)

@@ -77,8 +77,7 @@ keeping_one m (a ∷ cs) h =
     let all : take (suc (length cs) - 1) cs ≡ cs = take_all (suc (length cs) - 1) cs (omega arith) in
     record {
       is =
-          ap (λ (t : Bool). t && climbs (suc a) cs && every (λ c. ltb c m) (a ∷ cs)) (le-leb 0 a (omega arith))
-          ∙ ap (λ (ds : List ℕ). rest m a ds) (sym all);
+          (keeping_first m (a ∷ cs) h).is ∙ ap (λ (ds : List ℕ). rest m a ds) (sym all);
     }
 
 module _ (m : ℕ) (cs ds : List ℕ) (holds : Bool) (a i : ℕ) (inv : Keeping m cs ds holds a i) where

@@ -92,13 +92,15 @@ module _ (ds : List AbtmRowDot) where
     next : given r ≡ totals_over (take (i + 1) ds)
     unfolding totals_over accumulate_answer
     next =
+        told_more i (Ok t) r k l
+        (λ es h.
         q
-        ∙ ap₂ (λ (s k : AbtmProductPruningStats). answers (demand (totals_fit (accumulated s k)) 1) (accumulated s k)) (go (totals_fit (sums_of (take i ds))) k) p
-        ∙ sym (over_more (take i ds) (get_or ds i blank)) ∙ ap totals_over (sym (ap (λ (j : ℕ). take j ds) (add-one i) ∙ take-suc ds i blank l))
+        ∙ ap₂ (λ (s k : AbtmProductPruningStats). answers (demand (totals_fit (accumulated s k)) 1) (accumulated s k)) (go es (totals_fit (sums_of es)) h) p
+        ∙ sym (over_more es (get_or ds i blank)))
       where
-        go : (b : Bool) → gives t ≡ answers (demand b 1) (sums_of (take i ds)) → t ≡ sums_of (take i ds)
-        go true g = cc
-        go false g = cc
+        go : (es : List AbtmRowDot) (b : Bool) → gives t ≡ answers (demand b 1) (sums_of es) → t ≡ sums_of es
+        go es true g = cc
+        go es false g = cc
 
     pub taken_more : (u : AbtmProductPruningStats) → r ≡ Ok u → Taken (i + 1) u
     taken_more u e = sym (ap given e) ∙ next
@@ -107,4 +109,4 @@ module _ (ds : List AbtmRowDot) where
     taken_fails x e = refusal_stays (take (i + 1) ds) (drop (i + 1) ds) x (sym (ap given e) ∙ next) ∙ ap totals_over (take-append-drop (i + 1) ds)
 
   pub taken_all : (i : ℕ) (t : AbtmProductPruningStats) → Taken i t → length ds ≤ i → gives t ≡ totals_over ds
-  taken_all i t k l = k ∙ ap totals_over (take_all i ds l)
+  taken_all i t k l = told_all i (Ok t) k l

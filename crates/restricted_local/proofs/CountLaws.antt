@@ -81,8 +81,7 @@ module _ {m : Csr} (v : Valid m) (r : ℕ) (cs : List ℕ) (ec : cs ≡ part m.p
 -- a row: from s, its pointer, up to e, the next one
 module _ {m : Csr} (v : Valid m) (r s e : ℕ) (h : r < m.rows) (es : s ≡ get_or m.ptr r 0) (ee : e ≡ get_or m.ptr (r + 1) 0) where
   pub row_between : length (entries m r) ≡ e - s
-  unfolding entries
-  row_between = length-zip (part m.ptr m.col r) (part m.ptr m.val r) (sym (row_sides v r)) ∙ omega (arith, part_length m.ptr m.col r (row_of v h))
+  row_between = row_length v r (part m.ptr m.col r) refl ∙ omega (arith, part_length m.ptr m.col r (row_of v h))
 
   pub between_few : e - s ≤ 2 ^ 24
   between_few = omega (arith, (row_of v h).inside, v.entries_in)

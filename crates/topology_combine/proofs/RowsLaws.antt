@@ -132,6 +132,10 @@ kept_of_lem rows cols ptr ws ms k = record {
   rule = λ r h. every-below-at (λ r. row_rule cols (part ptr ws r) (part ptr ms r)) (λ r. true) rows r k.rules h refl;
 }
 
+-- the pointers frame the words as they do the masks
+words_frame : (rows : ℕ) (ptr ws ms : List ℕ) → framed_lists rows ptr (length ws) (length ms) ≡ true → Framed rows ptr (length ws)
+words_frame rows ptr ws ms e = rw (lists_sides rows ptr (length ws) (length ms) e) (lists_frame rows ptr (length ws) (length ms) e)
+
 module _ (rows cols : ℕ) (ptr ws ms otr vs ns : List ℕ) (t : TwoRecords rows cols ptr ws ms otr vs ns) where
   left : Kept rows cols ptr ws ms
   left = kept_of_lem rows cols ptr ws ms t.one
@@ -140,10 +144,10 @@ module _ (rows cols : ℕ) (ptr ws ms otr vs ns : List ℕ) (t : TwoRecords rows
   right = kept_of_lem rows cols otr vs ns t.two
 
   left_frame : Framed rows ptr (length ws)
-  left_frame = rw left.sides left.frame
+  left_frame = words_frame rows ptr ws ms t.one.lists
 
   right_frame : Framed rows otr (length vs)
-  right_frame = rw right.sides right.frame
+  right_frame = words_frame rows otr vs ns t.two.lists
 
   -- row r of either: its sides, and its rule
   two-rows : (r : ℕ) → r < rows
@@ -225,10 +229,10 @@ module _ (op : Operation) (a b : Words) where
     counted_few r h = omega (arith, counted-le r, p.one.rows_in)
 
     frame_words : Framed a.rows a.ptr (length a.word)
-    frame_words = rw (lists_sides a.rows a.ptr (length a.word) (length a.mask) p.one.lists) (lists_frame a.rows a.ptr (length a.word) (length a.mask) p.one.lists)
+    frame_words = words_frame a.rows a.ptr a.word a.mask p.one.lists
 
     frame_others : Framed a.rows b.ptr (length b.word)
-    frame_others = rw (p.same_rows, lists_sides b.rows b.ptr (length b.word) (length b.mask) p.two.lists) (lists_frame b.rows b.ptr (length b.word) (length b.mask) p.two.lists)
+    frame_others = rw p.same_rows (words_frame b.rows b.ptr b.word b.mask p.two.lists)
 
     -- the combined record has no more words than both together
     pub words_most : length (combined_words op a b).word ≤ length a.word + length b.word
